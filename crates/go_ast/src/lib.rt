@@ -1,0 +1,11 @@
+//! Tokens and trees, and the definitions that relate them to bytes: which cuts bytes have (`Cut`), and which tokens
+//! a tree is written with (`Trees`).
+#![tactic(auto)]
+
+mod token;
+mod tokens;
+mod tree;
+
+pub use token::{Kind, Token};
+pub use tokens::Tokens;
+pub use tree::{Block, Call, FileTree};
