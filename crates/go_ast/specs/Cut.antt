@@ -1,6 +1,6 @@
 -- How bytes are cut into tokens. Go specification, "Lexical elements". For now the pieces are those of programs that
 -- print literals: white space, four words, short decimal numerals, strings without a backslash, and six marks.
-use Rattle.std.specs.Prelude.{◌≡◌, ℕ, ◌+◌, List, [], ◌∷◌, ◌++◌, length, Bool, true, false, ◌==◌, ◌&&◌, ◌||◌, not, nat_le, if◌then◌else◌, codes, bytes_eq, flat_map}
+use Rattle.std.specs.Prelude.{◌≡◌, ℕ, ◌+◌, ◌≤◌, List, [], ◌∷◌, ◌++◌, length, Bool, true, false, ◌==◌, ◌&&◌, ◌||◌, not, nat_le, if◌then◌else◌, codes, bytes_eq, flat_map}
 use Rattle.std.specs.List.{list_all}
 use Rattle.go_ast.specs.declared.token.Kind.{Kind}
 use Rattle.go_ast.specs.declared.token.Kind.TheVariants as kinds
@@ -118,3 +118,9 @@ pub record IsCut (bytes : List ℕ) (tokens : List Token) : Type 0 where
   pub whole : bytes ≡ flat_map spelled pieces
   pub each : ArePieces pieces
   pub tokens_are : tokens ≡ tokens_from 0 0 false pieces
+
+-- a token lies in its file, and a string has its two quotes
+pub record IsPlacedIn (bytes : List ℕ) (token : Token) : Type 0 where
+  pub ordered : token.start ≤ token.end
+  pub inside : token.end ≤ length bytes
+  pub quotes : token.kind ≡ kinds.Text → token.start + 2 ≤ token.end
