@@ -1,10 +1,10 @@
--- What a piece adds to the tokens, and the line behind it. `proofs/Finished.antt` ties both to the tokens of pieces.
+-- What a piece adds to the tokens, and the line behind it. `proofs/Reached.antt` ties both to the tokens of pieces.
 use Rattle.std.specs.Prelude.{ℕ, ◌+◌, List, [], ◌∷◌, false}
 use Rattle.go_ast.specs.declared.token.Token.{Token}
 use Rattle.go_ast.specs.Cut.{inserted, ends_line}
 use Rattle.go_scan.specs.declared.front.Front.{Front}
 use Rattle.go_scan.specs.declared.front.Front.TheVariants as fronts
-use Rattle.go_scan.specs.declared.scan.Line.{Line}
+use Rattle.go_scan.specs.declared.scanner.Line.{Line}
 
 abbrev pub length_of : Front → ℕ
 length_of fronts.Blank = 1

@@ -1,8 +1,8 @@
 //! What a text begins with: white space, a word, a numeral, a string or a mark. Go specification, "Lexical elements".
 
 ghost use Rattle.std.specs.Prelude.{◌≡◌, option_map};
-ghost use Rattle.std.specs.List.{prefix_len};
-ghost use Rattle.go_ast.specs.Cut.{is_digit, is_plain, is_numeral, kind_of};
+ghost use Rattle.std.specs.List.{list_all, prefix_len};
+ghost use Rattle.go_ast.specs.Cut.{begins_with_zero, is_digit, is_plain, is_numeral, kind_of};
 ghost use Rattle.go_scan.specs.Front.{is_run_byte, first_piece, view_piece, mark_or_none, word_or_none, quoted_piece, run_piece, piece_of_run};
 
 use go_ast::Kind;
@@ -95,11 +95,14 @@ fn run_kind(text: &[u8]) -> Option<Kind>
 fn word_kind(text: &[u8]) -> Option<Kind>
     ensures { result ≡ word_or_none text.now }
 {
-    match text {
-        b"package" => Some(Kind::PackageWord),
-        b"func" => Some(Kind::FuncWord),
-        b"main" | b"println" => Some(Kind::Name),
-        _ => None,
+    if text == b"package".as_slice() {
+        Some(Kind::PackageWord)
+    } else if text == b"func".as_slice() {
+        Some(Kind::FuncWord)
+    } else if text == b"main".as_slice() || text == b"println".as_slice() {
+        Some(Kind::Name)
+    } else {
+        None
     }
 }
 
@@ -108,10 +111,26 @@ fn word_kind(text: &[u8]) -> Option<Kind>
 fn is_numeral(text: &[u8]) -> bool
     ensures { result ≡ is_numeral text.now }
 {
+    let length = text.len();
+    let zero = begins_with_zero(text);
+    are_digits(text) && 1 <= length && length <= 18 && (!zero || length == 1)
+}
+
+/// Whether all bytes are digits.
+fn are_digits(text: &[u8]) -> bool
+    ensures { result ≡ list_all is_digit text.now }
+{
     text.iter().all(|byte| is_digit(*byte))
-        && !text.is_empty()
-        && text.len() <= 18
-        && (text.first() != Some(&b'0') || text.len() == 1)
+}
+
+/// Whether the first digit is 0.
+fn begins_with_zero(text: &[u8]) -> bool
+    ensures { result ≡ begins_with_zero text.now }
+{
+    match text.first() {
+        Some(first) => *first == b'0',
+        None => false,
+    }
 }
 
 /// How many letters and digits a text begins with.

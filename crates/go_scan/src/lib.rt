@@ -4,10 +4,10 @@
 
 mod error;
 mod front;
-mod scan;
+mod scanner;
 
 pub use error::ScanError;
-pub use scan::{one_cut, scan};
+pub use scanner::{one_cut, scan};
 
 #[cfg(test)]
 mod tests;

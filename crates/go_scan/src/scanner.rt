@@ -5,7 +5,7 @@ ghost use Rattle.std.specs.List.{AllByRecursion};
 ghost use Rattle.go_ast.specs.declared.token.Token.{Token};
 ghost use Rattle.go_ast.specs.Cut.{IsCut, IsPlacedIn, inserted};
 ghost use Rattle.go_ast.specs.Cut.{ends_line as is_line_end};
-ghost use Rattle.go_scan.specs.Refused.{Refuses};
+ghost use Rattle.go_scan.specs.Refused.{IsCutOrNone, Refuses};
 ghost use Rattle.go_scan.specs.Line.{added, line_after, length_of};
 
 use crate::error::ScanError;
@@ -31,6 +31,26 @@ pub fn scan(alloc: Global, file: u32, bytes: &[u8]) -> Result<Tokens, ScanError>
     ensures places { IfOk result (λ tokens. AllByRecursion (IsPlacedIn bytes.now) tokens) }
     ensures refused { Refuses bytes.now result }
 {
+    match cut(alloc, bytes) {
+        Ok(Some(tokens)) => Ok(tokens),
+        Ok(None) => Err(ScanError::Refused {
+            offset: 0,
+            rule: Rule::NotBuiltYet,
+        }),
+        Err(NoMemory) => Err(ScanError::OutOfMemory),
+    }
+}
+
+/// Bytes have at most one cut.
+pub fn one_cut()
+    ensures { (bytes : List ℕ) (a b : List Token) → IsCut bytes a → IsCut bytes b → a ≡ b }
+{}
+
+/// The cut of bytes. None where they have none.
+fn cut(alloc: Global, bytes: &[u8]) -> Result<Option<Tokens>, NoMemory>
+    requires { length bytes.now ≤ 4194304 }
+    ensures { IfOk result (λ found. IsCutOrNone bytes.now found) }
+{
     let mut tokens = Tokens::new(alloc);
     let mut line = Line {
         last: 0,
@@ -39,23 +59,17 @@ pub fn scan(alloc: Global, file: u32, bytes: &[u8]) -> Result<Tokens, ScanError>
     let mut rest = bytes;
     let mut at = 0;
     while !rest.is_empty() {
-        let front = front_of(rest).ok_or(ScanError::Refused {
-            offset: 0,
-            rule: Rule::NotBuiltYet,
-        })?;
-        line = take(&mut tokens, at, line, front).map_err(|_| ScanError::OutOfMemory)?;
+        let Some(front) = front_of(rest) else {
+            return Ok(None);
+        };
+        line = take(&mut tokens, at, line, front)?;
         let length = length_of(front);
-        rest = &rest[length..];
+        rest = rest.split_at(length).1;
         at += length as u32;
     }
-    end_line(&mut tokens, line).map_err(|_| ScanError::OutOfMemory)?;
-    Ok(tokens)
+    end_line(&mut tokens, line)?;
+    Ok(Some(tokens))
 }
-
-/// Bytes have at most one cut.
-pub fn one_cut()
-    ensures { (bytes : List ℕ) (a b : List Token) → IsCut bytes a → IsCut bytes b → a ≡ b }
-{}
 
 /// Adds what begins at byte `at`, and gives the line behind it.
 fn take(tokens: &mut Tokens, at: u32, line: Line, front: Front) -> Result<Line, NoMemory>

@@ -1,0 +1,7 @@
+-- A cut's tokens lie in their file.
+use Rattle.go_scan.proofs.Placed.{cut_placed}
+use Rattle.go_scan.proofs.scanner.scan.Goals as goal
+
+pub returns-in-Ok-Some-clause-places : goal.returns-in-Ok-Some-clause-places
+returns-in-Ok-Some-clause-places c =
+    cut_placed c.args.bytes.now c.in-Ok-Some.tokens (rw c.in-Ok-Some.field-0-is at c.in-Ok-Some.ensures)
