@@ -1,5 +1,5 @@
 -- Reading from left to right: what each function of the parser gives.
-use Rattle.std.specs.Prelude.{◌≡◌, ℕ, zero, suc, List, [], ◌∷◌, ◌++◌, length, map, Option, Some, None, Bool, true, false, ◌||◌, if◌then◌else◌, Result, Ok, Err}
+use Rattle.std.specs.Prelude.{◌≡◌, ℕ, zero, suc, List, [], ◌∷◌, ◌++◌, length, map, Option, Some, None, Bool, false, ◌||◌, if◌then◌else◌, Result, Ok, Err}
 use Rattle.go_ast.specs.Trees.{CallTree, File, view_call}
 use Rattle.go_ast.specs.contracts.token.Kind.{the_type}
 use Rattle.go_ast.specs.declared.token.Kind.{Kind}

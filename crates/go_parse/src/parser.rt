@@ -12,6 +12,7 @@ use go_ast::{Block, Call, FileTree, Kind, Token, Tokens};
 use std::alloc::Global;
 
 /// Literals up to a closing parenthesis, whether a comma stands behind the last, and the tokens behind the parenthesis.
+#[tactic(auto, using(crate::proofs::Loops::lists))]
 fn literals(alloc: Global, tokens: &[Token]) -> Result<(Vec<Token>, bool, &[Token]), Stop>
     ensures { Gives (λ x. ((x.0.items, x.1), words x.2.now)) result (literals_in (words tokens.now)) }
 {
@@ -53,6 +54,7 @@ fn call(alloc: Global, tokens: &[Token]) -> Result<(Call, &[Token]), Stop>
 }
 
 /// Statements up to a closing brace, whether a semicolon stands behind the last, and the tokens behind the brace.
+#[tactic(auto, using(crate::proofs::Loops::lists))]
 fn statements(alloc: Global, tokens: &[Token]) -> Result<(Vec<Call>, bool, &[Token]), Stop>
     ensures { Gives (λ x. ((map view_call x.0.items, x.1), words x.2.now)) result (statements_in (words tokens.now)) }
 {
@@ -131,6 +133,7 @@ fn whole(alloc: Global, tokens: &[Token]) -> Result<FileTree, Stop>
 
 /// The tree of a file's tokens. Go specification, "Source file organization". For now `Unexpected` always has the
 /// index 0, and nothing is nested too deep.
+#[tactic(auto, using(crate::proofs::Files::no_tree))]
 pub fn parse(alloc: Global, tokens: &Tokens) -> Result<FileTree, ParseError>
     // The tokens are those of this tree.
     ensures sound { IfOk result (λ file. IsTreeOf tokens.now (view_file file)) }

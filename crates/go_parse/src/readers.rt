@@ -32,8 +32,14 @@ pub(crate) fn skip(tokens: &[Token], kind: Kind) -> Result<&[Token], Stop>
     ensures { Gives (λ x. words x.now) result (expect kind (words tokens.now)) }
 {
     match tokens {
-        [first, rest @ ..] if written(first.kind) == kind => Ok(rest),
-        _ => Err(Stop::Unexpected),
+        [] => Err(Stop::Unexpected),
+        [first, rest @ ..] => {
+            if written(first.kind) == kind {
+                Ok(rest)
+            } else {
+                Err(Stop::Unexpected)
+            }
+        }
     }
 }
 
