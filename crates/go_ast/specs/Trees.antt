@@ -1,5 +1,5 @@
 -- The trees of files, and the tokens that they are written with. Go specification, "Source file organization".
-use Rattle.std.specs.Prelude.{◌≡◌, ℕ, List, [], ◌∷◌, ◌++◌, map, Bool, true, false, if◌then◌else◌, ◌⊎◌}
+use Rattle.std.specs.Prelude.{◌≡◌, ℕ, List, [], ◌∷◌, ◌++◌, map, Bool, true, false, if◌then◌else◌, ◌⊎◌, Contains}
 use Rattle.go_ast.specs.declared.token.Kind.{Kind}
 use Rattle.go_ast.specs.declared.token.Kind.TheVariants as kinds
 use Rattle.go_ast.specs.declared.token.Token.{Token}
@@ -108,3 +108,19 @@ pub record IsFile (file : File) : Type 0 where
 pub record IsTreeOf (tokens : List Token) (file : File) : Type 0 where
   pub well_formed : IsFile file
   pub written : words tokens ≡ yield_file file
+
+-- ---- what a tree keeps of its tokens
+
+abbrev pub AreAmong : List Token → List Token → Type 0
+AreAmong tokens [] = Unit {0}
+AreAmong tokens (kept ∷ more) = Contains tokens kept × AreAmong tokens more
+
+abbrev pub AreCallsKept : List Token → List CallTree → Type 0
+AreCallsKept tokens [] = Unit {0}
+AreCallsKept tokens (call ∷ calls) = Contains tokens call.callee × AreAmong tokens call.arguments × AreCallsKept tokens calls
+
+-- each token that a tree keeps is one of these
+pub record AreKept (tokens : List Token) (file : File) : Type 0 where
+  pub package_name : Contains tokens file.package_name
+  pub function_name : Contains tokens file.function_name
+  pub statements : AreCallsKept tokens file.statements

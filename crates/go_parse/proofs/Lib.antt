@@ -1,0 +1,10 @@
+pub mod Words
+pub mod First
+pub mod Outcome
+pub mod Loops
+pub mod Items
+pub mod ItemsAgain
+pub mod Takes
+pub mod Again
+pub mod Kept
+pub mod Files
