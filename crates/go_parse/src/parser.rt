@@ -137,6 +137,8 @@ fn whole(alloc: Global, tokens: &[Token]) -> Result<FileTree, Stop>
 pub fn parse(alloc: Global, tokens: &Tokens) -> Result<FileTree, ParseError>
     // The tokens are those of this tree.
     ensures sound { IfOk result (λ file. IsTreeOf tokens.now (view_file file)) }
+    // No other tree is written with them.
+    ensures only { IfOk result (λ file. (other : File) → IsTreeOf tokens.now other → other ≡ view_file file) }
     // Each token that the tree keeps is one of the tokens, with its place.
     ensures kept { IfOk result (λ file. AreKept tokens.now (view_file file)) }
     // Refused, at token 0, exactly where the tokens have no tree.

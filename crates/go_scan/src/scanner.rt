@@ -28,6 +28,7 @@ struct Line {
 pub fn scan(alloc: Global, file: u32, bytes: &[u8]) -> Result<Tokens, ScanError>
     requires { length bytes.now ≤ 4194304 }
     ensures cut { IfOk result (λ tokens. IsCut bytes.now tokens) }
+    ensures only { IfOk result (λ tokens. (others : List Token) → IsCut bytes.now others → others ≡ tokens) }
     ensures places { IfOk result (λ tokens. AllByRecursion (IsPlacedIn bytes.now) tokens) }
     ensures refused { Refuses bytes.now result }
 {

@@ -1,0 +1,10 @@
+pub mod CommandLine
+pub mod Commands
+pub mod FirstForm
+pub mod Sources
+pub mod Stops
+pub mod Loading
+pub mod Lines
+pub mod Status
+pub mod WholeAnswer
+pub mod Performing

@@ -1,0 +1,77 @@
+-- The whole answer of a call: which outcome is right for the words and the files, with what on standard output and on
+-- standard error.
+use Rattle.std.specs.Prelude.{◌≡◌, ℕ, List, [], ◌∷◌, ◌++◌, ◌⊎◌, Option, Some, None}
+use Rattle.std.specs.Io.KnownBytes.{Appends}
+use Rattle.go_base.specs.Devices.{Tree, AppendsFront, HasFaulted}
+use Rattle.go_base.specs.declared.place.Place.{Place}
+use Rattle.go_base.specs.declared.ending.Ending.{Ending}
+use Rattle.go_base.specs.declared.ending.Ending.TheVariants.{Exited}
+use Rattle.go_ast.specs.declared.token.Token.{Token}
+use Rattle.go_ast.specs.Trees.{File}
+use Rattle.ssadump.specs.declared.outcome.Outcome.{Outcome}
+use Rattle.ssadump.specs.declared.outcome.Outcome.TheVariants as outcomes
+use Rattle.ssadump.specs.CommandLine.{Run, BadWord, command_of}
+use Rattle.ssadump.specs.FirstForm.{IsFirstForm, output_of}
+use Rattle.ssadump.specs.Sources.{IsSource, Breaks}
+use Rattle.ssadump.specs.Lines.{line_for}
+
+-- the first byte of the file at a path
+abbrev pub start_of : List ℕ → Place
+start_of path = record { path = path; offset = 0; line = 1; column = 1 }
+
+-- The outcome is the right one, with this on standard output. The outcomes that speak of devices and memory are never
+-- right by words and files alone.
+abbrev pub IsRight : List (List ℕ) → Option Tree → Outcome → List ℕ → Type 0
+IsRight words files outcomes.Done output = ⊥
+IsRight words files (outcomes.Ended ending) output =
+    (path : List ℕ) × (bytes : List ℕ) × (tokens : List Token) × (file : File)
+    × (command_of words ≡ Run path) × IsSource files path bytes × IsFirstForm bytes tokens file
+    × (ending ≡ Exited 0) × (output ≡ output_of bytes file)
+IsRight words files (outcomes.Refused place rule) output =
+    (path : List ℕ) × (command_of words ≡ Run path) × Breaks files path rule × (place ≡ start_of path) × (output ≡ [])
+IsRight words files (outcomes.Usage word) output = (command_of words ≡ BadWord word) × (output ≡ [])
+IsRight words files outcomes.ReadFault output = ⊥
+IsRight words files outcomes.WriteFault output = ⊥
+IsRight words files outcomes.OutOfMemory output = ⊥
+
+-- a right outcome's output was written
+pub record Finishes (words : List (List ℕ)) (files : Option Tree) (outcome : Outcome) (old new : Option (List ℕ)) : Type 0 where
+  pub output : List ℕ
+  pub right : IsRight words files outcome output
+  pub appends : Appends old new output
+
+-- a front of a right outcome's output was written
+pub record StopsIn (words : List (List ℕ)) (files : Option Tree) (old new : Option (List ℕ)) : Type 0 where
+  pub outcome : Outcome
+  pub output : List ℕ
+  pub right : IsRight words files outcome output
+  pub appends : AppendsFront old new output
+
+-- nothing was written, or a front of a right output
+abbrev pub IsUnfinished : List (List ℕ) → Option Tree → Option (List ℕ) → Option (List ℕ) → Type 0
+IsUnfinished words files old new = Appends old new [] ⊎ StopsIn words files old new
+
+-- What a call answers, and what is on standard output then: nothing after a read fault, which comes only for words
+-- that name a file, and a front of a right output after a write fault and want of memory.
+abbrev pub Answers : List (List ℕ) → Option Tree → Outcome → Option (List ℕ) → Option (List ℕ) → Type 0
+Answers words files outcomes.ReadFault old new = (path : List ℕ) × (command_of words ≡ Run path) × Appends old new []
+Answers words files outcomes.WriteFault old new = IsUnfinished words files old new
+Answers words files outcomes.OutOfMemory old new = IsUnfinished words files old new
+Answers words files outcome old new = Finishes words files outcome old new
+
+-- a front of the line for some outcome was written
+pub record StopsInLine (old new : Option (List ℕ)) : Type 0 where
+  pub outcome : Outcome
+  pub appends : AppendsFront old new (line_for outcome)
+
+-- What is on standard error then: the outcome's line, but a front of some line where standard error itself has failed
+-- or memory is wanted.
+abbrev pub Reports : Outcome → ℕ → ℕ → Option (List ℕ) → Option (List ℕ) → Type 0
+Reports outcomes.WriteFault before now old new = Appends old new (line_for outcomes.WriteFault) ⊎ (HasFaulted before now × StopsInLine old new)
+Reports outcomes.OutOfMemory before now old new = StopsInLine old new
+Reports outcome before now old new = Appends old new (line_for outcome)
+
+-- What an outcome is after its line was written: another where standard error has failed or memory is wanted.
+abbrev pub Becomes : ℕ → ℕ → Outcome → Outcome → Type 0
+Becomes before now outcome result =
+    (result ≡ outcome) ⊎ ((result ≡ outcomes.WriteFault) × HasFaulted before now) ⊎ (result ≡ outcomes.OutOfMemory)
