@@ -2,9 +2,12 @@
 
 ghost use Rattle.std.specs.Prelude.{◌≡◌, ◌≤◌, List, ℕ, Option, OnOk, OnErr, IfOk, IfSome, IsErrOf};
 ghost use Rattle.std.specs.Io.KnownBytes.{Appends};
+ghost use Rattle.go_base.specs.declared.devices.FileError.TheVariants.{OutOfMemory};
+ghost use Rattle.go_base.specs.declared.devices.SinkError.TheVariants as sink;
 ghost use Rattle.go_base.specs.Devices.{HasFaulted, AppendsFront, Tree, ListsTree, ReadsTree};
 
-use std::alloc::Global;
+use crate::memory::NoMemory;
+use std::alloc::{AllocError, AllocFailed, Global};
 use thiserror::Error;
 
 /// Why a file or a directory was not read.
@@ -17,6 +20,30 @@ pub enum FileError {
     /// The device has failed.
     Failed,
     OutOfMemory,
+}
+
+impl From<AllocError> for FileError {
+    ghost from_gives = { λ _ e. e ≡ OutOfMemory };
+
+    fn from(_: AllocError) -> FileError {
+        FileError::OutOfMemory
+    }
+}
+
+impl<T: Drop> From<AllocFailed<T>> for FileError {
+    ghost from_gives = { λ _ e. e ≡ OutOfMemory };
+
+    fn from(_: AllocFailed<T>) -> FileError {
+        FileError::OutOfMemory
+    }
+}
+
+impl From<NoMemory> for FileError {
+    ghost from_gives = { λ _ e. e ≡ OutOfMemory };
+
+    fn from(_: NoMemory) -> FileError {
+        FileError::OutOfMemory
+    }
 }
 
 /// A tree of files. A path has components joined by `/`, and `.` is the directory of the paths themselves.
@@ -49,6 +76,14 @@ pub enum SinkError {
     /// The device has failed.
     Failed,
     OutOfMemory,
+}
+
+impl From<AllocError> for SinkError {
+    ghost from_gives = { λ _ e. e ≡ sink.OutOfMemory };
+
+    fn from(_: AllocError) -> SinkError {
+        SinkError::OutOfMemory
+    }
 }
 
 /// Where output goes.
