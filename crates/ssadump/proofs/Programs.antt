@@ -47,10 +47,13 @@ each_placed bytes tokens (t ∷ ts) places h = (All-contains (IsPlacedIn bytes) 
 
 calls_placed : (bytes : List ℕ) (tokens : List Token) (calls : List Call) → All (IsPlacedIn bytes) tokens → AreCallsKept tokens (map view_call calls) → AllByRecursion (IsPlacedCall bytes) calls
 calls_placed bytes tokens [] places h = tt
-calls_placed bytes tokens (call ∷ calls) places h = (record {
-  callee = All-contains (IsPlacedIn bytes) tokens call.callee places h.0;
-  arguments = All-from_recursion (IsPlacedIn bytes) call.arguments.items (each_placed bytes tokens call.arguments.items places h.1);
-}, calls_placed bytes tokens calls places h.2)
+calls_placed bytes tokens (call ∷ calls) places h = (
+  record {
+    callee = All-contains (IsPlacedIn bytes) tokens call.callee places h.0;
+    arguments = All-from_recursion (IsPlacedIn bytes) call.arguments.items (each_placed bytes tokens call.arguments.items places h.1);
+  },
+  calls_placed bytes tokens calls places h.2,
+)
 
 pub tree_placed : (bytes : List ℕ) (tokens : List Token) (tree : FileTree) → AllByRecursion (IsPlacedIn bytes) tokens → AreKept tokens (view_file tree) → IsPlacedTree bytes tree
 tree_placed bytes tokens tree each kept =

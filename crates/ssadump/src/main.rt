@@ -1,4 +1,4 @@
-//! The command `ssadump`.
+//! The command `ssadump`: words and files in, standard output, standard error and an exit status out.
 #![tactic(auto)]
 
 mod call;
@@ -10,5 +10,38 @@ mod report;
 mod source;
 mod status;
 mod stop;
+#[cfg(test)]
+mod tests;
 
-fn main() {}
+use crate::call::ssadump;
+use crate::status::status;
+use go_base::{RealFiles, RealSink};
+use std::io::ErrorKind;
+use std::process::ExitCode;
+use std::{env, io};
+
+/// The exit status where a word is not text.
+const NOT_TEXT: u8 = 2;
+
+/// The exit status where no memory is found for the words.
+const NO_MEMORY: u8 = 6;
+
+fn main(rt: HostRuntime) -> ExitCode {
+    let alloc = rt.alloc();
+    let words = match read_words(&rt) {
+        Ok(words) => words,
+        Err(error) if error.kind() == ErrorKind::OutOfMemory => return ExitCode::from(NO_MEMORY),
+        Err(_) => return ExitCode::from(NOT_TEXT),
+    };
+    let mut out = RealSink::new(rt.stdout());
+    let mut err = RealSink::new(rt.stderr());
+    let mut files = RealFiles::new(rt);
+    let outcome = ssadump(alloc, words.as_slice(), &mut files, &mut out, &mut err);
+    ExitCode::from(status(&outcome))
+}
+
+// The words of the command line, without the program's name.
+fn read_words(rt: &HostRuntime) -> io::Result<Vec<String>> {
+    let words = env::args(rt)?.skip(1).collect(rt.alloc())?;
+    Ok(words)
+}

@@ -1,6 +1,5 @@
 //! What a call of the program comes to.
 
-
 use go_base::{Ending, Place, Rule, Text};
 
 /// What a call came to.

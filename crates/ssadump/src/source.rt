@@ -10,13 +10,10 @@ ghost use Rattle.ssadump.specs.Loading.{IsLoaded, HasStopped, IsProgram, IsNoPro
 
 use crate::stop::Stop;
 use go_ast::{Call, FileTree, Token};
-use go_base::{Files, Rule};
+use go_base::{Files, MAX_FILE_BYTES, Rule};
 use go_parse::parse;
 use go_scan::scan;
 use std::alloc::Global;
-
-/// The most bytes that a file may have.
-const MAX_FILE_BYTES: usize = 4194304;
 
 /// A file that can be run.
 #[derive(Drop)]
