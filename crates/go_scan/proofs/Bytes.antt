@@ -1,6 +1,6 @@
 -- Which bytes begin which pieces.
-use Rattle.std.proofs.Common.{◌≡◌, ℕ, ◌<◌, ◌≤◌, List, [], ◌∷◌, Bool, true, false, refl, sym, subst, arith, inl, inr}
-use Rattle.std.specs.Prelude.{codes, bytes_eq, ◌==◌, ◌&&◌, ◌||◌, nat_le}
+use Rattle.std.proofs.Common.{◌≡◌, ℕ, List, [], ◌∷◌, true, false, refl, sym, subst, arith, inl, inr}
+use Rattle.std.specs.Prelude.{codes, bytes_eq, ◌==◌}
 use Rattle.std.specs.List.{list_all}
 use Rattle.std.proofs.lemmas.Bool.{and_parts, and_from, or_cases}
 use Rattle.std.proofs.lemmas.Bool.Decides.{nat_tests}
@@ -8,7 +8,7 @@ use Rattle.std.proofs.lemmas.Slice.Eq.{bytes_eq-Decides}
 use Rattle.go_ast.specs.Cut.{is_space, is_mark, is_digit, is_word}
 use Rattle.go_scan.specs.Front.{is_run_byte}
 
--- a byte of one of these classes is of none other
+-- a byte that is no white space, no mark and no quote
 pub record IsOther (byte : ℕ) : Type 0 where
   pub space : is_space byte ≡ false
   pub mark : is_mark byte ≡ false

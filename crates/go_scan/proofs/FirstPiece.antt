@@ -1,15 +1,14 @@
 -- The first piece of a text is the one that each cut of the text begins with.
-use Rattle.std.proofs.Common.{◌≡◌, ℕ, ◌+◌, ◌≤◌, List, [], ◌∷◌, ◌++◌, length, take, drop, Bool, true, false, cond, Option, Some, None, refl, sym, ap, ◌∙◌, subst, inl, inr, arith}
+use Rattle.std.proofs.Common.{◌≡◌, ℕ, List, [], ◌∷◌, ◌++◌, length, drop, Bool, true, false, cond, Some, refl, sym, ap, ◌∙◌, subst, inl, inr}
 use Rattle.std.specs.Prelude.{◌==◌, ◌&&◌, codes, flat_map}
 use Rattle.std.specs.List.{prefix_len, list_all}
 use Rattle.std.proofs.lemmas.Bool.{and_parts, and_right, eqb-true, cases_Bool}
-use Rattle.std.proofs.lemmas.List.{take-append-drop, append_assoc, length-append}
+use Rattle.std.proofs.lemmas.List.{take-append-drop, append_assoc}
 use Rattle.std.proofs.Math.Seq.{drop-append_seam}
-use Rattle.std.proofs.lemmas.List.Folds.{length-prefix_len}
-use Rattle.go_ast.specs.Cut.{Piece, Space, Word, Numeral, Quoted, Mark, is_space, is_mark, is_word, is_digit, is_numeral, is_plain, is_piece, runs_on, begins_run, spelled, ArePieces, begins_with_zero}
+use Rattle.go_ast.specs.Cut.{Piece, Space, Word, Numeral, Quoted, Mark, is_space, is_mark, is_word, is_digit, is_numeral, is_plain, is_piece, runs_on, begins_run, spelled, ArePieces}
 use Rattle.go_scan.specs.Front.{is_run_byte, first_piece, quoted_piece, closed_piece, run_piece, piece_of_run}
 use Rattle.go_scan.proofs.Prefixes.{starts, front, behind, front_passes, behind_fails, front_is, behind_is}
-use Rattle.go_scan.proofs.Bytes.{IsOther, other_of_run, not_space_of_mark, not_run_of_space, not_run_of_mark, run_of_digits, run_of_digit, not_word_of_digit, IsOneWord, Package, Func, Main, Println, one_word}
+use Rattle.go_scan.proofs.Bytes.{other_of_run, not_space_of_mark, not_run_of_space, not_run_of_mark, run_of_digits, run_of_digit, not_word_of_digit, IsOneWord, Package, Func, Main, Println, one_word}
 
 -- a text is a piece and what is behind it, and the piece could not be longer
 pub record Begins (text : List ℕ) (piece : Piece) : Type 0 where

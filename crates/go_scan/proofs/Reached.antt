@@ -1,8 +1,8 @@
 -- How far a cut has come: the tokens so far, and every cut of the rest makes one of the whole.
-use Rattle.std.proofs.Common.{◌≡◌, ℕ, ◌+◌, ◌≤◌, List, [], ◌∷◌, ◌++◌, length, drop, Bool, true, false, Some, None, option_map, refl, sym, ap, ◌∙◌, subst, inl, inr, arith}
+use Rattle.std.proofs.Common.{◌≡◌, ℕ, ◌+◌, ◌≤◌, List, [], ◌∷◌, ◌++◌, length, drop, true, false, Some, None, option_map, refl, sym, ap, ◌∙◌, subst, inl, inr, arith}
 use Rattle.std.specs.Prelude.{◌==◌, ◌&&◌, if◌then◌else◌, Option, flat_map}
 use Rattle.std.proofs.lemmas.Bool.{cases_Bool}
-use Rattle.std.proofs.lemmas.List.{append_assoc, append-nil, length-append, append_cancel_left}
+use Rattle.std.proofs.lemmas.List.{append_assoc, length-append, append_cancel_left}
 use Rattle.go_ast.specs.declared.token.Token.{Token}
 use Rattle.go_ast.specs.Cut.{Piece, Space, Word, Numeral, Quoted, Mark, spelled, runs_on, is_piece, ArePieces, IsCut, tokens_from, inserted, begins_run}
 use Rattle.go_scan.specs.declared.front.Front.{Front}

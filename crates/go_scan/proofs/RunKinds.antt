@@ -1,5 +1,5 @@
 -- The kinds of words and numerals.
-use Rattle.std.proofs.Common.{◌≡◌, ℕ, List, length, take, Bool, true, false, Some, None, option_map, refl, sym, ap, ◌∙◌, subst, inl, inr}
+use Rattle.std.proofs.Common.{◌≡◌, ℕ, List, length, take, Some, option_map, sym, ap, ◌∙◌, subst, inl, inr}
 use Rattle.std.specs.List.{prefix_len}
 use Rattle.std.proofs.lemmas.Bool.{cases_Bool}
 use Rattle.std.proofs.lemmas.List.Folds.{length-prefix_len}

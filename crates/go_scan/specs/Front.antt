@@ -1,8 +1,7 @@
 -- The piece that a text begins with: the longest there is. `proofs/FirstPiece.antt` ties it to the pieces of a cut.
-use Rattle.std.specs.Prelude.{◌≡◌, ℕ, ◌+◌, List, [], ◌∷◌, length, take, drop, Bool, ◌==◌, ◌&&◌, ◌||◌, nat_le, if◌then◌else◌, Option, Some, None, slice_get, bytes_eq, codes, option_map}
+use Rattle.std.specs.Prelude.{ℕ, List, [], ◌∷◌, length, take, drop, Bool, ◌==◌, ◌&&◌, ◌||◌, nat_le, if◌then◌else◌, Option, Some, None}
 use Rattle.std.specs.List.{prefix_len}
 use Rattle.go_ast.specs.declared.token.Kind.{Kind}
-use Rattle.go_ast.specs.declared.token.Kind.TheVariants as kinds
 use Rattle.go_ast.specs.Cut.{Piece, Space, Word, Numeral, Quoted, Mark, is_space, is_mark, is_word, is_digit, is_numeral, is_plain, word_kind, mark_kind, kind_of, spelled}
 use Rattle.go_scan.specs.declared.front.Front.{Front}
 use Rattle.go_scan.specs.declared.front.Front.TheVariants as fronts

@@ -23,8 +23,9 @@ struct Line {
     wanted: bool,
 }
 
-/// The tokens of a file, whose number is `file`. `Refused` comes exactly where the bytes have no cut, with the offset 0
-/// and the rule `NotBuiltYet`.
+/// The tokens of a file of at most 4194304 bytes, whose number is `file`. `Refused` comes exactly where the bytes have
+/// no cut, with the offset 0 and the rule `NotBuiltYet`; `OutOfMemory` where no memory is found. Go specification,
+/// "Tokens" and "Semicolons".
 pub fn scan(alloc: Global, file: u32, bytes: &[u8]) -> Result<Tokens, ScanError>
     requires { length bytes.now ≤ 4194304 }
     ensures cut { IfOk result (λ tokens. IsCut bytes.now tokens) }

@@ -1,6 +1,5 @@
-use Rattle.std.proofs.Common.{◌≡◌, ◌∙◌, sym, ap, subst, List, ◌≤◌, ◌<◌, ◌+◌, ◌++◌, length, arith, false, rules}
+use Rattle.std.proofs.Common.{sym, subst, List, ◌<◌, length, arith, false, rules}
 use Rattle.go_ast.specs.declared.token.Token.{Token}
-use Rattle.go_scan.specs.Line.{length_of}
 use Rattle.go_scan.proofs.Reached.{Reached, reached_start, reached_next, reached_none, front_fits}
 use Rattle.go_scan.proofs.scanner.cut.Goals as goal
 
