@@ -17,27 +17,28 @@ fn literals(alloc: Global, tokens: &[Token]) -> Result<(Vec<Token>, bool, &[Toke
     ensures { Gives (λ x. ((x.0.items, x.1), words x.2.now)) result (literals_in (words tokens.now)) }
 {
     let mut literals = Vec::new(alloc);
-    let mut closed = false;
+    let mut trailing = false;
     let mut rest = tokens;
+    // Each turn takes a token or stops.
     for _ in 0..tokens.len() {
         if begins_with(rest, Kind::CloseParen) {
             break;
         }
         let (next, after) = literal(rest)?;
         literals.push(next)?;
-        closed = begins_with(after, Kind::Comma);
+        trailing = begins_with(after, Kind::Comma);
         rest = past(after, Kind::Comma, Kind::CloseParen)?;
     }
     let rest = skip(rest, Kind::CloseParen)?;
-    Ok((literals, closed, rest))
+    Ok((literals, trailing, rest))
 }
 
 /// The arguments of a call, and the closing parenthesis. Go specification, "Calls".
 fn arguments(alloc: Global, tokens: &[Token]) -> Result<(Vec<Token>, &[Token]), Stop>
     ensures { Gives (λ x. (x.0.items, words x.1.now)) result (arguments_in (words tokens.now)) }
 {
-    let (arguments, closed, rest) = literals(alloc, tokens)?;
-    if closed {
+    let (arguments, trailing, rest) = literals(alloc, tokens)?;
+    if trailing {
         return Err(Stop::Unexpected);
     }
     Ok((arguments, rest))
@@ -61,6 +62,7 @@ fn statements(alloc: Global, tokens: &[Token]) -> Result<(Vec<Call>, bool, &[Tok
     let mut statements = Vec::new(alloc);
     let mut closed = false;
     let mut rest = tokens;
+    // Each turn takes a token or stops.
     for _ in 0..tokens.len() {
         if begins_with(rest, Kind::CloseBrace) {
             break;

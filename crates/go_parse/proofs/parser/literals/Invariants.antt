@@ -5,4 +5,4 @@ use Rattle.go_parse.specs.Reading.{more_in, literal_at, literals_in}
 use Rattle.go_parse.proofs.parser.literals.Given as goal
 
 abbrev pub invariant-loop : goal.invariant-loop
-invariant-loop l = more_in literal_at Comma CloseParen (l.end - l.counter) l.literals.items l.closed (words l.rest) ≡ literals_in (words l.tokens)
+invariant-loop l = more_in literal_at Comma CloseParen (l.end - l.counter) l.literals.items l.trailing (words l.rest) ≡ literals_in (words l.tokens)
