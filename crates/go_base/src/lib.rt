@@ -14,6 +14,8 @@ mod place;
 mod real_files;
 mod real_sink;
 mod rule;
+#[cfg(test)]
+mod tests;
 mod text;
 
 pub use devices::{FileError, Files, PrintError, Sink, SinkError};

@@ -1,5 +1,4 @@
-use Rattle.std.proofs.Common.{ℕ, ◌≤◌, arith, length, take, not, length-take}
-use Rattle.std.specs.List.{suffix_len}
+use Rattle.std.proofs.Common.{ℕ, arith, take, not, length-take}
 use Rattle.std.proofs.lemmas.List.Sums.{suffix_len-le-length}
 use Rattle.go_base.specs.Lines.{is_newline}
 use Rattle.go_base.proofs.line.line_column.Goals as goal

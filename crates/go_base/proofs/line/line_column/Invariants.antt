@@ -1,4 +1,4 @@
-use Rattle.std.proofs.Common.{◌≡◌, take}
+use Rattle.std.proofs.Common.{◌≡◌}
 use Rattle.go_base.specs.Lines.{line_at, column_at}
 use Rattle.go_base.proofs.line.line_column.Given as goal
 

@@ -1,7 +1,6 @@
-use Rattle.std.proofs.Common.{◌≡◌, ◌++◌, ap, subst, sym, map, string_bytes, rules}
-use Rattle.go_base.specs.Devices.{names_in}
+use Rattle.std.proofs.Common.{subst, sym, rules}
 use Rattle.go_base.specs.Memory.{tree_of}
-use Rattle.go_base.proofs.Trees.{IsDistinctTree, distinct_tree, names_in_step}
+use Rattle.go_base.proofs.Trees.{IsDistinctTree, distinct_tree}
 use Rattle.go_base.proofs.mem_files.names_in.Goals as goal
 
 pub loop-path-init : goal.loop-path-init
