@@ -2,3 +2,4 @@ mod Listed
 mod Below
 mod Trees
 mod Streams
+pub mod Texts

@@ -4,3 +4,4 @@ pub mod Lines
 pub mod CallPlan
 pub mod Memory
 pub mod Streams
+pub mod NameTable

@@ -1,6 +1,6 @@
 //! What a program of this repository asks of the outside: files to read, and sinks to write to.
 
-ghost use Rattle.std.specs.Prelude.{◌≡◌, ◌≤◌, List, ℕ, Option, OnOk, OnErr, IfOk, IfSome, IsErrOf};
+ghost use Rattle.std.specs.Prelude.{◌≡◌, ◌≤◌, List, ℕ, Option, OnOk, OnErr, IfSome, IsErrOf};
 ghost use Rattle.std.specs.Io.KnownBytes.{Appends};
 ghost use Rattle.go_base.specs.declared.devices.FileError.TheVariants.{OutOfMemory};
 ghost use Rattle.go_base.specs.declared.devices.SinkError.TheVariants as sink;

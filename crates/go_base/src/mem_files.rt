@@ -1,9 +1,9 @@
 //! Files in memory.
 
-ghost use Rattle.std.specs.Prelude.{map, string_bytes, option_copied, ◌≡◌, ◌↔◌, ◌≤◌, ℕ, List, [], Some, IfOk, IfSome, OnErr, IsErrOf, IsTrue, bytes_eq, if◌then◌else◌};
+ghost use Rattle.std.specs.Prelude.{map, string_bytes, option_copied, ◌≡◌, ◌↔◌, ℕ, List, [], Some, IfOk, OnErr, IsErrOf, IsTrue, bytes_eq, if◌then◌else◌};
 ghost use Rattle.std.specs.List.Sorted.{IsStrictlyIncreasing};
 ghost use Rattle.go_base.specs.CallPlan.{after_call, fails_next};
-ghost use Rattle.go_base.specs.Devices.{HasFaulted, ListsTree, ReadsTree, file_at, rest_below, name_in, names_in, is_directory};
+ghost use Rattle.go_base.specs.Devices.{ListsTree, ReadsTree, file_at, rest_below, name_in, names_in, is_directory};
 ghost use Rattle.go_base.specs.Memory.{tree_of};
 
 use crate::call_plan::FaultPlan;

@@ -3,7 +3,7 @@
 ghost use Rattle.std.specs.Prelude.{◌≡◌, ◌≢◌, ◌+◌, ◌<◌, ◌≤◌, min, length, None, IfOk, IfSome, IsErrOf};
 ghost use Rattle.std.specs.Io.{ReadsAtMost};
 ghost use Rattle.std.specs.Io.KnownBytes.{ReadConsumes};
-ghost use Rattle.go_base.specs.Devices.{HasFaulted, ListsTree, Tree, last_count};
+ghost use Rattle.go_base.specs.Devices.{HasFaulted, last_count};
 
 use crate::devices::{FileError, Files};
 use std::alloc::Global;
@@ -53,12 +53,15 @@ impl<R: rt::Files + AllocGlobal + Clone + Drop> RealFiles<R> {
     }
 }
 
-/// What an error of the system means.
+/// What an error of the system means. A path that leads through a file, or to a directory where a file is read, has
+/// no file.
 fn file_error(error: &io::Error) -> FileError
     ensures { result ≢ FileError.TooLarge }
 {
     match error.kind() {
-        ErrorKind::NotFound => FileError::Absent,
+        ErrorKind::NotFound | ErrorKind::NotADirectory | ErrorKind::IsADirectory => {
+            FileError::Absent
+        }
         ErrorKind::OutOfMemory => FileError::OutOfMemory,
         _ => FileError::Failed,
     }
@@ -71,7 +74,7 @@ impl<R: rt::Files + AllocGlobal + Clone + Drop> Files for RealFiles<R> {
 
     /// The names of the regular files in a directory, also where a link leads to one. An empty path is the current
     /// directory. An error of the system is `Failed` and is counted, save that a directory that is not found is
-    /// `Absent`; so is a directory of more than 1,048,576 entries.
+    /// `Absent`. Counted too are a directory of more than 1,048,576 entries, and a name that is not text.
     fn list(&mut self, alloc: Global, dir: &str) -> Result<Vec<String>, FileError>
         ensures later { self.old ≤ self.new }
         ensures failed { IsErrOf result FileError.Failed → HasFaulted self.old self.new }
@@ -116,9 +119,7 @@ fn list_names<R: rt::Files + AllocGlobal + Clone + Drop>(
         count += 1;
         let entry = entry.map_err(|error| file_error(&error))?;
         if is_file(runtime, &entry)? {
-            let name = String::from_str(alloc, entry.file_name()).map_err(
-                |_| FileError::OutOfMemory,
-            )?;
+            let name = String::from_str(alloc, entry.file_name())?;
             names.push(name)?;
         }
     }

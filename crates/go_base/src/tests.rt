@@ -116,8 +116,13 @@ fn files_of_the_system(rt: HostRuntime) -> Result<(), Fail> {
     );
     assert_eq!(rt;
         files.read(alloc, sub.as_str(), 3).err(),
-        Some(FileError::Failed)
+        Some(FileError::Absent)
     );
+    assert_eq!(rt;
+        listed(alloc, &mut files, path.as_str()).err(),
+        Some(FileError::Absent)
+    );
+    assert_eq!(rt; files.read(alloc, "a\0b", 3).err(), Some(FileError::Failed));
     fs::remove_dir_all(&rt, folder.as_path())?;
     assert_eq!(rt;
         listed(alloc, &mut files, folder.as_str()).err(),

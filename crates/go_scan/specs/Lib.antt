@@ -1,3 +1,4 @@
-pub mod Front
-pub mod Line
-pub mod Refused
+pub mod Reach
+pub mod Runs
+pub mod Reading
+pub mod Scanning

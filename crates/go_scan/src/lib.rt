@@ -1,13 +1,23 @@
-//! Bytes of a file to tokens: the cut that `go_ast` defines (`Cut`). For now the scanner takes the pieces of programs
-//! that print literals, and refuses every other file as a whole.
+//! The scanner: Go source text cut into tokens, and the values of literals. Go specification, "Lexical elements".
+//!
+//! `scan` finds the longest piece at each place, refuses the first one with a fault, and puts in semicolons.
 #![tactic(auto)]
 
-mod error;
-mod front;
+mod characters;
+mod endings;
+mod faults;
+mod integers;
+mod items;
+mod marks;
+mod pieces;
+mod runes;
 mod scanner;
+mod words;
 
-pub use error::ScanError;
-pub use scanner::{one_cut, scan};
+pub use integers::int_value;
+pub use pieces::is_literal;
+pub use runes::{rune_value, string_value};
+pub use scanner::{ScanError, scan};
 
 #[cfg(test)]
 mod tests;

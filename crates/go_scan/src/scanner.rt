@@ -1,138 +1,166 @@
-//! The cut of a file, and the semicolons that are put in. Go specification, "Tokens" and "Semicolons".
+//! The scan of a whole file.
 
-ghost use Rattle.std.specs.Prelude.{◌≡◌, ◌≤◌, ◌<◌, ◌+◌, ◌^◌, ◌++◌, ℕ, List, length, OnOk, IfOk};
-ghost use Rattle.std.specs.List.{AllByRecursion};
-ghost use Rattle.go_ast.specs.declared.token.Token.{Token};
-ghost use Rattle.go_ast.specs.Cut.{IsCut, IsPlacedIn, inserted};
-ghost use Rattle.go_ast.specs.Cut.{ends_line as is_line_end};
-ghost use Rattle.go_scan.specs.Refused.{IsCutOrNone, Refuses};
-ghost use Rattle.go_scan.specs.Line.{added, line_after, length_of};
+ghost use Rattle.std.specs.Prelude.{◌≡◌, ◌+◌, ◌++◌, ◌<◌, ◌≤◌, ◌^◌, length, IfOk, IfErr, OnOk};
+ghost use Rattle.go_ast.specs.Lexical.{ends_line, inserted, tokens_of, place_after, mark_width, IsTokenList};
+ghost use Rattle.go_scan.specs.Scanning.{view_place, IsRefusal, IsWithin};
 
-use crate::error::ScanError;
-use crate::front::{Front, front_of};
+use crate::faults::Fault;
+use crate::pieces::{Piece, read_piece};
 use go_ast::{Kind, Token, Tokens};
 use go_base::{NoMemory, Rule};
 use std::alloc::Global;
+use thiserror::Error;
 
-/// What a line end has to know of the tokens before it.
-#[derive(Clone, Copy, Debug, PartialEq, Eq)]
-struct Line {
-    /// The byte behind the last token, or 0 where there is none.
+/// Why a file has no tokens.
+#[derive(Clone, Copy, Debug, PartialEq, Eq, Error)]
+pub enum ScanError {
+    /// A rule is broken at this byte of the file, from 0.
+    #[error("{}", rule.text())]
+    Refused { offset: u32, rule: Rule },
+    /// There is no memory left.
+    #[error("out of memory")]
+    OutOfMemory,
+}
+
+impl From<NoMemory> for ScanError {
+    ghost use Rattle.go_scan.specs.declared.scanner.ScanError.TheVariants.{OutOfMemory};
+
+    ghost from_gives = { λ _ e. e ≡ OutOfMemory };
+
+    fn from(_: NoMemory) -> ScanError {
+        ScanError::OutOfMemory
+    }
+}
+
+/// How far tokens have come.
+#[derive(Clone, Copy)]
+struct Place {
+    /// The byte behind the last piece.
+    at: u32,
+    /// The byte behind the last token.
     last: u32,
     /// Whether a semicolon is put in where the line ends.
     wanted: bool,
 }
 
-/// The tokens of a file of at most 4194304 bytes, whose number is `file`. `Refused` comes exactly where the bytes have
-/// no cut, with the offset 0 and the rule `NotBuiltYet`; `OutOfMemory` where no memory is found. Go specification,
-/// "Tokens" and "Semicolons".
-pub fn scan(alloc: Global, file: u32, bytes: &[u8]) -> Result<Tokens, ScanError>
-    requires { length bytes.now ≤ 4194304 }
-    ensures cut { IfOk result (λ tokens. IsCut bytes.now tokens) }
-    ensures only { IfOk result (λ tokens. (others : List Token) → IsCut bytes.now others → others ≡ tokens) }
-    ensures places { IfOk result (λ tokens. AllByRecursion (IsPlacedIn bytes.now) tokens) }
-    ensures refused { Refuses bytes.now result }
+/// Whether a semicolon is put in where a line ends behind a token. Go specification, "Semicolons".
+fn ends_line(kind: Kind) -> bool
+    ensures { result ≡ ends_line kind }
 {
-    match cut(alloc, bytes) {
-        Ok(Some(tokens)) => Ok(tokens),
-        Ok(None) => Err(ScanError::Refused {
-            offset: 0,
-            rule: Rule::NotBuiltYet,
-        }),
-        Err(NoMemory) => Err(ScanError::OutOfMemory),
-    }
+    matches!(
+        kind,
+        Kind::Name
+            | Kind::Int
+            | Kind::Rune
+            | Kind::Text
+            | Kind::BreakWord
+            | Kind::ContinueWord
+            | Kind::FallthroughWord
+            | Kind::ReturnWord
+            | Kind::Increment
+            | Kind::Decrement
+            | Kind::CloseParen
+            | Kind::CloseBracket
+            | Kind::CloseBrace
+    )
 }
 
-/// Bytes have at most one cut.
-pub fn one_cut()
-    ensures { (bytes : List ℕ) (a b : List Token) → IsCut bytes a → IsCut bytes b → a ≡ b }
-{}
-
-/// The cut of bytes. None where they have none.
-fn cut(alloc: Global, bytes: &[u8]) -> Result<Option<Tokens>, NoMemory>
-    requires { length bytes.now ≤ 4194304 }
-    ensures { IfOk result (λ found. IsCutOrNone bytes.now found) }
+/// Puts in the semicolon of a line's end, where one is wanted.
+fn end_line(tokens: &mut Tokens, place: Place) -> Result<(), NoMemory>
+    ensures { OnOk result (tokens.new ≡ tokens.old ++ inserted place.wanted place.last) }
 {
-    let mut tokens = Tokens::new(alloc);
-    let mut line = Line {
-        last: 0,
-        wanted: false,
-    };
-    let mut rest = bytes;
-    let mut at = 0;
-    while !rest.is_empty() {
-        let Some(front) = front_of(rest) else {
-            return Ok(None);
-        };
-        line = take(&mut tokens, at, line, front)?;
-        let length = length_of(front);
-        rest = rest.split_at(length).1;
-        at += length as u32;
-    }
-    end_line(&mut tokens, line)?;
-    Ok(Some(tokens))
-}
-
-/// Adds what begins at byte `at`, and gives the line behind it.
-fn take(tokens: &mut Tokens, at: u32, line: Line, front: Front) -> Result<Line, NoMemory>
-    requires { at + length_of front < 2 ^ 32 }
-    ensures added { OnOk result (tokens.new ≡ tokens.old ++ added at line front) }
-    ensures line { IfOk result (λ new. new ≡ line_after at line front) }
-{
-    match front {
-        Front::Blank => Ok(line),
-        Front::LineEnd => {
-            end_line(tokens, line)?;
-            Ok(Line {
-                last: line.last,
-                wanted: false,
-            })
-        }
-        Front::Lexeme { kind, length } => {
-            let end = at + length as u32;
-            tokens.push(Token {
-                kind,
-                start: at,
-                end,
-            })?;
-            Ok(Line {
-                last: end,
-                wanted: ends_line(kind),
-            })
-        }
-    }
-}
-
-/// Puts in the semicolon that the end of a line wants.
-fn end_line(tokens: &mut Tokens, line: Line) -> Result<(), NoMemory>
-    ensures { OnOk result (tokens.new ≡ tokens.old ++ inserted line.wanted line.last) }
-{
-    if line.wanted {
+    if place.wanted {
         tokens.push(Token {
             kind: Kind::Inserted,
-            start: line.last,
-            end: line.last,
+            start: place.last,
+            end: place.last,
         })?;
     }
     Ok(())
 }
 
-/// How many bytes stand at the front.
-fn length_of(front: Front) -> usize
-    ensures { result ≡ length_of front }
+/// Adds the tokens that a piece brings, and gives the place behind it.
+fn add_piece(
+    tokens: &mut Tokens,
+    place: Place,
+    text: &[u8],
+    kind: Option<Kind>,
+) -> Result<Place, NoMemory>
+    requires { place.at + length text.now < 2 ^ 32 }
+    ensures tokens { OnOk result (tokens.new ≡ tokens.old ++ tokens_of (view_place place) text.now kind) }
+    ensures place { IfOk result (λ next. view_place next ≡ place_after (view_place place) text.now kind) }
 {
-    match front {
-        Front::Blank | Front::LineEnd => 1,
-        Front::Lexeme { length, .. } => length,
+    let end = place.at + text.len() as u32;
+    match kind {
+        Some(kind) => {
+            tokens.push(Token {
+                kind,
+                start: place.at,
+                end,
+            })?;
+            Ok(Place {
+                at: end,
+                last: end,
+                wanted: ends_line(kind),
+            })
+        }
+        None if text.contains(&b'\n') => {
+            end_line(tokens, place)?;
+            Ok(Place {
+                at: end,
+                last: place.last,
+                wanted: false,
+            })
+        }
+        None => Ok(Place { at: end, ..place }),
     }
 }
 
-/// Whether a semicolon is put in where a line ends behind a token of this kind. Go specification, "Semicolons".
-fn ends_line(kind: Kind) -> bool
-    ensures { result ≡ is_line_end kind }
+/// The bytes of a byte order mark at the start of a file.
+fn mark_width(bytes: &[u8]) -> u32
+    ensures { result ≡ mark_width bytes.now }
 {
-    matches!(
-        kind,
-        Kind::Name | Kind::Int | Kind::Text | Kind::CloseParen | Kind::CloseBrace
-    )
+    if bytes.starts_with(b"\xEF\xBB\xBF") {
+        3
+    } else {
+        0
+    }
+}
+
+/// The refusal of a fault in the piece at a place.
+fn refused(at: u32, fault: Fault) -> ScanError
+    requires { at + fault.at < 2 ^ 32 }
+    ensures { result ≡ ScanError.Refused (at + fault.at) fault.rule }
+{
+    ScanError::Refused {
+        offset: at + fault.at as u32,
+        rule: fault.rule,
+    }
+}
+
+/// Cuts the bytes of a file into tokens, with the semicolons of its lines put in.
+///
+/// `Refused` names the first place where the bytes cannot be cut, in bytes from 0, and the rule that is broken there.
+pub fn scan(alloc: Global, file: u32, bytes: &[u8]) -> Result<Tokens, ScanError>
+    requires { length bytes.now ≤ 4194304 }
+    ensures tokens { IfOk result (λ tokens. IsTokenList bytes.now tokens) }
+    ensures refused { IfErr result (λ error. IsRefusal bytes.now error) }
+    ensures within { IfErr result (λ error. IsWithin bytes.now error) }
+{
+    let mut tokens = Tokens::new(alloc);
+    let start = mark_width(bytes);
+    let mut place = Place {
+        at: start,
+        last: start,
+        wanted: false,
+    };
+    while (place.at as usize) < bytes.len() {
+        let rest = &bytes[place.at as usize..];
+        place = match read_piece(rest) {
+            Ok(piece) => add_piece(&mut tokens, place, &rest[..piece.length], piece.kind)?,
+            Err(fault) => return Err(refused(place.at, fault)),
+        };
+    }
+    end_line(&mut tokens, place)?;
+    Ok(tokens)
 }

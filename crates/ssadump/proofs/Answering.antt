@@ -1,5 +1,5 @@
 -- From what the parts of a call come to, to its answer.
-use Rattle.std.proofs.Common.{◌≡◌, ℕ, List, [], ◌++◌, Option, Some, None, refl, sym, ap, subst, inl, inr, ◌⊎◌}
+use Rattle.std.proofs.Common.{◌≡◌, ℕ, List, [], Option, Some, None, refl, sym, subst, inl, inr, ◌⊎◌}
 use Rattle.std.proofs.lemmas.List.{append-nil}
 use Rattle.std.specs.Io.KnownBytes.{Appends}
 use Rattle.go_base.specs.Devices.{Tree, AppendsFront, HasFaulted}
@@ -13,7 +13,7 @@ use Rattle.ssadump.specs.declared.stop.Stop.TheVariants as stops
 use Rattle.ssadump.specs.CommandLine.{Run, BadWord, command_of}
 use Rattle.ssadump.specs.Loading.{IsLoaded, HasStopped}
 use Rattle.ssadump.specs.Performing.{IsUsage, IsRefusal, Prints, output_for}
-use Rattle.ssadump.specs.WholeAnswer.{IsRight, IsUnfinished, StopsIn, Finishes, Answers, Becomes, start_of}
+use Rattle.ssadump.specs.WholeAnswer.{IsRight, IsUnfinished, Finishes, Answers, Becomes}
 
 pub appends_none : (known : Option (List ℕ)) → Appends known known []
 appends_none None = tt
@@ -32,9 +32,9 @@ printed_answers words files path source outcome old new asked loaded (inr failed
     elim failed.0 [ inl e ↦ subst (λ o. Answers words files o old new) (sym e) stops | inr e ↦ subst (λ o. Answers words files o old new) (sym e) stops ]
 
 pub stopped_answers : (words : List (List ℕ)) (files : Option Tree) (path : List ℕ) (stop : Stop) (outcome : Outcome) (known : Option (List ℕ)) → command_of words ≡ Run path → HasStopped files path stop → IsRefusal path stop outcome → Answers words files outcome known known
-stopped_answers words files path (stops.Refused rule) outcome known asked why (inl e) =
-    subst (λ o. Answers words files o known known) (sym e) (record { output = []; right = (path, asked, why, refl, refl); appends = appends_none known })
-stopped_answers words files path (stops.Refused rule) outcome known asked why (inr e) =
+stopped_answers words files path (stops.Refused spot rule) outcome known asked why (inl e) =
+    subst (λ o. Answers words files o known known) (sym e) (record { output = []; right = (path, asked, why, refl); appends = appends_none known })
+stopped_answers words files path (stops.Refused spot rule) outcome known asked why (inr e) =
     subst (λ o. Answers words files o known known) (sym e) (inl (appends_none known))
 stopped_answers words files path stops.ReadFault outcome known asked why e =
     subst (λ o. Answers words files o known known) (sym e) (path, asked, appends_none known)

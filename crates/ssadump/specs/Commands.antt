@@ -1,5 +1,4 @@
 -- What a command of the code is.
-use Rattle.std.specs.Prelude.{List}
 use Rattle.ssadump.specs.declared.command.Command.{Command}
 use Rattle.ssadump.specs.declared.command.Command.TheVariants as variants
 use Rattle.ssadump.specs.CommandLine as line

@@ -1,7 +1,7 @@
 -- What the parts of a call come to.
-use Rattle.std.specs.Prelude.{◌≡◌, ℕ, List, [], ◌⊎◌, Option, Some, None}
+use Rattle.std.specs.Prelude.{◌≡◌, ℕ, List, ◌⊎◌, Option}
 use Rattle.std.specs.Io.KnownBytes.{Appends}
-use Rattle.go_base.specs.Devices.{Tree, AppendsFront}
+use Rattle.go_base.specs.Devices.{AppendsFront}
 use Rattle.go_base.specs.declared.ending.Ending.TheVariants.{Exited}
 use Rattle.go_ast.specs.Trees.{view_file}
 use Rattle.ssadump.specs.declared.outcome.Outcome.{Outcome}
@@ -10,7 +10,7 @@ use Rattle.ssadump.specs.declared.source.Source.{Source}
 use Rattle.ssadump.specs.declared.stop.Stop.{Stop}
 use Rattle.ssadump.specs.declared.stop.Stop.TheVariants as stops
 use Rattle.ssadump.specs.FirstForm.{output_of}
-use Rattle.ssadump.specs.WholeAnswer.{start_of}
+use Rattle.ssadump.specs.Loading.{in_file}
 
 -- the outcome for a bad word
 abbrev pub IsUsage : List ℕ → Outcome → Type 0
@@ -18,7 +18,7 @@ IsUsage word outcome = (outcome ≡ outcomes.Usage word) ⊎ (outcome ≡ outcom
 
 -- the outcome where nothing was loaded
 abbrev pub IsRefusal : List ℕ → Stop → Outcome → Type 0
-IsRefusal path (stops.Refused rule) outcome = (outcome ≡ outcomes.Refused (start_of path) rule) ⊎ (outcome ≡ outcomes.OutOfMemory)
+IsRefusal path (stops.Refused spot rule) outcome = (outcome ≡ outcomes.Refused (in_file path spot) rule) ⊎ (outcome ≡ outcomes.OutOfMemory)
 IsRefusal path stops.ReadFault outcome = outcome ≡ outcomes.ReadFault
 IsRefusal path stops.OutOfMemory outcome = outcome ≡ outcomes.OutOfMemory
 

@@ -1,10 +1,8 @@
 -- The whole answer of a call: which outcome is right for the words and the files, with what on standard output and on
 -- standard error.
-use Rattle.std.specs.Prelude.{◌≡◌, ℕ, List, [], ◌∷◌, ◌++◌, ◌⊎◌, Option, Some, None}
+use Rattle.std.specs.Prelude.{◌≡◌, ℕ, List, [], ◌⊎◌, Option}
 use Rattle.std.specs.Io.KnownBytes.{Appends}
 use Rattle.go_base.specs.Devices.{Tree, AppendsFront, HasFaulted}
-use Rattle.go_base.specs.declared.place.Place.{Place}
-use Rattle.go_base.specs.declared.ending.Ending.{Ending}
 use Rattle.go_base.specs.declared.ending.Ending.TheVariants.{Exited}
 use Rattle.go_ast.specs.declared.token.Token.{Token}
 use Rattle.go_ast.specs.Trees.{File}
@@ -15,10 +13,6 @@ use Rattle.ssadump.specs.FirstForm.{IsFirstForm, output_of}
 use Rattle.ssadump.specs.Sources.{IsSource, Breaks}
 use Rattle.ssadump.specs.Lines.{line_for}
 
--- the first byte of the file at a path
-abbrev pub start_of : List ℕ → Place
-start_of path = record { path = path; offset = 0; line = 1; column = 1 }
-
 -- The outcome is the right one, with this on standard output. The outcomes that speak of devices and memory are never
 -- right by words and files alone.
 abbrev pub IsRight : List (List ℕ) → Option Tree → Outcome → List ℕ → Type 0
@@ -28,7 +22,7 @@ IsRight words files (outcomes.Ended ending) output =
     × (command_of words ≡ Run path) × IsSource files path bytes × IsFirstForm bytes tokens file
     × (ending ≡ Exited 0) × (output ≡ output_of bytes file)
 IsRight words files (outcomes.Refused place rule) output =
-    (path : List ℕ) × (command_of words ≡ Run path) × Breaks files path rule × (place ≡ start_of path) × (output ≡ [])
+    (path : List ℕ) × (command_of words ≡ Run path) × Breaks files path place rule × (output ≡ [])
 IsRight words files (outcomes.Usage word) output = (command_of words ≡ BadWord word) × (output ≡ [])
 IsRight words files outcomes.ReadFault output = ⊥
 IsRight words files outcomes.WriteFault output = ⊥

@@ -11,7 +11,7 @@ use crate::command::{Command, read_words};
 use crate::outcome::Outcome;
 use crate::output::lines;
 use crate::source::{Source, load};
-use crate::stop::Stop;
+use crate::stop::{Spot, Stop};
 use go_base::{Ending, Files, Place, Rule, Sink, SinkError, Text};
 use std::alloc::Global;
 
@@ -63,23 +63,23 @@ fn stopped(alloc: Global, path: &str, stop: Stop) -> Outcome
     ensures { IsRefusal path.now stop result }
 {
     match stop {
-        Stop::Refused(rule) => refused(alloc, path, rule),
+        Stop::Refused(spot, rule) => refused(alloc, path, spot, rule),
         Stop::ReadFault => Outcome::ReadFault,
         Stop::OutOfMemory => Outcome::OutOfMemory,
     }
 }
 
-// The refusal of a file at its first byte.
-fn refused(alloc: Global, path: &str, rule: Rule) -> Outcome
-    ensures { IsRefusal path.now (Stop.Refused rule) result }
+// The refusal of a file.
+fn refused(alloc: Global, path: &str, spot: Spot, rule: Rule) -> Outcome
+    ensures { IsRefusal path.now (Stop.Refused spot rule) result }
 {
     match Text::new(alloc, path) {
         Ok(path) => Outcome::Refused {
             place: Place {
                 path,
-                offset: 0,
-                line: 1,
-                column: 1,
+                offset: spot.offset,
+                line: spot.line,
+                column: spot.column,
             },
             rule,
         },

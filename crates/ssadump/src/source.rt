@@ -1,18 +1,20 @@
 //! Reading of the file that is run.
 
-ghost use Rattle.std.specs.Prelude.{◌≡◌, ◌≤◌, length, map, All, IfOk, IfErr, IsErrOf};
+ghost use Rattle.std.specs.Prelude.{◌≡◌, ◌≤◌, List, length, map, All, IfOk, OnOk, IfErr, IsErrOf};
 ghost use Rattle.std.specs.List.{list_all};
 ghost use Rattle.go_base.specs.Devices.{HasFaulted};
 ghost use Rattle.go_ast.specs.Cut.{IsPlacedIn};
 ghost use Rattle.go_ast.specs.Trees.{view_file, view_call};
+ghost use Rattle.go_ast.specs.declared.token.Token.{Token};
+ghost use Rattle.go_ast.specs.Lexical.{IsTokenList};
 ghost use Rattle.ssadump.specs.FirstForm.{text_of, has_names, calls_println};
-ghost use Rattle.ssadump.specs.Loading.{IsLoaded, HasStopped, IsProgram, IsNoProgram, IsPlacedTree, IsPlacedCall};
+ghost use Rattle.ssadump.specs.Loading.{IsLoaded, HasStopped, IsProgram, IsNoProgram, HasNoTokens, IsSpot, IsPlacedTree, IsPlacedCall};
 
-use crate::stop::Stop;
+use crate::stop::{Spot, Stop};
+use first_parse::parse;
 use go_ast::{Call, FileTree, Token};
-use go_base::{Files, MAX_FILE_BYTES, Rule};
-use go_parse::parse;
-use go_scan::scan;
+use go_base::{Files, MAX_FILE_BYTES, Rule, line_column};
+use go_scan::{ScanError, scan};
 use std::alloc::Global;
 
 /// A file that can be run.
@@ -32,7 +34,7 @@ pub fn load<F: Files>(alloc: Global, files: &mut F, path: &str) -> Result<Source
 {
     let bytes = files.read(alloc, path, MAX_FILE_BYTES)?;
     if bytes.len() > MAX_FILE_BYTES {
-        return Err(Stop::Refused(Rule::FileTooLarge));
+        return Err(Stop::Refused(Spot::FIRST, Rule::FileTooLarge));
     }
     let tree = read_tree(alloc, bytes.as_slice())?;
     Ok(Source { bytes, tree })
@@ -44,12 +46,43 @@ fn read_tree(alloc: Global, bytes: &[u8]) -> Result<FileTree, Stop>
     ensures read { IfOk result (IsProgram bytes.now) }
     ensures stopped { IfErr result (IsNoProgram bytes.now) }
 {
-    let tokens = scan(alloc, 0, bytes)?;
+    check_lexis(alloc, bytes)?;
+    let tokens = first_scan::scan(alloc, 0, bytes)?;
     let tree = parse(alloc, &tokens)?;
     if !names_fit(bytes, &tree) {
-        return Err(Stop::Refused(Rule::NotBuiltYet));
+        return Err(Stop::Refused(Spot::FIRST, Rule::NotBuiltYet));
     }
     Ok(tree)
+}
+
+// Whether the bytes have tokens.
+fn check_lexis(alloc: Global, bytes: &[u8]) -> Result<(), Stop>
+    requires { length bytes.now ≤ 4194304 }
+    ensures tokens { OnOk result ((tokens : List Token) × IsTokenList bytes.now tokens) }
+    ensures stopped { IfErr result (HasNoTokens bytes.now) }
+{
+    match scan(alloc, 0, bytes) {
+        Ok(_) => Ok(()),
+        Err(ScanError::OutOfMemory) => Err(Stop::OutOfMemory),
+        Err(ScanError::Refused { offset, rule }) => Err(Stop::Refused(
+            spot_at(bytes, offset),
+            rule,
+        )),
+    }
+}
+
+// The place of a byte of a file.
+fn spot_at(bytes: &[u8], offset: u32) -> Spot
+    requires within { offset ≤ length bytes.now }
+    requires is_file { length bytes.now ≤ 4194304 }
+    ensures { IsSpot bytes.now offset result }
+{
+    let (line, column) = line_column(bytes, offset as usize);
+    Spot {
+        offset,
+        line,
+        column,
+    }
 }
 
 // Whether package and function are called main, and what is called is println.

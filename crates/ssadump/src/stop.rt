@@ -1,14 +1,34 @@
 //! Why a file is not run.
 
+use first_parse::ParseError;
+use first_scan::ScanError;
 use go_base::{FileError, Rule};
-use go_parse::ParseError;
-use go_scan::ScanError;
+
+/// A place in a file, without the file's path.
+#[derive(Clone, Copy)]
+pub struct Spot {
+    /// Bytes from the start of the file.
+    pub offset: u32,
+    /// The number of the line, from 1.
+    pub line: u32,
+    /// The number of the byte on its line, from 1.
+    pub column: u32,
+}
+
+impl Spot {
+    /// The first byte of a file.
+    pub const FIRST: Spot = Spot {
+        offset: 0,
+        line: 1,
+        column: 1,
+    };
+}
 
 /// Why a file was not read.
 #[derive(Drop)]
 pub enum Stop {
-    /// The file breaks this rule at its first byte, and none before.
-    Refused(Rule),
+    /// The file breaks this rule here, and none before.
+    Refused(Spot, Rule),
     ReadFault,
     OutOfMemory,
 }
@@ -21,8 +41,8 @@ impl From<FileError> for Stop {
 
     fn from(error: FileError) -> Stop {
         match error {
-            FileError::Absent => Stop::Refused(Rule::NoGoFiles),
-            FileError::TooLarge => Stop::Refused(Rule::FileTooLarge),
+            FileError::Absent => Stop::Refused(Spot::FIRST, Rule::NoGoFiles),
+            FileError::TooLarge => Stop::Refused(Spot::FIRST, Rule::FileTooLarge),
             FileError::Failed => Stop::ReadFault,
             FileError::OutOfMemory => Stop::OutOfMemory,
         }
@@ -37,7 +57,7 @@ impl From<ScanError> for Stop {
 
     fn from(error: ScanError) -> Stop {
         match error {
-            ScanError::Refused { .. } => Stop::Refused(Rule::NotBuiltYet),
+            ScanError::Refused { .. } => Stop::Refused(Spot::FIRST, Rule::NotBuiltYet),
             ScanError::OutOfMemory => Stop::OutOfMemory,
         }
     }
@@ -52,7 +72,7 @@ impl From<ParseError> for Stop {
     fn from(error: ParseError) -> Stop {
         match error {
             ParseError::TooDeep { .. } | ParseError::Unexpected { .. } => {
-                Stop::Refused(Rule::NotBuiltYet)
+                Stop::Refused(Spot::FIRST, Rule::NotBuiltYet)
             }
             ParseError::OutOfMemory => Stop::OutOfMemory,
         }

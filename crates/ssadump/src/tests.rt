@@ -40,6 +40,19 @@ const REFUSED: &[&str] = &[
     "",
 ];
 
+// Sources that have no tokens, and what is on standard error.
+const FAULTY: &[(&str, &str)] = &[
+    (
+        "package main\nvar s = \"ab",
+        "x.go:2:9: string literal not closed (L6)\n",
+    ),
+    (
+        "package main\n\nfunc main() { println(0x) }\n",
+        "x.go:3:23: not an integer literal (L4)\n",
+    ),
+    ("\n\t~", "x.go:2:2: unexpected character (L2)\n"),
+];
+
 // Command lines, and what is on standard error.
 const LINES: &[(&str, &str)] = &[
     ("", "ssadump: bad command line at \"\"\n"),
@@ -120,6 +133,17 @@ fn refuses(rt: HostRuntime) -> Result<(), Fail> {
             answer.err.bytes(),
             b"x.go:1:1: not built yet (X1)\n".as_slice()
         );
+    }
+    Ok(())
+}
+
+#[test]
+fn names_the_first_fault(rt: HostRuntime) -> Result<(), Fail> {
+    for (source, err) in FAULTY {
+        let answer = run_with(&rt, "x.go", source.as_bytes(), (false, false, false))?;
+        assert_eq!(rt; status(&answer.outcome), 1, "{source:?}");
+        assert!(rt; answer.out.bytes().is_empty(), "{source:?}");
+        assert_eq!(rt; answer.err.bytes(), err.as_bytes(), "{source:?}");
     }
     Ok(())
 }
