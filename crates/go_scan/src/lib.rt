@@ -1,0 +1,2 @@
+//! The scanner.
+#![tactic(auto)]
