@@ -1,2 +1,22 @@
-//! The scanner.
+//! The scanner: Go source text cut into tokens, and the values of literals. Go specification, "Lexical elements".
+//!
+//! `scan` finds the longest piece at each place, refuses the first one with a fault, and puts in semicolons.
 #![tactic(auto)]
+
+mod characters;
+mod endings;
+mod faults;
+mod integers;
+mod items;
+mod marks;
+mod pieces;
+mod runes;
+mod scanner;
+mod words;
+
+pub use integers::int_value;
+pub use runes::{rune_value, string_value};
+pub use scanner::{ScanError, scan};
+
+#[cfg(test)]
+mod tests;

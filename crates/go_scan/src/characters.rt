@@ -1,0 +1,73 @@
+//! Letters, digits, and runs of them. Go specification, "Letters and digits".
+
+ghost use Rattle.std.specs.Prelude.{◌≡◌, Some, None, ◌-◌, if◌then◌else◌};
+ghost use Rattle.go_ast.specs.Characters.{is_letter, is_digit, begins, character_width};
+ghost use Rattle.go_scan.specs.Reach.{run_length};
+ghost use Rattle.go_scan.specs.Runs.{allows, run_step};
+
+use bstr::decode_utf8;
+use unicode::properties::{GeneralCategory, GeneralCategoryGroup};
+
+/// What a run of characters may hold.
+#[derive(Clone, Copy)]
+pub enum Run {
+    /// Letters and digits, as in a name.
+    Name,
+    /// Letters, digits and `.`, as in a numeral.
+    Numeral,
+}
+
+/// Whether a character is a letter: of the categories Lu, Ll, Lt, Lm or Lo, or `_`.
+pub fn is_letter(c: char) -> bool
+    ensures { result ≡ is_letter c }
+{
+    c == '_' || GeneralCategoryGroup::Letter.contains(GeneralCategory::for_char(c))
+}
+
+/// Whether a character is a digit: of the category Nd.
+pub fn is_digit(c: char) -> bool
+    ensures { result ≡ is_digit c }
+{
+    GeneralCategory::for_char(c) == GeneralCategory::DecimalNumber
+}
+
+/// Whether a run may hold a character.
+pub fn allows(run: Run, c: char) -> bool
+    ensures { result ≡ allows run c }
+{
+    match run {
+        Run::Name => is_letter(c) || is_digit(c),
+        Run::Numeral => c == '.' || is_letter(c) || is_digit(c),
+    }
+}
+
+/// Whether a letter begins a text.
+pub fn begins_with_letter(text: &[u8]) -> bool
+    ensures { result ≡ begins is_letter text.now }
+{
+    match decode_utf8(text) {
+        (Some(c), _) => is_letter(c),
+        (None, _) => false,
+    }
+}
+
+/// The bytes of the character at the head of a text, where a run may hold it.
+fn run_step(run: Run, text: &[u8]) -> Option<usize>
+    ensures { result ≡ run_step (allows run) text.now }
+{
+    match decode_utf8(text) {
+        (Some(c), width) if allows(run, c) => Some(width),
+        _ => None,
+    }
+}
+
+/// The bytes of the longest run at the head of a text.
+pub fn run_length(run: Run, text: &[u8]) -> usize
+    ensures { result ≡ run_length (allows run) 0 text.now }
+{
+    let mut at = 0;
+    while let Some(width) = run_step(run, &text[at..]) {
+        at += width;
+    }
+    at
+}
