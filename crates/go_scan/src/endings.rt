@@ -11,6 +11,7 @@ pub struct Ending {
 }
 
 /// The bytes of a text before its first newline.
+#[tactic(auto, using(crate::proofs::Steps::line_length_steps))]
 pub fn line_length(text: &[u8]) -> usize
     ensures { result ≡ line_length text.now }
 {
@@ -23,6 +24,7 @@ pub fn line_length(text: &[u8]) -> usize
 }
 
 /// How far a general comment reaches, behind its `/*`.
+#[tactic(auto, using(crate::proofs::Steps::comment_ending_steps))]
 pub fn comment_ending(text: &[u8]) -> Ending
     ensures { result ≡ comment_ending false text.now }
 {
@@ -43,6 +45,7 @@ pub fn comment_ending(text: &[u8]) -> Ending
 }
 
 /// How far a rune or an interpreted string reaches, behind its quote.
+#[tactic(auto, using(crate::proofs::Steps::quoted_ending_steps))]
 pub fn quoted_ending(quote: u8, text: &[u8]) -> Ending
     ensures { result ≡ quoted_ending quote false text.now }
 {
@@ -69,6 +72,7 @@ pub fn quoted_ending(quote: u8, text: &[u8]) -> Ending
 }
 
 /// How far a raw string reaches, behind its quote.
+#[tactic(auto, using(crate::proofs::Steps::raw_ending_steps))]
 pub fn raw_ending(text: &[u8]) -> Ending
     ensures { result ≡ raw_ending text.now }
 {

@@ -70,6 +70,7 @@ fn digits_of(text: &[u8]) -> &[u8]
 }
 
 /// Whether a text is digits of a base with single `_` between them.
+#[tactic(auto, using(crate::proofs::Steps::digits_after_steps))]
 fn are_digits(base: u8, text: &[u8]) -> bool
     ensures { result ≡ are_digits base text.now }
 {
