@@ -1,5 +1,5 @@
 -- Characters of source text. Go specification, "Source code representation".
-use Rattle.std.specs.Prelude.{ℕ, zero, suc, ◌-◌, List, [], ◌∷◌, Bool, false, Option, Some, None, ◌==◌, ◌&&◌, ◌||◌, not}
+use Rattle.std.specs.Prelude.{ℕ, zero, suc, ◌-◌, List, [], ◌∷◌, Bool, false, Option, Some, None, is_some, unwrap_or, ◌==◌, ◌&&◌, ◌||◌, not, if◌then◌else◌}
 use Rattle.std.specs.List.{list_all}
 use Rattle.bstr.specs.Utf8.{decoded}
 use Rattle.unicode.specs.GeneralCategory.{general_category, general_category_eq}
@@ -32,21 +32,21 @@ abbrev pub passes : (ℕ → Bool) → Option ℕ → Bool
 passes test None = false
 passes test (Some c) = test c
 
--- whether a text begins with a character that passes
-abbrev pub begins : (ℕ → Bool) → List ℕ → Bool
-begins test text = passes test (decoded text).char
+-- the number of bytes of the character at the head of a text, where it passes
+abbrev pub passing : (ℕ → Bool) → List ℕ → Option ℕ
+passing test text = if passes test (decoded text).char then Some (decoded text).size else None
 
--- The rests of a text at which its parts begin. `width` is the number of bytes of the part at the head of a text, and
--- `left` is the number of bytes that are left of a part that began before.
-abbrev pub rests : (List ℕ → ℕ) → ℕ → List ℕ → List (List ℕ)
-rests width left [] = []
-rests width zero (byte ∷ bytes) = (byte ∷ bytes) ∷ rests width (width (byte ∷ bytes) - 1) bytes
-rests width (suc left) (byte ∷ bytes) = rests width left bytes
+-- The rests of a text at which its parts begin. `step` gives the number of bytes of the part at the head of a text; where
+-- none stands there, one byte is passed. `left` bytes are left of a part that began before.
+abbrev pub rests : (List ℕ → Option ℕ) → ℕ → List ℕ → List (List ℕ)
+rests step left [] = []
+rests step zero (byte ∷ bytes) = (byte ∷ bytes) ∷ rests step (unwrap_or (step (byte ∷ bytes)) 1 - 1) bytes
+rests step (suc left) (byte ∷ bytes) = rests step left bytes
 
--- the number of bytes of the character at the head of a text
-abbrev pub character_width : List ℕ → ℕ
-character_width text = (decoded text).size
+-- whether a text is parts alone
+abbrev pub are_parts : (List ℕ → Option ℕ) → List ℕ → Bool
+are_parts step text = list_all (λ rest. is_some (step rest)) (rests step 0 text)
 
 -- whether a text is characters that pass
 abbrev pub are_characters : (ℕ → Bool) → List ℕ → Bool
-are_characters test text = list_all (λ rest. begins test rest) (rests character_width 0 text)
+are_characters test text = are_parts (passing test) text

@@ -119,10 +119,10 @@ character text = item_of (decoded text).size false (if_passes is_source_characte
 abbrev pub item : ℕ → List ℕ → Option Item
 item quote text = if first text == 92 then escape quote (drop 1 text) else character text
 
--- where nothing stands, one byte is passed
-abbrev pub width_of : Option Item → ℕ
-width_of None = 1
-width_of (Some it) = it.width
+-- the number of its bytes
+abbrev pub width_of : Option Item → Option ℕ
+width_of None = None
+width_of (Some it) = Some it.width
 
 -- the rests of a text at which its characters and escapes begin
 abbrev pub item_rests : (List ℕ → Option Item) → List ℕ → List (List ℕ)

@@ -5,7 +5,7 @@ use Rattle.go_ast.specs.declared.token.Kind.{Kind}
 use Rattle.go_ast.specs.declared.token.Kind.TheVariants as kinds
 use Rattle.go_base.specs.declared.rule.Rule.{Rule}
 use Rattle.go_base.specs.declared.rule.Rule.TheVariants as rules
-use Rattle.go_ast.specs.Characters.{is_letter, is_name_character, is_numeral_character, begins, are_characters}
+use Rattle.go_ast.specs.Characters.{is_letter, is_name_character, is_numeral_character, passing, are_characters}
 use Rattle.go_ast.specs.Literals.{Item, first, second, is_integer, item, character, item_rests, first_bad}
 use Rattle.go_ast.specs.Marks.{mark_kind, word_kind}
 
@@ -101,7 +101,7 @@ abbrev pub is_of : Class → List ℕ → Bool
 is_of Space text = length text == 1
 is_of LineComment text = list_all (λ byte. not (byte == 10)) text
 is_of Mark text = is_some (mark_kind text)
-is_of Word text = begins is_letter text && are_characters is_name_character text
+is_of Word text = is_some (passing is_letter text) && are_characters is_name_character text
 is_of Numeral text = are_characters is_numeral_character text
 is_of class text = is_within (extent class text)
 

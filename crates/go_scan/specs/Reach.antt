@@ -1,16 +1,15 @@
 -- How far the longest pieces reach, from left to right.
 use Rattle.std.specs.Prelude.{ℕ, zero, suc, ◌+◌, ◌-◌, ◌*◌, ◌^◌, List, [], ◌∷◌, Bool, true, false, Option, Some, None, is_some, ◌==◌, ◌&&◌, not, nat_lt, if◌then◌else◌}
-use Rattle.go_ast.specs.Characters.{begins, character_width}
+use Rattle.std.specs.Option.{option_map_or}
 use Rattle.go_ast.specs.Literals.{first, second}
 use Rattle.go_ast.specs.Marks.{mark_of_one, mark_of_two, mark_of_three}
 use Rattle.go_scan.specs.declared.endings.Ending.{Ending}
 
--- the bytes of the longest run of characters that pass; `left` bytes are left of one that began before
-abbrev pub run_length : (ℕ → Bool) → ℕ → List ℕ → ℕ
-run_length test left [] = 0
-run_length test (suc left) (byte ∷ bytes) = 1 + run_length test left bytes
-run_length test zero (byte ∷ bytes) =
-    if begins test (byte ∷ bytes) then 1 + run_length test (character_width (byte ∷ bytes) - 1) bytes else 0
+-- the bytes of the longest run of parts; `left` bytes are left of one that began before
+abbrev pub run_length : (List ℕ → Option ℕ) → ℕ → List ℕ → ℕ
+run_length step left [] = 0
+run_length step (suc left) (byte ∷ bytes) = 1 + run_length step left bytes
+run_length step zero (byte ∷ bytes) = option_map_or (λ width. 1 + run_length step (width - 1) bytes) (step (byte ∷ bytes)) 0
 
 abbrev pub third : List ℕ → ℕ
 third [] = 0

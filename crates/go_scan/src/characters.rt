@@ -1,9 +1,9 @@
 //! Letters, digits, and runs of them. Go specification, "Letters and digits".
 
-ghost use Rattle.std.specs.Prelude.{◌≡◌, Some, None, ◌-◌, if◌then◌else◌};
-ghost use Rattle.go_ast.specs.Characters.{is_letter, is_digit, begins, character_width};
+ghost use Rattle.std.specs.Prelude.{◌≡◌, is_some};
+ghost use Rattle.go_ast.specs.Characters.{is_letter, is_digit, passing};
 ghost use Rattle.go_scan.specs.Reach.{run_length};
-ghost use Rattle.go_scan.specs.Runs.{allows, run_step};
+ghost use Rattle.go_scan.specs.Runs.{allows};
 
 use bstr::decode_utf8;
 use unicode::properties::{GeneralCategory, GeneralCategoryGroup};
@@ -43,7 +43,7 @@ pub fn allows(run: Run, c: char) -> bool
 
 /// Whether a letter begins a text.
 pub fn begins_with_letter(text: &[u8]) -> bool
-    ensures { result ≡ begins is_letter text.now }
+    ensures { result ≡ is_some (passing is_letter text.now) }
 {
     match decode_utf8(text) {
         (Some(c), _) => is_letter(c),
@@ -53,7 +53,7 @@ pub fn begins_with_letter(text: &[u8]) -> bool
 
 /// The bytes of the character at the head of a text, where a run may hold it.
 fn run_step(run: Run, text: &[u8]) -> Option<usize>
-    ensures { result ≡ run_step (allows run) text.now }
+    ensures { result ≡ passing (allows run) text.now }
 {
     match decode_utf8(text) {
         (Some(c), width) if allows(run, c) => Some(width),
@@ -63,7 +63,7 @@ fn run_step(run: Run, text: &[u8]) -> Option<usize>
 
 /// The bytes of the longest run at the head of a text.
 pub fn run_length(run: Run, text: &[u8]) -> usize
-    ensures { result ≡ run_length (allows run) 0 text.now }
+    ensures { result ≡ run_length (passing (allows run)) 0 text.now }
 {
     let mut at = 0;
     while let Some(width) = run_step(run, &text[at..]) {
