@@ -113,8 +113,9 @@ pub fn int_value(bytes: &[u8]) -> Option<i128>
     ensures { result ≡ option_map (λ value. pos value) (limited (int_value bytes.now)) }
 {
     let base = base_of(bytes);
+    let digits = digits_of(bytes);
     let mut value: u128 = 0;
-    for byte in digits_of(bytes) {
+    for byte in digits {
         if *byte != b'_' {
             value = with_digit(value, base, digit_value(*byte))?;
         }

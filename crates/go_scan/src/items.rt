@@ -34,9 +34,12 @@ fn fixed_digits(base: u8, count: usize, text: &[u8]) -> Option<u32>
     requires count { count ≤ 8 }
     ensures { result ≡ fixed_digits base count 0 text.now }
 {
+    if text.len() < count {
+        return None;
+    }
     let mut value = 0;
     for index in 0..count {
-        let digit = digit_value(*text.get(index)?);
+        let digit = digit_value(text[index]);
         if digit >= base {
             return None;
         }
