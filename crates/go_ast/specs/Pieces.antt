@@ -156,21 +156,18 @@ abbrev pub rune_fault : List ℕ → Option Fault
 rune_fault text =
     or_else (bad_item 39 text) (if length (item_rests (item 39) text) == 3 then None else at_start rules.BadRuneLiteral)
 
-abbrev pub fault_of_class : Class → List ℕ → Option Fault
-fault_of_class LineComment text = bad_character text
-fault_of_class GeneralComment text =
-    if is_closed (extent GeneralComment text) then bad_character text else at_start rules.CommentNotClosed
-fault_of_class Numeral text = if is_integer text then None else at_start rules.NotAnIntegerLiteral
-fault_of_class RuneLiteral text =
-    if is_closed (extent RuneLiteral text) then rune_fault text else at_start rules.BadRuneLiteral
-fault_of_class StringLiteral text =
-    if is_closed (extent StringLiteral text) then bad_item 34 text else at_start rules.StringLiteralNotClosed
-fault_of_class RawLiteral text =
-    if is_closed (extent RawLiteral text) then bad_character text else at_start rules.StringLiteralNotClosed
-fault_of_class _ text = None
+-- the fault of a piece of this class, which has its end or not
+abbrev pub fault_of_class : Class → Bool → List ℕ → Option Fault
+fault_of_class LineComment closed text = bad_character text
+fault_of_class GeneralComment closed text = if closed then bad_character text else at_start rules.CommentNotClosed
+fault_of_class Numeral closed text = if is_integer text then None else at_start rules.NotAnIntegerLiteral
+fault_of_class RuneLiteral closed text = if closed then rune_fault text else at_start rules.BadRuneLiteral
+fault_of_class StringLiteral closed text = if closed then bad_item 34 text else at_start rules.StringLiteralNotClosed
+fault_of_class RawLiteral closed text = if closed then bad_character text else at_start rules.StringLiteralNotClosed
+fault_of_class _ closed text = None
 
 abbrev pub fault_of : List ℕ → Option Fault
-fault_of text = fault_of_class (class_of text) text
+fault_of text = fault_of_class (class_of text) (is_closed (extent (class_of text) text)) text
 
 -- the rule that is broken where no piece begins
 abbrev pub stray_rule : List ℕ → Rule

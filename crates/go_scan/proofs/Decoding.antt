@@ -17,37 +17,37 @@ same_decoded n m b c d e b' c' d' e' ch is fits pb pc pd pe =
     let none : ((k : ℕ) → decoded_by n b c d e ≡ bad k → decoded_by m b' c' d' e' ≡ decoded_by n b c d e) = λ k r. none_some _ _ (ap (λ p. p.char) r) is in
     ⊎_elim (λ h. none 0 h.1) (λ s1.
     ⊎_elim (λ h.
-        let size : (decoded_by n b c d e).size ≡ 1 = ap (λ p. p.size) h.2 in
-        let eb : b' ≡ b = pb (omega arith) in
-        value-1 m b' c' d' e' (omega arith, omega arith) ∙ ap (λ x. good x 1) eb ∙ sym h.2) (λ s2.
+    let size : (decoded_by n b c d e).size ≡ 1 = ap (λ p. p.size) h.2 in
+    let eb : b' ≡ b = pb (omega arith) in
+    value-1 m b' c' d' e' (omega arith, omega arith) ∙ ap (λ x. good x 1) eb ∙ sym h.2) (λ s2.
     ⊎_elim (λ h. none 1 h.3) (λ s3.
     ⊎_elim (λ h. none 1 h.2) (λ s4.
     ⊎_elim (λ h. none 1 h.4) (λ s5.
     ⊎_elim (λ h. none 1 h.4) (λ s6.
     ⊎_elim (λ h.
-        let size : (decoded_by n b c d e).size ≡ 2 = ap (λ p. p.size) h.4 in
-        let eb : b' ≡ b = pb (omega arith) in
-        let ec : c' ≡ c = pc (omega arith) in
-        value-6 m b' c' d' e' (omega arith, omega arith, omega arith, ap (λ x. second x c') eb ∙ ap (λ x. second b x) ec ∙ h.3)
-        ∙ ap (λ x. good (code_of_2 x c') 2) eb ∙ ap (λ x. good (code_of_2 b x) 2) ec ∙ sym h.4) (λ s7.
+    let size : (decoded_by n b c d e).size ≡ 2 = ap (λ p. p.size) h.4 in
+    let eb : b' ≡ b = pb (omega arith) in
+    let ec : c' ≡ c = pc (omega arith) in
+    value-6 m b' c' d' e' (omega arith, omega arith, omega arith, ap (λ x. second x c') eb ∙ ap (λ x. second b x) ec ∙ h.3)
+    ∙ ap (λ x. good (code_of_2 x c') 2) eb ∙ ap (λ x. good (code_of_2 b x) 2) ec ∙ sym h.4) (λ s7.
     ⊎_elim (λ h. none 2 h.5) (λ s8.
     ⊎_elim (λ h. none 2 h.5) (λ s9.
     ⊎_elim (λ h.
-        let size : (decoded_by n b c d e).size ≡ 3 = ap (λ p. p.size) h.5 in
-        let eb : b' ≡ b = pb (omega arith) in
-        let ec : c' ≡ c = pc (omega arith) in
-        let ed : d' ≡ d = pd (omega arith) in
-        value-9 m b' c' d' e' (omega arith, omega arith, omega arith, ap (λ x. second x c') eb ∙ ap (λ x. second b x) ec ∙ h.3, ap continues ed ∙ h.4)
-        ∙ ap (λ x. good (code_of_3 x c' d') 3) eb ∙ ap (λ x. good (code_of_3 b x d') 3) ec ∙ ap (λ x. good (code_of_3 b c x) 3) ed ∙ sym h.5) (λ s10.
+    let size : (decoded_by n b c d e).size ≡ 3 = ap (λ p. p.size) h.5 in
+    let eb : b' ≡ b = pb (omega arith) in
+    let ec : c' ≡ c = pc (omega arith) in
+    let ed : d' ≡ d = pd (omega arith) in
+    value-9 m b' c' d' e' (omega arith, omega arith, omega arith, ap (λ x. second x c') eb ∙ ap (λ x. second b x) ec ∙ h.3, ap continues ed ∙ h.4)
+    ∙ ap (λ x. good (code_of_3 x c' d') 3) eb ∙ ap (λ x. good (code_of_3 b x d') 3) ec ∙ ap (λ x. good (code_of_3 b c x) 3) ed ∙ sym h.5) (λ s10.
     ⊎_elim (λ h. none 3 h.6) (λ s11.
     ⊎_elim (λ h. none 3 h.6) (λ h.
-        let size : (decoded_by n b c d e).size ≡ 4 = ap (λ p. p.size) h.6 in
-        let eb : b' ≡ b = pb (omega arith) in
-        let ec : c' ≡ c = pc (omega arith) in
-        let ed : d' ≡ d = pd (omega arith) in
-        let ee : e' ≡ e = pe (omega arith) in
-        value-12 m b' c' d' e' (omega arith, omega arith, omega arith, ap (λ x. second x c') eb ∙ ap (λ x. second b x) ec ∙ h.3, ap continues ed ∙ h.4, ap continues ee ∙ h.5)
-        ∙ ap (λ x. good (code_of_4 x c' d' e') 4) eb ∙ ap (λ x. good (code_of_4 b x d' e') 4) ec ∙ ap (λ x. good (code_of_4 b c x e') 4) ed ∙ ap (λ x. good (code_of_4 b c d x) 4) ee ∙ sym h.6)
+    let size : (decoded_by n b c d e).size ≡ 4 = ap (λ p. p.size) h.6 in
+    let eb : b' ≡ b = pb (omega arith) in
+    let ec : c' ≡ c = pc (omega arith) in
+    let ed : d' ≡ d = pd (omega arith) in
+    let ee : e' ≡ e = pe (omega arith) in
+    value-12 m b' c' d' e' (omega arith, omega arith, omega arith, ap (λ x. second x c') eb ∙ ap (λ x. second b x) ec ∙ h.3, ap continues ed ∙ h.4, ap continues ee ∙ h.5)
+    ∙ ap (λ x. good (code_of_4 x c' d' e') 4) eb ∙ ap (λ x. good (code_of_4 b x d' e') 4) ec ∙ ap (λ x. good (code_of_4 b c x e') 4) ed ∙ ap (λ x. good (code_of_4 b c d x) 4) ee ∙ sym h.6)
     s11) s10) s9) s8) s7) s6) s5) s4) s3) s2) s1) (decoded_by-shape n b c d e)
 
 -- a character in a text that agrees on its bytes
@@ -88,10 +88,10 @@ passing-local test = record {
   least = λ text width e. let h = passing-some test (decoded text).char (decoded text).size width e in omega (arith, h.1, (decoded-bounds text h.0.0 h.0.1).0);
   within = λ text width e. let h = passing-some test (decoded text).char (decoded text).size width e in omega (arith, h.1, (decoded-bounds text h.0.0 h.0.1).1);
   grows = λ text more width e.
-    let h = passing-some test (decoded text).char (decoded text).size width e in
-    ap (λ d. passing_of test d.char d.size) (decoded-grows text more h.0.0 h.0.1) ∙ e;
+      let h = passing-some test (decoded text).char (decoded text).size width e in
+      ap (λ d. passing_of test d.char d.size) (decoded-grows text more h.0.0 h.0.1) ∙ e;
   shrinks = λ text width e.
-    let h = passing-some test (decoded text).char (decoded text).size width e in
-    ap (λ n. passing_of test (decoded (take n text)).char (decoded (take n text)).size) (sym h.1)
-    ∙ ap (λ d. passing_of test d.char d.size) (decoded-shrinks text h.0.0 h.0.1) ∙ e;
+      let h = passing-some test (decoded text).char (decoded text).size width e in
+      ap (λ n. passing_of test (decoded (take n text)).char (decoded (take n text)).size) (sym h.1)
+      ∙ ap (λ d. passing_of test d.char d.size) (decoded-shrinks text h.0.0 h.0.1) ∙ e;
 }

@@ -15,7 +15,7 @@ pub digits_value-least : (base high : ℕ) (text : List ℕ) → 1 ≤ base → 
 digits_value-least base high [] h = omega arith
 digits_value-least base high (byte ∷ text) h =
     split (byte == 95) (digits_value-least base high text h)
-        (omega (arith, digits_value-least base (high * base + digit_value byte) text h, le-mul_of_pos_right {m = base} high (omega arith)))
+    (omega (arith, digits_value-least base (high * base + digit_value byte) text h, le-mul_of_pos_right {m = base} high (omega arith)))
   where
     split : (b : Bool) → high ≤ digits_value base high text → high ≤ digits_value base (high * base + digit_value byte) text
         → high ≤ (if b then digits_value base high text else digits_value base (high * base + digit_value byte) text)
@@ -108,4 +108,4 @@ pub int-over : (base value : ℕ) (digits : List ℕ) (i : ℕ) → 1 ≤ base �
 int-over base value digits i one h e reached none =
     ap limited (reached ∙ int-digit base value digits i h e)
     ∙ limited-none (value * base + digit_value (get_or digits i 0)) (digits_value base (value * base + digit_value (get_or digits i 0)) (drop (i + 1) digits)) none
-        (digits_value-least base (value * base + digit_value (get_or digits i 0)) (drop (i + 1) digits) one)
+    (digits_value-least base (value * base + digit_value (get_or digits i 0)) (drop (i + 1) digits) one)

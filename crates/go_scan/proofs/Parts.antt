@@ -29,10 +29,10 @@ run-step step (byte ∷ text) zero local e = absurd (omega (arith, local.least (
 run-step step (byte ∷ text) (suc left) local e =
     let inside : left ≤ length text = omega (arith, local.within (byte ∷ text) (suc left) e) in
     let turn : run_length step 0 (byte ∷ text) ≡ 1 + run_length step (suc left - 1) text =
-        ap (λ o. option_map_or (λ width. 1 + run_length step (width - 1) text) o 0) e in
+    ap (λ o. option_map_or (λ width. 1 + run_length step (width - 1) text) o 0) e in
     let less : suc left - 1 ≡ left = omega arith in
     let skips : run_length step (suc left - 1) text ≡ left + run_length step 0 (drop left text) =
-        ap (λ n. run_length step n text) less ∙ run-skip step left text inside in
+    ap (λ n. run_length step n text) less ∙ run-skip step left text inside in
     omega arith
 
 pub run-stop : (step : List ℕ → Option ℕ) (text : List ℕ) → step text ≡ None → run_length step 0 text ≡ 0

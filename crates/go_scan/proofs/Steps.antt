@@ -51,8 +51,13 @@ pub digits_value-end : (base high : ℕ) (text : List ℕ) (i : ℕ) → length 
 digits_value-end base high text i h = ap (digits_value base high) (drop-end text i h)
 
 pub ruleset line_length_steps = (line_length-step, line_length-end)
+
 pub ruleset comment_ending_steps = (comment_ending-step, comment_ending-end)
+
 pub ruleset quoted_ending_steps = (quoted_ending-step, quoted_ending-end)
+
 pub ruleset raw_ending_steps = (raw_ending-step, raw_ending-end)
+
 pub ruleset digits_after_steps = (digits_after-step, digits_after-end)
+
 pub ruleset digits_value_steps = (digits_value-step, digits_value-end)

@@ -1,9 +1,10 @@
 //! Faults inside pieces.
 
-ghost use Rattle.std.specs.Prelude.{◌≡◌, option_map, Some, None};
-ghost use Rattle.go_ast.specs.Pieces.{bad_rule, stray_rule, fault_at};
+ghost use Rattle.std.specs.Prelude.{◌≡◌, option_map, Some, None, IfOk, IfErr, length};
+ghost use Rattle.go_ast.specs.Pieces.{bad_rule, stray_rule, fault_at, rune_fault, at_start, fault_of_class};
+ghost use Rattle.go_ast.specs.Literals.{first_bad, item_rests};
+ghost use Rattle.go_scan.specs.Reading.{reading, view_fault, view_class};
 
-use crate::characters::Run;
 use crate::integers::is_integer;
 use crate::items::{Reading, character, read};
 use crate::marks::first;
@@ -18,7 +19,11 @@ pub struct Fault {
 }
 
 /// How many items a text holds, or the first fault of one.
-fn count_items(how: Reading, text: &[u8]) -> Result<usize, Fault> {
+fn count_items(how: Reading, text: &[u8]) -> Result<usize, Fault>
+    ensures none { IfOk result (λ count. first_bad (reading how) text.now ≡ None) }
+    ensures count { IfOk result (λ count. length (item_rests (reading how) text.now) ≡ count) }
+    ensures fault { IfErr result (λ fault. fault_at text.now (first_bad (reading how) text.now) ≡ Some (view_fault fault)) }
+{
     let mut at = 0;
     let mut count = 0;
     while at < text.len() {
@@ -58,12 +63,16 @@ pub fn stray_rule(rest: &[u8]) -> Rule
 }
 
 /// The first fault of an item.
-fn bad_item(how: Reading, text: &[u8]) -> Option<Fault> {
+fn bad_item(how: Reading, text: &[u8]) -> Option<Fault>
+    ensures { option_map view_fault result ≡ fault_at text.now (first_bad (reading how) text.now) }
+{
     count_items(how, text).err()
 }
 
 /// The fault of a rune literal that is closed: it holds one item between its quotes.
-fn rune_fault(text: &[u8]) -> Option<Fault> {
+fn rune_fault(text: &[u8]) -> Option<Fault>
+    ensures { option_map view_fault result ≡ rune_fault text.now }
+{
     match count_items(Reading::Quoted(b'\''), text) {
         Ok(3) => None,
         Ok(_) => at_start(Rule::BadRuneLiteral),
@@ -71,12 +80,17 @@ fn rune_fault(text: &[u8]) -> Option<Fault> {
     }
 }
 
-fn at_start(rule: Rule) -> Option<Fault> {
+/// A fault at the start of a piece.
+fn at_start(rule: Rule) -> Option<Fault>
+    ensures { option_map view_fault result ≡ at_start rule }
+{
     Some(Fault { at: 0, rule })
 }
 
 /// The fault of a piece, which is closed or not.
-pub fn fault_of(class: Class, closed: bool, text: &[u8]) -> Option<Fault> {
+pub fn fault_of(class: Class, closed: bool, text: &[u8]) -> Option<Fault>
+    ensures { option_map view_fault result ≡ fault_of_class (view_class class) closed text.now }
+{
     match class {
         Class::Space | Class::Mark | Class::Word => None,
         Class::LineComment => bad_item(Reading::Plain, text),

@@ -1,7 +1,7 @@
 //! The characters and escapes that runes and strings hold. Go specification, "Rune literals", "String literals".
 
 ghost use Rattle.std.specs.Prelude.{◌≡◌, ◌≤◌, ◌<◌, length, Some, None, IfSome, option_map, nat_lt};
-ghost use Rattle.go_ast.specs.Literals.{fixed_digits, named_escape, escape, character, item, if_passes, is_code_point};
+ghost use Rattle.go_ast.specs.Literals.{fixed_digits, named_escape, escape, character, item, if_passes, is_code_point, is_one_byte, item_of};
 ghost use Rattle.go_scan.specs.Reading.{view_item, reading};
 
 use crate::integers::digit_value;
@@ -55,6 +55,13 @@ fn code_point(value: Option<u32>) -> Option<u32>
     value.filter(|value| *value < 0xD800 || (0xDFFF < *value && *value < 0x11_0000))
 }
 
+/// A value that one byte holds.
+fn one_byte(value: Option<u32>) -> Option<u32>
+    ensures { result ≡ if_passes is_one_byte value }
+{
+    value.filter(|value| *value < 256)
+}
+
 /// What a letter behind a backslash stands for, in quotes of this byte.
 fn named_escape(quote: u8, letter: u8) -> Option<u32>
     ensures { result ≡ named_escape quote letter }
@@ -75,7 +82,9 @@ fn named_escape(quote: u8, letter: u8) -> Option<u32>
 }
 
 /// An item of these bytes, where it has a value.
-fn item_of(width: usize, is_byte: bool, value: Option<u32>) -> Option<Item> {
+fn item_of(width: usize, is_byte: bool, value: Option<u32>) -> Option<Item>
+    ensures { option_map view_item result ≡ item_of width is_byte value }
+{
     Some(Item {
         width,
         value: value?,
@@ -95,7 +104,7 @@ fn escape(quote: u8, text: &[u8]) -> Option<Item>
         b'0'..=b'7' => item_of(
             4,
             true,
-            fixed_digits(8, 3, text).filter(|value| *value < 256),
+            one_byte(fixed_digits(8, 3, text)),
         ),
         _ => item_of(2, false, named_escape(quote, *letter)),
     }

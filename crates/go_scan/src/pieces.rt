@@ -1,6 +1,9 @@
 //! The piece at the head of a text: white space, a comment or a token. Go specification, "Lexical elements".
 
-ghost use Rattle.std.specs.Prelude.{◌≡◌, ◌+◌, true, false, drop};
+ghost use Rattle.std.specs.Prelude.{◌≡◌, ◌≤◌, ◌+◌, ◌^◌, ◌<◌, true, false, length};
+ghost use Rattle.go_ast.specs.Pieces.{class_of, kind_of_class};
+ghost use Rattle.go_scan.specs.Reach.{ending};
+ghost use Rattle.go_scan.specs.Reading.{ending_of, view_class, behind};
 
 use crate::characters::{Run, begins_with_letter, run_length};
 use crate::endings::{Ending, comment_ending, line_length, quoted_ending, raw_ending};
@@ -33,7 +36,9 @@ pub struct Piece {
 }
 
 /// What a text may begin with.
-fn class_of(text: &[u8]) -> Class {
+fn class_of(text: &[u8]) -> Class
+    ensures { view_class result ≡ class_of text.now }
+{
     match (first(text), second(text)) {
         (b' ' | b'\t' | b'\r' | b'\n', _) => Class::Space,
         (b'/', b'/') => Class::LineComment,
@@ -47,14 +52,21 @@ fn class_of(text: &[u8]) -> Class {
     }
 }
 
-fn ending_behind(opening: usize, ending: Ending) -> Ending {
+/// An ending behind the bytes that open a piece.
+fn ending_behind(opening: usize, ending: Ending) -> Ending
+    requires { opening + ending.length < 2 ^ 64 }
+    ensures { result ≡ behind opening ending }
+{
     Ending {
         length: opening + ending.length,
         closed: ending.closed,
     }
 }
 
-fn whole(length: usize) -> Ending {
+/// The ending of a piece that needs no end.
+fn whole(length: usize) -> Ending
+    ensures { result ≡ ending length true }
+{
     Ending {
         length,
         closed: true,
@@ -62,7 +74,11 @@ fn whole(length: usize) -> Ending {
 }
 
 /// How far the longest piece of a class reaches, which begins a text that is not empty. No bytes where there is none.
-fn ending_of(class: Class, text: &[u8]) -> Ending {
+fn ending_of(class: Class, text: &[u8]) -> Ending
+    requires class { view_class class ≡ class_of text.now }
+    requires room { 1 ≤ length text.now }
+    ensures { result ≡ ending_of (view_class class) text.now }
+{
     match class {
         Class::Space => whole(1),
         Class::LineComment => whole(line_length(text)),
@@ -78,7 +94,9 @@ fn ending_of(class: Class, text: &[u8]) -> Ending {
 }
 
 /// The token that a piece is.
-fn kind_of(class: Class, text: &[u8]) -> Option<Kind> {
+fn kind_of(class: Class, text: &[u8]) -> Option<Kind>
+    ensures { result ≡ kind_of_class (view_class class) text.now }
+{
     match class {
         Class::Space | Class::LineComment | Class::GeneralComment => None,
         Class::Mark => mark_kind(text),

@@ -1,9 +1,10 @@
 //! The values of rune and string literals. Go specification, "Rune literals", "String literals".
 
-ghost use Rattle.std.specs.Prelude.{◌≡◌, IfOk};
-ghost use Rattle.go_ast.specs.Literals.{rune_value, string_value, inside};
+ghost use Rattle.std.specs.Prelude.{◌≡◌, ◌==◌, ◌++◌, not, IfOk, OnOk, Some, filter, flat_map};
+ghost use Rattle.go_ast.specs.Literals.{rune_value, string_value, inside, item, item_rests, bytes_of};
 ghost use Rattle.go_ast.specs.Pieces.{IsLiteral};
 ghost use Rattle.go_ast.specs.declared.token.Kind.TheVariants as kinds;
+ghost use Rattle.go_scan.specs.Reading.{view_item};
 
 use crate::items::{Item, Reading, read};
 use crate::marks::first;
@@ -32,7 +33,9 @@ fn inside(text: &[u8]) -> &[u8]
 }
 
 /// The bytes of a raw string between its quotes, without carriage returns.
-fn raw_value(alloc: Global, inner: &[u8]) -> Result<Vec<u8>, NoMemory> {
+fn raw_value(alloc: Global, inner: &[u8]) -> Result<Vec<u8>, NoMemory>
+    ensures { IfOk result (λ value. value.items ≡ filter (λ byte. not (byte == 13)) inner.now) }
+{
     let mut value = Vec::new(alloc);
     for byte in inner {
         if *byte != b'\r' {
@@ -43,29 +46,41 @@ fn raw_value(alloc: Global, inner: &[u8]) -> Result<Vec<u8>, NoMemory> {
 }
 
 /// Adds what an item puts in a string.
-fn push_item(value: &mut Vec<u8>, rest: &[u8], item: Item) -> Result<(), NoMemory> {
-    if item.is_byte {
-        value.push(item.value as u8)?;
+fn push_item(value: &mut Vec<u8>, rest: &[u8], found: Item) -> Result<(), NoMemory>
+    requires { item 34 rest.now ≡ Some (view_item found) }
+    ensures { OnOk result (value.new.items ≡ value.old.items ++ bytes_of rest.now (Some (view_item found))) }
+{
+    if found.is_byte {
+        value.push(found.value as u8)?;
     } else if first(rest) != b'\\' {
-        value.extend_from_slice(&rest[..item.width])?;
-    } else if let Some(c) = char::from_u32(item.value) {
+        value.extend_from_slice(&rest[..found.width])?;
+    } else if let Some(c) = char::from_u32(found.value) {
         let mut buffer = [0; 4];
         value.extend_from_slice(c.encode_utf8(&mut buffer).as_bytes())?;
     }
     Ok(())
 }
 
+/// Adds what the item at the head of a text puts in a string, and gives its bytes. A byte that begins no item, which no
+/// literal has, is passed.
+fn push_first(value: &mut Vec<u8>, rest: &[u8]) -> Result<usize, NoMemory> {
+    match read(Reading::Quoted(b'"'), rest) {
+        Some(found) => {
+            push_item(value, rest, found)?;
+            Ok(found.width)
+        }
+        None => Ok(1),
+    }
+}
+
 /// The bytes of an interpreted string between its quotes.
-fn interpreted_value(alloc: Global, inner: &[u8]) -> Result<Vec<u8>, NoMemory> {
+fn interpreted_value(alloc: Global, inner: &[u8]) -> Result<Vec<u8>, NoMemory>
+    ensures { IfOk result (λ value. value.items ≡ flat_map (λ rest. bytes_of rest (item 34 rest)) (item_rests (item 34) inner.now)) }
+{
     let mut value = Vec::new(alloc);
     let mut at = 0;
     while at < inner.len() {
-        let rest = &inner[at..];
-        let Some(item) = read(Reading::Quoted(b'"'), rest) else {
-            break;
-        };
-        push_item(&mut value, rest, item)?;
-        at += item.width;
+        at += push_first(&mut value, &inner[at..])?;
     }
     Ok(value)
 }

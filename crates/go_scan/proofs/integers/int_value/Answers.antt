@@ -12,11 +12,11 @@ returns-in_err-value c =
     let digits = c.digits_of-digits.result.now in
     let i = c.loop-byte.byte-index in
     let none : limited (c.loop-byte.value * base + digit_value (get_or digits i 0)) ≡ None =
-        ap (λ d. limited (c.loop-byte.value * base + d)) (sym c.digit_value.ensures) ∙ sym c.with_digit.ensures.value ∙ c.in_err-value.was in
+    ap (λ d. limited (c.loop-byte.value * base + d)) (sym c.digit_value.ensures) ∙ sym c.with_digit.ensures.value ∙ c.in_err-value.was in
     let over : limited (digits_value base 0 digits) ≡ None =
-        int-over base c.loop-byte.value digits i c.base_of-base.ensures.least c.loop-byte-test.true c.if-byte-ne95.true c.loop-byte.invariant.reached none in
+    int-over base c.loop-byte.value digits i c.base_of-base.ensures.least c.loop-byte-test.true c.if-byte-ne95.true c.loop-byte.invariant.reached none in
     let all : digits_value base 0 digits ≡ int_value c.args.bytes.now =
-        ap (λ b. digits_value b 0 digits) c.base_of-base.ensures.value ∙ ap (λ d. digits_value (base_of c.args.bytes.now) 0 d) c.digits_of-digits.ensures in
+    ap (λ b. digits_value b 0 digits) c.base_of-base.ensures.value ∙ ap (λ d. digits_value (base_of c.args.bytes.now) 0 d) c.digits_of-digits.ensures in
     c.from_residual.ensures ∙ ap (λ o. option_map (λ value. pos value) o) (sym over ∙ ap limited all)
 
 pub loop-byte-preserved : goal.loop-byte-preserved
@@ -25,18 +25,18 @@ loop-byte-preserved c =
     let digits = c.digits_of-digits.result.now in
     let i = c.loop-byte.byte-index in
     elim c.if-byte-ne95.branch [
-        then-byte-ne95+in_ok-value w ↦
-            let some : limited (c.loop-byte.value * base + digit_value (get_or digits i 0)) ≡ Some w.in_ok-value.value =
-                ap (λ d. limited (c.loop-byte.value * base + d)) (sym w.digit_value.ensures) ∙ sym w.with_digit.ensures.value ∙ w.in_ok-value.was in
-            let found = limited-some (c.loop-byte.value * base + digit_value (get_or digits i 0)) w.in_ok-value.value some in
-            record {
-              small = omega (arith, w.value-is, found.0, found.1);
-              reached = c.loop-byte.invariant.reached ∙ int-digit base c.loop-byte.value digits i c.loop-byte-test.true w.if-byte-ne95.true
-                  ∙ ap (λ v. digits_value base v (drop (i + 1) digits)) (sym (w.value-is ∙ found.0));
-            }
+      | then-byte-ne95+in_ok-value w ↦
+          let some : limited (c.loop-byte.value * base + digit_value (get_or digits i 0)) ≡ Some w.in_ok-value.value =
+          ap (λ d. limited (c.loop-byte.value * base + d)) (sym w.digit_value.ensures) ∙ sym w.with_digit.ensures.value ∙ w.in_ok-value.was in
+          let found = limited-some (c.loop-byte.value * base + digit_value (get_or digits i 0)) w.in_ok-value.value some in
+          record {
+            small = omega (arith, w.value-is, found.0, found.1);
+            reached = c.loop-byte.invariant.reached ∙ int-digit base c.loop-byte.value digits i c.loop-byte-test.true w.if-byte-ne95.true
+                ∙ ap (λ v. digits_value base v (drop (i + 1) digits)) (sym (w.value-is ∙ found.0));
+          }
       | else-byte-ne95 w ↦ record {
-          small = omega (arith, w.value-is, c.loop-byte.invariant.small);
-          reached = c.loop-byte.invariant.reached ∙ int-bar base c.loop-byte.value digits i c.loop-byte-test.true w.if-byte-ne95.false
-              ∙ ap (λ v. digits_value base v (drop (i + 1) digits)) (sym w.value-is);
-        }
+        small = omega (arith, w.value-is, c.loop-byte.invariant.small);
+        reached = c.loop-byte.invariant.reached ∙ int-bar base c.loop-byte.value digits i c.loop-byte-test.true w.if-byte-ne95.false
+            ∙ ap (λ v. digits_value base v (drop (i + 1) digits)) (sym w.value-is);
+      }
     ]

@@ -30,5 +30,5 @@ loop-index-preserved c =
     record {
       small = digit-fits c.loop-index.value c.args.base c.digit_value-digit.result c.loop-index.index c.loop-index.invariant.small c.requires.base c.if-digit-base.false;
       reached = c.loop-index.invariant.reached ∙ fixed-good c.args.base c.args.count c.loop-index.value c.args.text.now c.loop-index.index c.loop-index-test.true (omega arith) small
-        ∙ ap (λ n. fixed_digits c.args.base (c.args.count - (c.loop-index.index + 1)) (c.loop-index.value * c.args.base + n) (drop (c.loop-index.index + 1) c.args.text.now)) (sym c.digit_value-digit.ensures);
+          ∙ ap (λ n. fixed_digits c.args.base (c.args.count - (c.loop-index.index + 1)) (c.loop-index.value * c.args.base + n) (drop (c.loop-index.index + 1) c.args.text.now)) (sym c.digit_value-digit.ensures);
     }
