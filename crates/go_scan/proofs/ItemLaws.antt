@@ -1,7 +1,7 @@
 -- The items of runes and strings.
-use Rattle.std.proofs.Common.{◌≡◌, ◌⊎◌, ℕ, zero, suc, ◌+◌, ◌-◌, ◌*◌, ◌<◌, ◌≤◌, Bool, true, false, ◌==◌, ◌&&◌, ◌||◌, if◌then◌else◌, Option, Some, None, List, [], ◌∷◌, ◌++◌, length, take, drop, get_or, refl, ap, sym, ◌∙◌, subst, arith, nat_lt}
+use Rattle.std.proofs.Common.{◌≡◌, ◌⊎◌, ℕ, zero, suc, ◌+◌, ◌-◌, ◌*◌, ◌<◌, ◌≤◌, Bool, true, false, ◌==◌, ◌&&◌, ◌||◌, if◌then◌else◌, Option, Some, None, List, [], ◌∷◌, ◌++◌, length, take, drop, get_or, refl, ap, sym, ◌∙◌, subst, arith, nat_lt, eq-eqb, inl, inr}
 use Rattle.std.proofs.lemmas.Bool.Decides.{nat_tests}
-use Rattle.std.specs.Char.{digit_value}
+use Rattle.std.specs.Char.{digit_value, InScalarRange}
 use Rattle.bstr.specs.Utf8.{decoded}
 use Rattle.go_ast.specs.Characters.{is_source_character}
 use Rattle.go_ast.specs.Literals.{Item, first, item_of, if_passes, fixed_digits, is_code_point, is_one_byte, named_escape, escape, character, item}
@@ -158,3 +158,26 @@ reading-good (Quoted quote) text it e = item-good quote text it e
 pub view-good : (how : Reading) (text : List ℕ) (result : Option CodeItem) → option_map view_item result ≡ reading how text → IfSome result (λ it. (1 ≤ it.width) × (it.width ≤ length text))
 view-good how text None e = tt
 view-good how text (Some it) e = let good = reading-good how text (view_item it) (sym e) in (good.least, good.within)
+
+-- an item of a string that names a byte, and one that names a code point
+pub item-byte : (text : List ℕ) (it : Item) → item 34 text ≡ Some it → it.is_byte ≡ true → it.value < 256
+item-byte [] it e b = absurd cc
+item-byte (byte ∷ text) it e b =
+    if_case (byte == 92) _ _ _ e
+        (λ e. (escape-is 34 text it e).one_byte b)
+        (λ e. never it.is_byte b (item_of-some (decoded (byte ∷ text)).size false (if_passes is_source_character (decoded (byte ∷ text)).char) it e).byte_is)
+
+pub item-point : (text : List ℕ) (it : Item) → item 34 text ≡ Some it → first text ≡ 92 → it.is_byte ≡ false → is_code_point it.value ≡ true
+item-point [] it e h b = absurd cc
+item-point (byte ∷ text) it e h b =
+    let t : byte == 92 ≡ true = eq-eqb byte 92 h in
+    (escape-is 34 text it (sym (ap (λ v. if v then escape 34 text else character (byte ∷ text)) t) ∙ e)).code_point (omega arith) b
+
+pub point-scalar : (value : ℕ) → is_code_point value ≡ true → InScalarRange value
+point-scalar value t = split (nat_lt value 0xD800) refl
+  where
+    split : (b : Bool) → nat_lt value 0xD800 ≡ b → InScalarRange value
+    split true low = inl (grind (arith, nat_tests))
+    split false high =
+        let more : nat_lt 0xDFFF value && nat_lt value 0x110000 ≡ true = sym (ap (λ b. b || (nat_lt 0xDFFF value && nat_lt value 0x110000)) high) ∙ t in
+        inr (grind (arith, nat_tests), grind (arith, nat_tests))

@@ -28,13 +28,13 @@ fn count_items(how: Reading, text: &[u8]) -> Result<usize, Fault>
     let mut count = 0;
     while at < text.len() {
         let rest = &text[at..];
-        match read(how, rest) {
-            Some(item) => at += item.width,
-            None => return Err(Fault {
+        let Some(item) = read(how, rest) else {
+            return Err(Fault {
                 at,
                 rule: bad_rule(rest),
-            }),
-        }
+            });
+        };
+        at += item.width;
         count += 1;
     }
     Ok(count)

@@ -1,7 +1,7 @@
 //! The values of rune and string literals. Go specification, "Rune literals", "String literals".
 
-ghost use Rattle.std.specs.Prelude.{◌≡◌, ◌==◌, ◌++◌, not, IfOk, OnOk, Some, filter, flat_map};
-ghost use Rattle.go_ast.specs.Literals.{rune_value, string_value, inside, item, item_rests, bytes_of};
+ghost use Rattle.std.specs.Prelude.{◌≡◌, ◌≤◌, ◌==◌, drop, length, unwrap_or, ◌++◌, not, IfOk, OnOk, Some, filter, flat_map};
+ghost use Rattle.go_ast.specs.Literals.{rune_value, string_value, inside, item, item_rests, bytes_of, width_of};
 ghost use Rattle.go_ast.specs.Pieces.{IsLiteral};
 ghost use Rattle.go_ast.specs.declared.token.Kind.TheVariants as kinds;
 ghost use Rattle.go_scan.specs.Reading.{view_item};
@@ -16,9 +16,19 @@ pub fn rune_value(bytes: &[u8]) -> u32
     requires { IsLiteral kinds.Rune bytes.now }
     ensures { result ≡ rune_value bytes.now }
 {
-    match bytes {
-        [_, behind @ ..] => read(Reading::Quoted(b'\''), behind).map_or(0, |item| item.value),
-        [] => 0,
+    match read(Reading::Quoted(b'\''), behind_first(bytes)) {
+        Some(item) => item.value,
+        None => 0,
+    }
+}
+
+/// What stands behind the first byte of a text.
+fn behind_first(text: &[u8]) -> &[u8]
+    ensures { result.now ≡ drop 1 text.now }
+{
+    match text {
+        [_, behind @ ..] => behind,
+        [] => text,
     }
 }
 
@@ -33,6 +43,7 @@ fn inside(text: &[u8]) -> &[u8]
 }
 
 /// The bytes of a raw string between its quotes, without carriage returns.
+#[tactic(auto, using(crate::proofs::RestLaws::raw_turns))]
 fn raw_value(alloc: Global, inner: &[u8]) -> Result<Vec<u8>, NoMemory>
     ensures { IfOk result (λ value. value.items ≡ filter (λ byte. not (byte == 13)) inner.now) }
 {
@@ -63,7 +74,13 @@ fn push_item(value: &mut Vec<u8>, rest: &[u8], found: Item) -> Result<(), NoMemo
 
 /// Adds what the item at the head of a text puts in a string, and gives its bytes. A byte that begins no item, which no
 /// literal has, is passed.
-fn push_first(value: &mut Vec<u8>, rest: &[u8]) -> Result<usize, NoMemory> {
+fn push_first(value: &mut Vec<u8>, rest: &[u8]) -> Result<usize, NoMemory>
+    requires { 1 ≤ length rest.now }
+    ensures least { IfOk result (λ width. 1 ≤ width) }
+    ensures within { IfOk result (λ width. width ≤ length rest.now) }
+    ensures width { IfOk result (λ width. width ≡ unwrap_or (width_of (item 34 rest.now)) 1) }
+    ensures pushed { OnOk result (value.new.items ≡ value.old.items ++ bytes_of rest.now (item 34 rest.now)) }
+{
     match read(Reading::Quoted(b'"'), rest) {
         Some(found) => {
             push_item(value, rest, found)?;
