@@ -1,3 +1,4 @@
 pub mod Reach
 pub mod Runs
 pub mod Reading
+pub mod Scanning

@@ -1,6 +1,8 @@
 //! The scan of a whole file.
 
-ghost use Rattle.std.specs.Prelude.{◌≡◌, ◌≤◌, length, IfOk};
+ghost use Rattle.std.specs.Prelude.{◌≡◌, ◌+◌, ◌++◌, ◌<◌, ◌≤◌, ◌^◌, length, IfOk, OnOk};
+ghost use Rattle.go_ast.specs.Lexical.{ends_line, inserted, tokens_of, place_after, mark_width, IsTokenList, IsFault};
+ghost use Rattle.go_scan.specs.Scanning.{view_place};
 
 use crate::faults::Fault;
 use crate::pieces::{Piece, read_piece};
@@ -38,7 +40,9 @@ struct Place {
 }
 
 /// Whether a semicolon is put in where a line ends behind a token. Go specification, "Semicolons".
-fn ends_line(kind: Kind) -> bool {
+fn ends_line(kind: Kind) -> bool
+    ensures { result ≡ ends_line kind }
+{
     matches!(
         kind,
         Kind::Name
@@ -58,7 +62,9 @@ fn ends_line(kind: Kind) -> bool {
 }
 
 /// Puts in the semicolon of a line's end, where one is wanted.
-fn end_line(tokens: &mut Tokens, place: Place) -> Result<(), NoMemory> {
+fn end_line(tokens: &mut Tokens, place: Place) -> Result<(), NoMemory>
+    ensures { OnOk result (tokens.new ≡ tokens.old ++ inserted place.wanted place.last) }
+{
     if place.wanted {
         tokens.push(Token {
             kind: Kind::Inserted,
@@ -70,12 +76,11 @@ fn end_line(tokens: &mut Tokens, place: Place) -> Result<(), NoMemory> {
 }
 
 /// Adds the tokens that a piece brings, and gives the place behind it.
-fn add_piece(
-    tokens: &mut Tokens,
-    place: Place,
-    text: &[u8],
-    kind: Option<Kind>,
-) -> Result<Place, NoMemory> {
+fn add_piece(tokens: &mut Tokens, place: Place, text: &[u8], kind: Option<Kind>) -> Result<Place, NoMemory>
+    requires { place.at + length text.now < 2 ^ 32 }
+    ensures tokens { OnOk result (tokens.new ≡ tokens.old ++ tokens_of (view_place place) text.now kind) }
+    ensures place { IfOk result (λ next. view_place next ≡ place_after (view_place place) text.now kind) }
+{
     let end = place.at + text.len() as u32;
     match kind {
         Some(kind) => {
@@ -103,7 +108,9 @@ fn add_piece(
 }
 
 /// The bytes of a byte order mark at the start of a file.
-fn mark_width(bytes: &[u8]) -> u32 {
+fn mark_width(bytes: &[u8]) -> u32
+    ensures { result ≡ mark_width bytes.now }
+{
     if bytes.starts_with(b"\xEF\xBB\xBF") {
         3
     } else {
