@@ -20,7 +20,7 @@ use Rattle.go_scan.specs.Reading.{ending_of}
 use Rattle.go_scan.proofs.PartLaws.{and-both}
 
 -- the class where the second byte does not matter
-abbrev plain_class : ℕ → Class
+abbrev pub plain_class : ℕ → Class
 plain_class a =
     if is_space a then pieces.Space
     else if is_decimal a then pieces.Numeral
@@ -52,7 +52,7 @@ pair_plain a b l g d =
     ∙ ap (λ v. class_by a false false v) d
     ∙ class_plain a
 
-pair_zero : (a : ℕ) → class_of_pair a 0 ≡ plain_class a
+pub pair_zero : (a : ℕ) → class_of_pair a 0 ≡ plain_class a
 pair_zero a = pair_plain a 0 (and-false (a == 47)) (and-false (a == 47)) (and-false (a == 46))
 
 -- a character of one byte

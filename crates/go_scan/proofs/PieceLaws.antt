@@ -5,7 +5,7 @@ use Rattle.bstr.specs.Utf8.{decoded}
 use Rattle.go_ast.specs.Characters.{passing, is_letter, is_name_character, is_numeral_character, are_characters}
 use Rattle.go_ast.specs.Literals.{first, second}
 use Rattle.go_ast.specs.Pieces as pieces
-use Rattle.go_ast.specs.Pieces.{Class, Space, LineComment, GeneralComment, Mark, Word, Numeral, RuneLiteral, StringLiteral, RawLiteral, class_of, class_of_pair, extent, is_closed, is_within, is_of, is_piece, quoted_extent, comment_extent, raw_extent}
+use Rattle.go_ast.specs.Pieces.{Class, Space, LineComment, GeneralComment, Mark, Word, Numeral, RuneLiteral, StringLiteral, RawLiteral, class_of, class_of_pair, extent, is_closed, is_within, is_of, is_piece, quoted_extent, comment_extent, raw_extent, is_space, is_decimal, begins_word}
 use Rattle.go_scan.specs.Reach.{run_length, line_length, comment_ending, quoted_ending, raw_ending, mark_length}
 use Rattle.go_scan.specs.Reading.{ending_of}
 use Rattle.go_scan.proofs.Parts.{IsLocal, run-step, run-stop}
@@ -13,7 +13,8 @@ use Rattle.go_scan.proofs.Decoding.{passing-local, passing-some}
 use Rattle.go_scan.proofs.PartLaws.{is_some-is, and-both, parts-longest, parts-run, run-within, step-front}
 use Rattle.go_scan.proofs.EndLaws.{shut, line-within, line-front, line-longest, comment-within, comment-front, comment-longest, quoted-within, quoted-front, quoted-longest, raw-within, raw-front, raw-longest}
 use Rattle.go_scan.proofs.MarkLaws.{IsMark, mark-found, mark-longest}
-use Rattle.go_scan.proofs.ClassLaws.{pair-cases, class-front}
+use Rattle.go_scan.proofs.ClassLaws.{pair-cases, class-front, plain_class, pair_zero}
+use Rattle.go_scan.proofs.ItemLaws.{if_case}
 
 shut-within : (closed : Bool) → is_within (shut closed) ≡ true
 shut-within true = refl
@@ -100,9 +101,18 @@ word_reached : (text : List ℕ) (v : Bool) → is_some (passing is_letter text)
 word_reached text true e = (run-within (passing is_name_character) 0 text, λ h. word_found text e h)
 word_reached text false e = (omega arith, λ h. absurd (omega arith))
 
+never_general : (a : ℕ) → plain_class a ≡ GeneralComment → ⊥
+never_general a e =
+    if_case (is_space a) _ _ _ e (λ e. absurd cc) (λ e.
+    if_case (is_decimal a) _ _ _ e (λ e. absurd cc) (λ e.
+    if_case (a == 39) _ _ _ e (λ e. absurd cc) (λ e.
+    if_case (a == 34) _ _ _ e (λ e. absurd cc) (λ e.
+    if_case (a == 96) _ _ _ e (λ e. absurd cc) (λ e.
+    if_case (begins_word a) _ _ _ e (λ e. absurd cc) (λ e. absurd cc))))))
+
 two_bytes : (text : List ℕ) → class_of text ≡ GeneralComment → 2 ≤ length text
 two_bytes [] e = absurd cc
-two_bytes (a ∷ []) e = ?
+two_bytes (a ∷ []) e = absurd (never_general a (sym (pair_zero a) ∙ e))
 two_bytes (a ∷ b ∷ text) e = omega arith
 
 pub reach-of : (class : Class) (text : List ℕ) → class_of text ≡ class → 1 ≤ length text → IsReach class text

@@ -1,9 +1,11 @@
 //! The piece at the head of a text: white space, a comment or a token. Go specification, "Lexical elements".
 
-ghost use Rattle.std.specs.Prelude.{◌≡◌, ◌≤◌, ◌+◌, ◌^◌, ◌<◌, true, false, length};
+ghost use Rattle.std.specs.Prelude.{◌≡◌, ◌≤◌, ◌+◌, ◌^◌, ◌<◌, true, false, length, IfOk, IfErr};
 ghost use Rattle.go_ast.specs.Pieces.{class_of, kind_of_class};
 ghost use Rattle.go_scan.specs.Reach.{ending};
-ghost use Rattle.go_scan.specs.Reading.{ending_of, view_class, behind};
+ghost use Rattle.go_ast.specs.Lexical.{IsFaultOf};
+ghost use Rattle.go_scan.specs.Reading.{ending_of, view_class, view_fault, behind};
+ghost use Rattle.go_scan.specs.Scanning.{IsFound};
 
 use crate::characters::{Run, begins_with_letter, run_length};
 use crate::endings::{Ending, comment_ending, line_length, quoted_ending, raw_ending};
@@ -108,7 +110,12 @@ fn kind_of(class: Class, text: &[u8]) -> Option<Kind>
 }
 
 /// The longest piece at the head of a text that is not empty, or its first fault.
-pub fn read_piece(text: &[u8]) -> Result<Piece, Fault> {
+pub fn read_piece(text: &[u8]) -> Result<Piece, Fault>
+    requires { 1 ≤ length text.now }
+    ensures found { IfOk result (λ piece. IsFound text.now piece) }
+    ensures fault { IfErr result (λ fault. IsFaultOf text.now (view_fault fault)) }
+    ensures place { IfErr result (λ fault. fault.at ≤ length text.now) }
+{
     let class = class_of(text);
     let ending = ending_of(class, text);
     if ending.length == 0 {

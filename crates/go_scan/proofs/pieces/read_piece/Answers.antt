@@ -1,5 +1,5 @@
-use Rattle.go_scan.proofs.PieceLaws.{piece-longest, reach-of}
+use Rattle.go_scan.proofs.FoundLaws.{spelled-of, stray-of, fault-within}
 use Rattle.go_scan.proofs.pieces.read_piece.Goals as goal
 
-pub ending_of-ending-requires-clause-room : goal.ending_of-ending-requires-clause-room
-ending_of-ending-requires-clause-room c = let a = piece-longest in let b = reach-of in ?
+pub slice_bounds-spelled-end : goal.slice_bounds-spelled-end
+slice_bounds-spelled-end c = let a = spelled-of in let b = stray-of in let d = fault-within in ?
