@@ -1,8 +1,8 @@
 //! The scan of a whole file.
 
-ghost use Rattle.std.specs.Prelude.{◌≡◌, ◌+◌, ◌++◌, ◌<◌, ◌≤◌, ◌^◌, length, IfOk, OnOk};
-ghost use Rattle.go_ast.specs.Lexical.{ends_line, inserted, tokens_of, place_after, mark_width, IsTokenList, IsFault};
-ghost use Rattle.go_scan.specs.Scanning.{view_place};
+ghost use Rattle.std.specs.Prelude.{◌≡◌, ◌+◌, ◌++◌, ◌<◌, ◌≤◌, ◌^◌, length, IfOk, IfErr, OnOk};
+ghost use Rattle.go_ast.specs.Lexical.{ends_line, inserted, tokens_of, place_after, mark_width, IsTokenList};
+ghost use Rattle.go_scan.specs.Scanning.{view_place, IsRefusal};
 
 use crate::faults::Fault;
 use crate::pieces::{Piece, read_piece};
@@ -118,11 +118,24 @@ fn mark_width(bytes: &[u8]) -> u32
     }
 }
 
+/// The refusal of a fault in the piece at a place.
+fn refused(at: u32, fault: Fault) -> ScanError
+    requires { at + fault.at < 2 ^ 32 }
+    ensures { result ≡ ScanError.Refused (at + fault.at) fault.rule }
+{
+    ScanError::Refused {
+        offset: at + fault.at as u32,
+        rule: fault.rule,
+    }
+}
+
 /// Cuts the bytes of a file into tokens, with the semicolons of its lines put in.
 ///
 /// `Refused` names the first place where the bytes cannot be cut, in bytes from 0, and the rule that is broken there.
 pub fn scan(alloc: Global, file: u32, bytes: &[u8]) -> Result<Tokens, ScanError>
     requires { length bytes.now ≤ 4194304 }
+    ensures tokens { IfOk result (λ tokens. IsTokenList bytes.now tokens) }
+    ensures refused { IfErr result (λ error. IsRefusal bytes.now error) }
 {
     let mut tokens = Tokens::new(alloc);
     let start = mark_width(bytes);
@@ -133,15 +146,10 @@ pub fn scan(alloc: Global, file: u32, bytes: &[u8]) -> Result<Tokens, ScanError>
     };
     while (place.at as usize) < bytes.len() {
         let rest = &bytes[place.at as usize..];
-        match read_piece(rest) {
-            Ok(piece) => place = add_piece(&mut tokens, place, &rest[..piece.length], piece.kind)?,
-            Err(fault) => {
-                return Err(ScanError::Refused {
-                    offset: place.at + fault.at as u32,
-                    rule: fault.rule,
-                });
-            }
-        }
+        place = match read_piece(rest) {
+            Ok(piece) => add_piece(&mut tokens, place, &rest[..piece.length], piece.kind)?,
+            Err(fault) => return Err(refused(place.at, fault)),
+        };
     }
     end_line(&mut tokens, place)?;
     Ok(tokens)
