@@ -23,6 +23,10 @@ pub enum ScanError {
 }
 
 impl From<NoMemory> for ScanError {
+    ghost use Rattle.go_scan.specs.declared.scanner.ScanError.TheVariants.{OutOfMemory};
+
+    ghost from_gives = { λ _ e. e ≡ OutOfMemory };
+
     fn from(_: NoMemory) -> ScanError {
         ScanError::OutOfMemory
     }
