@@ -26,6 +26,10 @@ AreCut bytes (piece ∷ pieces) rest =
 abbrev pub mark_width : List ℕ → ℕ
 mark_width bytes = if starts_with nat_eq bytes (239 ∷ 187 ∷ 191 ∷ []) then 3 else 0
 
+-- the cut of a file
+abbrev pub IsCutInto : List ℕ → List (List ℕ) → Type 0
+IsCutInto bytes pieces = AreCut (drop (mark_width bytes) bytes) pieces []
+
 -- ---- tokens
 
 -- whether a semicolon is put in where a line ends behind a token of this kind
@@ -83,7 +87,7 @@ start_of bytes = record { at = mark_width bytes; last = mark_width bytes; wanted
 -- the tokens of a file are these
 pub record IsTokenList (bytes : List ℕ) (tokens : List Token) : Type 0 where
   pub pieces : List (List ℕ)
-  pub cut : AreCut (drop (mark_width bytes) bytes) pieces []
+  pub cut : IsCutInto bytes pieces
   pub tokens_are : tokens ≡ tokens_from (start_of bytes) pieces
 
 -- ---- faults
@@ -93,7 +97,7 @@ abbrev pub IsFaultOf : List ℕ → Fault → Type 0
 IsFaultOf rest fault =
     ((piece : List ℕ) × IsLongest rest piece × (fault_of piece ≡ Some fault))
     ⊎ (((piece more : List ℕ) → is_piece piece ≡ true → rest ≡ piece ++ more → ⊥)
-        × (fault ≡ record { at = 0; rule = stray_rule rest }) × (1 ≤ length rest))
+    × (fault ≡ record { at = 0; rule = stray_rule rest }) × (1 ≤ length rest))
 
 -- the first place where bytes cannot be cut is this offset, and this rule is broken there
 pub record IsFault (bytes : List ℕ) (offset : ℕ) (rule : Rule) : Type 0 where

@@ -1,8 +1,8 @@
 -- What literals hold and what they are worth. Go specification, "Integer literals", "Rune literals", "String literals".
-use Rattle.std.specs.Prelude.{ℕ, zero, suc, ◌+◌, ◌-◌, ◌*◌, ◌<◌, List, [], ◌∷◌, length, take, drop, find, filter, flat_map, Bool, true, false, Option, Some, None, is_none, ◌==◌, ◌&&◌, ◌||◌, not, nat_lt, if◌then◌else◌, encode_utf8}
+use Rattle.std.specs.Prelude.{ℕ, zero, suc, ◌+◌, ◌-◌, ◌*◌, List, [], ◌∷◌, length, take, drop, find, filter, flat_map, Bool, true, false, Option, Some, None, is_none, ◌==◌, ◌&&◌, ◌||◌, not, nat_lt, if◌then◌else◌, encode_utf8}
 use Rattle.std.specs.Char.{digit_value}
 use Rattle.bstr.specs.Utf8.{decoded}
-use Rattle.go_ast.specs.Characters.{is_source_character, passes, rests}
+use Rattle.go_ast.specs.Characters.{is_source_character, rests}
 
 -- ---- integers
 

@@ -1,68 +1,68 @@
 -- Marks and words. Go specification, "Operators and punctuation", "Keywords".
-use Rattle.std.specs.Prelude.{ℕ, List, [], ◌∷◌, Bool, true, false, Option, Some, None, ◌==◌, ◌&&◌, if◌then◌else◌, codes, bytes_eq}
+use Rattle.std.specs.Prelude.{ℕ, List, [], ◌∷◌, Option, Some, None, ◌==◌, ◌&&◌, if◌then◌else◌, codes, bytes_eq}
 use Rattle.go_ast.specs.declared.token.Kind.{Kind}
 use Rattle.go_ast.specs.declared.token.Kind.TheVariants as kinds
 
 -- the mark of one byte, where it is one
 abbrev pub mark_of_one : ℕ → Option Kind
 mark_of_one a =
-    if a == 43 then Some kinds.Plus else -- +
-    if a == 45 then Some kinds.Minus else -- -
-    if a == 42 then Some kinds.Star else -- *
-    if a == 47 then Some kinds.Slash else -- /
-    if a == 37 then Some kinds.Percent else -- %
-    if a == 38 then Some kinds.Ampersand else -- &
-    if a == 124 then Some kinds.Pipe else -- |
-    if a == 94 then Some kinds.Caret else -- ^
-    if a == 60 then Some kinds.Less else -- <
-    if a == 62 then Some kinds.Greater else -- >
-    if a == 61 then Some kinds.Assign else -- =
-    if a == 33 then Some kinds.Not else -- !
-    if a == 40 then Some kinds.OpenParen else -- (
-    if a == 41 then Some kinds.CloseParen else -- )
-    if a == 91 then Some kinds.OpenBracket else -- [
-    if a == 93 then Some kinds.CloseBracket else -- ]
-    if a == 123 then Some kinds.OpenBrace else -- {
-    if a == 125 then Some kinds.CloseBrace else -- }
-    if a == 44 then Some kinds.Comma else -- ,
-    if a == 59 then Some kinds.Semicolon else -- ;
-    if a == 46 then Some kinds.Dot else -- .
-    if a == 58 then Some kinds.Colon else -- :
+    if a == 43 then Some kinds.Plus else  -- +
+    if a == 45 then Some kinds.Minus else  -- -
+    if a == 42 then Some kinds.Star else  -- *
+    if a == 47 then Some kinds.Slash else  -- /
+    if a == 37 then Some kinds.Percent else  -- %
+    if a == 38 then Some kinds.Ampersand else  -- &
+    if a == 124 then Some kinds.Pipe else  -- |
+    if a == 94 then Some kinds.Caret else  -- ^
+    if a == 60 then Some kinds.Less else  -- <
+    if a == 62 then Some kinds.Greater else  -- >
+    if a == 61 then Some kinds.Assign else  -- =
+    if a == 33 then Some kinds.Not else  -- !
+    if a == 40 then Some kinds.OpenParen else  -- (
+    if a == 41 then Some kinds.CloseParen else  -- )
+    if a == 91 then Some kinds.OpenBracket else  -- [
+    if a == 93 then Some kinds.CloseBracket else  -- ]
+    if a == 123 then Some kinds.OpenBrace else  -- {
+    if a == 125 then Some kinds.CloseBrace else  -- }
+    if a == 44 then Some kinds.Comma else  -- ,
+    if a == 59 then Some kinds.Semicolon else  -- ;
+    if a == 46 then Some kinds.Dot else  -- .
+    if a == 58 then Some kinds.Colon else  -- :
     None
 
 -- the mark of two bytes
 abbrev pub mark_of_two : ℕ → ℕ → Option Kind
 mark_of_two a b =
-    if a == 60 && b == 60 then Some kinds.ShiftLeft else -- <<
-    if a == 62 && b == 62 then Some kinds.ShiftRight else -- >>
-    if a == 38 && b == 94 then Some kinds.AndNot else -- &^
-    if a == 43 && b == 61 then Some kinds.PlusAssign else -- +=
-    if a == 45 && b == 61 then Some kinds.MinusAssign else -- -=
-    if a == 42 && b == 61 then Some kinds.StarAssign else -- *=
-    if a == 47 && b == 61 then Some kinds.SlashAssign else -- /=
-    if a == 37 && b == 61 then Some kinds.PercentAssign else -- %=
-    if a == 38 && b == 61 then Some kinds.AmpersandAssign else -- &=
-    if a == 124 && b == 61 then Some kinds.PipeAssign else -- |=
-    if a == 94 && b == 61 then Some kinds.CaretAssign else -- ^=
-    if a == 38 && b == 38 then Some kinds.AndAnd else -- &&
-    if a == 124 && b == 124 then Some kinds.OrOr else -- ||
-    if a == 60 && b == 45 then Some kinds.Arrow else -- <-
-    if a == 43 && b == 43 then Some kinds.Increment else -- ++
-    if a == 45 && b == 45 then Some kinds.Decrement else -- --
-    if a == 61 && b == 61 then Some kinds.Equal else -- ==
-    if a == 33 && b == 61 then Some kinds.NotEqual else -- !=
-    if a == 60 && b == 61 then Some kinds.LessEqual else -- <=
-    if a == 62 && b == 61 then Some kinds.GreaterEqual else -- >=
-    if a == 58 && b == 61 then Some kinds.Define else -- :=
+    if a == 60 && b == 60 then Some kinds.ShiftLeft else  -- <<
+    if a == 62 && b == 62 then Some kinds.ShiftRight else  -- >>
+    if a == 38 && b == 94 then Some kinds.AndNot else  -- &^
+    if a == 43 && b == 61 then Some kinds.PlusAssign else  -- +=
+    if a == 45 && b == 61 then Some kinds.MinusAssign else  -- -=
+    if a == 42 && b == 61 then Some kinds.StarAssign else  -- *=
+    if a == 47 && b == 61 then Some kinds.SlashAssign else  -- /=
+    if a == 37 && b == 61 then Some kinds.PercentAssign else  -- %=
+    if a == 38 && b == 61 then Some kinds.AmpersandAssign else  -- &=
+    if a == 124 && b == 61 then Some kinds.PipeAssign else  -- |=
+    if a == 94 && b == 61 then Some kinds.CaretAssign else  -- ^=
+    if a == 38 && b == 38 then Some kinds.AndAnd else  -- &&
+    if a == 124 && b == 124 then Some kinds.OrOr else  -- ||
+    if a == 60 && b == 45 then Some kinds.Arrow else  -- <-
+    if a == 43 && b == 43 then Some kinds.Increment else  -- ++
+    if a == 45 && b == 45 then Some kinds.Decrement else  -- --
+    if a == 61 && b == 61 then Some kinds.Equal else  -- ==
+    if a == 33 && b == 61 then Some kinds.NotEqual else  -- !=
+    if a == 60 && b == 61 then Some kinds.LessEqual else  -- <=
+    if a == 62 && b == 61 then Some kinds.GreaterEqual else  -- >=
+    if a == 58 && b == 61 then Some kinds.Define else  -- :=
     None
 
 -- the mark of three bytes
 abbrev pub mark_of_three : ℕ → ℕ → ℕ → Option Kind
 mark_of_three a b c =
-    if a == 60 && b == 60 && c == 61 then Some kinds.ShiftLeftAssign else -- <<=
-    if a == 62 && b == 62 && c == 61 then Some kinds.ShiftRightAssign else -- >>=
-    if a == 38 && b == 94 && c == 61 then Some kinds.AndNotAssign else -- &^=
-    if a == 46 && b == 46 && c == 46 then Some kinds.Ellipsis else -- ...
+    if a == 60 && b == 60 && c == 61 then Some kinds.ShiftLeftAssign else  -- <<=
+    if a == 62 && b == 62 && c == 61 then Some kinds.ShiftRightAssign else  -- >>=
+    if a == 38 && b == 94 && c == 61 then Some kinds.AndNotAssign else  -- &^=
+    if a == 46 && b == 46 && c == 46 then Some kinds.Ellipsis else  -- ...
     None
 
 -- the mark that a text is

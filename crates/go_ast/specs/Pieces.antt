@@ -1,12 +1,12 @@
 -- The pieces of source text: white space, comments and tokens. Go specification, "Lexical elements".
-use Rattle.std.specs.Prelude.{◌≡◌, ℕ, ◌+◌, ◌-◌, List, [], ◌∷◌, length, drop, Bool, true, false, Option, Some, None, is_some, is_none, ◌==◌, ◌&&◌, ◌||◌, not, nat_le, if◌then◌else◌}
-use Rattle.std.specs.List.{list_all, list_any}
+use Rattle.std.specs.Prelude.{◌≡◌, ℕ, ◌-◌, List, [], ◌∷◌, length, drop, Bool, true, false, Option, Some, None, is_some, is_none, ◌==◌, ◌&&◌, ◌||◌, not, nat_le, if◌then◌else◌}
+use Rattle.std.specs.List.{list_all}
 use Rattle.go_ast.specs.declared.token.Kind.{Kind}
 use Rattle.go_ast.specs.declared.token.Kind.TheVariants as kinds
 use Rattle.go_base.specs.declared.rule.Rule.{Rule}
 use Rattle.go_base.specs.declared.rule.Rule.TheVariants as rules
 use Rattle.go_ast.specs.Characters.{is_letter, is_name_character, is_numeral_character, passing, are_characters}
-use Rattle.go_ast.specs.Literals.{Item, first, second, is_integer, item, character, item_rests, first_bad}
+use Rattle.go_ast.specs.Literals.{first, second, is_integer, item, character, item_rests, first_bad}
 use Rattle.go_ast.specs.Marks.{mark_kind, word_kind}
 
 -- ---- which class of pieces a text may be of, by how it begins

@@ -76,7 +76,7 @@ dot_reach b text e =
     let step = passing is_numeral_character in
     let dot : step (46 ∷ b ∷ text) ≡ Some 1 = passing-ascii is_numeral_character 46 (b ∷ text) (omega arith) in
     let passes_b : is_numeral_character b ≡ true =
-        ap (λ v. b == 46 || (is_letter b || v)) (decimal-digit b e) ∙ ap (λ v. b == 46 || v) (or-true (is_letter b)) ∙ or-true (b == 46) in
+    ap (λ v. b == 46 || (is_letter b || v)) (decimal-digit b e) ∙ ap (λ v. b == 46 || v) (or-true (is_letter b)) ∙ or-true (b == 46) in
     let digit : step (b ∷ text) ≡ Some 1 = passing-ascii is_numeral_character b text (decimal-small b e) ∙ ap (λ v. if v then Some 1 else None) passes_b in
     let turn : run_length step 0 (46 ∷ b ∷ text) ≡ 1 + run_length step 0 (b ∷ text) = ap (λ o. option_map_or (λ width. 1 + run_length step (width - 1) (b ∷ text)) o 0) dot in
     let next : run_length step 0 (b ∷ text) ≡ 1 + run_length step 0 text = ap (λ o. option_map_or (λ width. 1 + run_length step (width - 1) text) o 0) digit in
@@ -90,17 +90,20 @@ pair-cases a b text = go (a == 47 && b == 47) (a == 47 && b == 42) (a == 46 && i
     slashes b ea eb =
         let at : 2 ≤ (ending_of (class_of_pair 47 47) (47 ∷ 47 ∷ text)).length = omega arith in
         subst (λ x. 2 ≤ (ending_of (class_of_pair x b) (x ∷ b ∷ text)).length) (sym ea)
-            (subst (λ y. 2 ≤ (ending_of (class_of_pair 47 y) (47 ∷ y ∷ text)).length) (sym eb) at)
+        (subst (λ y. 2 ≤ (ending_of (class_of_pair 47 y) (47 ∷ y ∷ text)).length) (sym eb) at)
+
     star : (b : ℕ) → a ≡ 47 → b ≡ 42 → 2 ≤ (ending_of (class_of_pair a b) (a ∷ b ∷ text)).length
     star b ea eb =
         let at : 2 ≤ (ending_of (class_of_pair 47 42) (47 ∷ 42 ∷ text)).length = omega arith in
         subst (λ x. 2 ≤ (ending_of (class_of_pair x b) (x ∷ b ∷ text)).length) (sym ea)
-            (subst (λ y. 2 ≤ (ending_of (class_of_pair 47 y) (47 ∷ y ∷ text)).length) (sym eb) at)
+        (subst (λ y. 2 ≤ (ending_of (class_of_pair 47 y) (47 ∷ y ∷ text)).length) (sym eb) at)
+
     dot : a ≡ 46 → is_decimal b ≡ true → 2 ≤ (ending_of (class_of_pair a b) (a ∷ b ∷ text)).length
     dot ea eb =
         let class : class_of_pair 46 b ≡ pieces.Numeral = ap (λ v. class_by 46 false false v) eb in
         let at : 2 ≤ (ending_of (class_of_pair 46 b) (46 ∷ b ∷ text)).length = subst (λ k. 2 ≤ (ending_of k (46 ∷ b ∷ text)).length) (sym class) (dot_reach b text eb) in
         subst (λ x. 2 ≤ (ending_of (class_of_pair x b) (x ∷ b ∷ text)).length) (sym ea) at
+
     go : (line general dotted : Bool) → (a == 47 && b == 47) ≡ line → (a == 47 && b == 42) ≡ general → (a == 46 && is_decimal b) ≡ dotted
         → (class_of_pair a b ≡ class_of_pair a 0) ⊎ (2 ≤ (ending_of (class_of_pair a b) (a ∷ b ∷ text)).length)
     go true general dotted l g d = let both = and-both (a == 47) (b == 47) l in inr (slashes b (eqb-true a 47 both.0) (eqb-true b 47 both.1))

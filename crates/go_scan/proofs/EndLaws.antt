@@ -147,7 +147,7 @@ quoted-front quote escaped (byte ∷ text) = go (byte == 10) (not escaped && byt
     go : (line v : Bool) → byte == 10 ≡ line → (not escaped && byte == quote) ≡ v
         → quoted_extent quote (not escaped && byte == 92) (take (quoted_ending quote (not escaped && byte == 92) text).length text) ≡ shut (quoted_ending quote (not escaped && byte == 92) text).closed
         → quoted_extent quote escaped (take (if line then ending 0 false else if v then ending 1 true else one_more (quoted_ending quote (not escaped && byte == 92) text)).length (byte ∷ text))
-          ≡ shut (if line then ending 0 false else if v then ending 1 true else one_more (quoted_ending quote (not escaped && byte == 92) text)).closed
+        ≡ shut (if line then ending 0 false else if v then ending 1 true else one_more (quoted_ending quote (not escaped && byte == 92) text)).closed
     go true v e f h = refl
     go false true e f h = quote_extent quote escaped byte [] e f
     go false false e f h =
@@ -160,6 +160,7 @@ quoted-longest quote escaped (byte ∷ text) more e = go (byte == 10) (not escap
   where
     line_long : byte == 10 ≡ true → quoted_extent quote escaped (byte ∷ text) ≡ TooLong
     line_long f = ap (λ v. if v then TooLong else if escaped then quoted_extent quote false text else if byte == quote then closed_before text else quoted_extent quote (byte == 92) text) f
+
     go : (line v : Bool) → byte == 10 ≡ line → (not escaped && byte == quote) ≡ v
         → (is_within (quoted_extent quote (not escaped && byte == 92) text) ≡ true → length text ≤ (quoted_ending quote (not escaped && byte == 92) (text ++ more)).length)
         → length (byte ∷ text) ≤ (if line then ending 0 false else if v then ending 1 true else one_more (quoted_ending quote (not escaped && byte == 92) (text ++ more))).length

@@ -36,7 +36,7 @@ spelled-of text class found c e h l =
     let same : class_of (take n text) ≡ class = class-front text n l size_of ∙ sym c in
     let one : is_of class (take n text) ≡ true = ap (λ k. is_of class (take k text)) size ∙ reach.one least in
     let closed : is_closed (extent class (take n text)) ≡ found.closed =
-        ap (λ k. is_closed (extent class (take k text))) size ∙ reach.closed least ∙ sym (ap (λ f. f.closed) e) in
+    ap (λ k. is_closed (extent class (take k text))) size ∙ reach.closed least ∙ sym (ap (λ f. f.closed) e) in
     record {
       within = within;
       longest = record {

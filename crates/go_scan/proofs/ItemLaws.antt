@@ -148,8 +148,8 @@ pub item-good : (quote : ℕ) (text : List ℕ) (it : Item) → item quote text 
 item-good quote [] it e = character-good [] it e
 item-good quote (byte ∷ text) it e =
     if_case (byte == 92) _ _ _ e
-        (λ e. let escaped = escape-is quote text it e in record { least = escaped.good.least; within = omega (arith, escaped.good.within); })
-        (character-good (byte ∷ text) it)
+    (λ e. let escaped = escape-is quote text it e in record { least = escaped.good.least; within = omega (arith, escaped.good.within) })
+    (character-good (byte ∷ text) it)
 
 pub reading-good : (how : Reading) (text : List ℕ) (it : Item) → reading how text ≡ Some it → IsGood (length text) it
 reading-good Plain text it e = character-good text it e
@@ -164,8 +164,8 @@ pub item-byte : (text : List ℕ) (it : Item) → item 34 text ≡ Some it → i
 item-byte [] it e b = absurd cc
 item-byte (byte ∷ text) it e b =
     if_case (byte == 92) _ _ _ e
-        (λ e. (escape-is 34 text it e).one_byte b)
-        (λ e. never it.is_byte b (item_of-some (decoded (byte ∷ text)).size false (if_passes is_source_character (decoded (byte ∷ text)).char) it e).byte_is)
+    (λ e. (escape-is 34 text it e).one_byte b)
+    (λ e. never it.is_byte b (item_of-some (decoded (byte ∷ text)).size false (if_passes is_source_character (decoded (byte ∷ text)).char) it e).byte_is)
 
 pub item-point : (text : List ℕ) (it : Item) → item 34 text ≡ Some it → first text ≡ 92 → it.is_byte ≡ false → is_code_point it.value ≡ true
 item-point [] it e h b = absurd cc

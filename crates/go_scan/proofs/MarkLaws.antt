@@ -60,18 +60,18 @@ by_three a b c text false false true g f e = (omega arith, λ h. e)
 by_three a b c text false false false g f e = (omega arith, λ h. absurd (omega arith))
 
 made : (text : List ℕ) (n : ℕ) → mark_length text ≡ n → IsMarkOf text n → IsMark text
-made text n e h = record { within = omega (arith, e, h.0); one = λ l. ap (λ k. is_some (mark_kind (take k text))) e ∙ h.1 (omega (arith, e, l)); }
+made text n e h = record { within = omega (arith, e, h.0); one = λ l. ap (λ k. is_some (mark_kind (take k text))) e ∙ h.1 (omega (arith, e, l)) }
 
 pub mark-found : (text : List ℕ) → IsMark text
 mark-found [] = made [] 0 refl (omega arith, λ h. absurd (omega arith))
 mark-found (a ∷ []) =
     made (a ∷ []) (longest_by false false (is_some (mark_of_one a)))
-        (ap (λ o. longest_by (is_some o) (is_some (mark_of_two a 0)) (is_some (mark_of_one a))) (no_three a 0) ∙ ap (λ o. longest_by false (is_some o) (is_some (mark_of_one a))) (no_two a))
-        (by_one a (is_some (mark_of_one a)) refl)
+    (ap (λ o. longest_by (is_some o) (is_some (mark_of_two a 0)) (is_some (mark_of_one a))) (no_three a 0) ∙ ap (λ o. longest_by false (is_some o) (is_some (mark_of_one a))) (no_two a))
+    (by_one a (is_some (mark_of_one a)) refl)
 mark-found (a ∷ b ∷ []) =
     made (a ∷ b ∷ []) (longest_by false (is_some (mark_of_two a b)) (is_some (mark_of_one a)))
-        (ap (λ o. longest_by (is_some o) (is_some (mark_of_two a b)) (is_some (mark_of_one a))) (no_three a b))
-        (by_two a b (is_some (mark_of_two a b)) (is_some (mark_of_one a)) refl refl)
+    (ap (λ o. longest_by (is_some o) (is_some (mark_of_two a b)) (is_some (mark_of_one a))) (no_three a b))
+    (by_two a b (is_some (mark_of_two a b)) (is_some (mark_of_one a)) refl refl)
 mark-found (a ∷ b ∷ c ∷ text) =
     made (a ∷ b ∷ c ∷ text) (longest_by (is_some (mark_of_three a b c)) (is_some (mark_of_two a b)) (is_some (mark_of_one a))) refl
-        (by_three a b c text (is_some (mark_of_three a b c)) (is_some (mark_of_two a b)) (is_some (mark_of_one a)) refl refl refl)
+    (by_three a b c text (is_some (mark_of_three a b c)) (is_some (mark_of_two a b)) (is_some (mark_of_one a)) refl refl refl)

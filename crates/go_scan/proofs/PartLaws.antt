@@ -33,7 +33,7 @@ parts-longest step zero (byte ∷ text) more local e h =
     let fits = local.within (byte ∷ text) width found.1 in
     let rest = parts-longest step (width - 1) text more local others (omega (arith, fits)) in
     let turn : run_length step 0 (byte ∷ text ++ more) ≡ 1 + run_length step (width - 1) (text ++ more) =
-        ap (λ o. option_map_or (λ width. 1 + run_length step (width - 1) (text ++ more)) o 0) grown in
+    ap (λ o. option_map_or (λ width. 1 + run_length step (width - 1) (text ++ more)) o 0) grown in
     omega (arith, rest, turn)
 
 pub run-least : (step : List ℕ → Option ℕ) (left : ℕ) (text : List ℕ) → left ≤ length text → left ≤ run_length step left text
@@ -54,7 +54,7 @@ run-within step zero (byte ∷ text) = split (step (byte ∷ text)) (λ n. run-w
 pub step-front : (step : List ℕ → Option ℕ) (text : List ℕ) (width n : ℕ) → IsLocal step → step text ≡ Some width → width ≤ n → step (take n text) ≡ Some width
 step-front step text width n local e h =
     let front : take n text ≡ take width text ++ drop width (take n text) =
-        sym (take-append-drop width (take n text)) ∙ ap (λ xs. xs ++ drop width (take n text)) (take-take width n text h) in
+    sym (take-append-drop width (take n text)) ∙ ap (λ xs. xs ++ drop width (take n text)) (take-take width n text h) in
     ap step front ∙ local.grows (take width text) (drop width (take n text)) width (local.shrinks text width e)
 
 -- the run is parts alone

@@ -97,7 +97,7 @@ word_found text e h = go (passing is_name_character text) refl
 
 word_reached : (text : List ℕ) (v : Bool) → is_some (passing is_letter text) ≡ v → ((if v then run_length (passing is_name_character) 0 text else 0) ≤ length text)
     × (1 ≤ (if v then run_length (passing is_name_character) 0 text else 0) → (is_some (passing is_letter (take (if v then run_length (passing is_name_character) 0 text else 0) text))
-        && are_characters is_name_character (take (if v then run_length (passing is_name_character) 0 text else 0) text)) ≡ true)
+    && are_characters is_name_character (take (if v then run_length (passing is_name_character) 0 text else 0) text)) ≡ true)
 word_reached text true e = (run-within (passing is_name_character) 0 text, λ h. word_found text e h)
 word_reached text false e = (omega arith, λ h. absurd (omega arith))
 
@@ -117,21 +117,21 @@ two_bytes (a ∷ b ∷ text) e = omega arith
 
 pub reach-of : (class : Class) (text : List ℕ) → class_of text ≡ class → 1 ≤ length text → IsReach class text
 reach-of class [] e h = absurd (omega arith)
-reach-of Space (a ∷ text) e h = record { within = omega arith; one = λ l. refl; closed = λ l. refl; }
-reach-of LineComment (a ∷ text) e h = record { within = line-within (a ∷ text); one = λ l. line-front (a ∷ text); closed = λ l. refl; }
+reach-of Space (a ∷ text) e h = record { within = omega arith; one = λ l. refl; closed = λ l. refl }
+reach-of LineComment (a ∷ text) e h = record { within = line-within (a ∷ text); one = λ l. line-front (a ∷ text); closed = λ l. refl }
 reach-of GeneralComment (a ∷ []) e h = absurd (omega (arith, two_bytes (a ∷ []) e))
 reach-of GeneralComment (a ∷ b ∷ text) e h =
     let front : comment_extent false (drop 2 (take (2 + (comment_ending false text).length) (a ∷ b ∷ text))) ≡ shut (comment_ending false text).closed =
-        ap (comment_extent false) (take_two (comment_ending false text).length a b text) ∙ comment-front false text in
+    ap (comment_extent false) (take_two (comment_ending false text).length a b text) ∙ comment-front false text in
     record {
       within = omega (arith, comment-within false text);
       one = λ l. ap is_within front ∙ shut-within (comment_ending false text).closed;
       closed = λ l. ap is_closed front ∙ shut-closed (comment_ending false text).closed;
     }
-reach-of Mark (a ∷ text) e h = let found = mark-found (a ∷ text) in record { within = found.within; one = found.one; closed = λ l. refl; }
+reach-of Mark (a ∷ text) e h = let found = mark-found (a ∷ text) in record { within = found.within; one = found.one; closed = λ l. refl }
 reach-of Word (a ∷ text) e h =
     let found = word_reached (a ∷ text) (is_some (passing is_letter (a ∷ text))) refl in
-    record { within = found.0; one = found.1; closed = λ l. refl; }
+    record { within = found.0; one = found.1; closed = λ l. refl }
 reach-of Numeral (a ∷ text) e h = record {
   within = run-within (passing is_numeral_character) 0 (a ∷ text);
   one = λ l. parts-run (passing is_numeral_character) 0 (a ∷ text) (passing-local is_numeral_character) (omega arith);
@@ -149,7 +149,7 @@ reach-of StringLiteral (a ∷ text) e h = record {
 }
 reach-of RawLiteral (a ∷ text) e h =
     let front : raw_extent (drop 1 (take (1 + (raw_ending text).length) (a ∷ text))) ≡ shut (raw_ending text).closed =
-        ap raw_extent (take_one (raw_ending text).length a text) ∙ raw-front text in
+    ap raw_extent (take_one (raw_ending text).length a text) ∙ raw-front text in
     record {
       within = omega (arith, raw-within text);
       one = λ l. ap is_within front ∙ shut-within (raw_ending text).closed;

@@ -38,7 +38,7 @@ count-turn read text at it h l e =
     let turn = rests-turn (λ rest. width_of (read rest)) text at it.width (ap (λ o. unwrap_or (width_of o) 1) found) l h in
     record {
       bad = ap (λ r. find (λ rest. is_none (read rest)) r) turn
-        ∙ ap (λ o. if is_none o then Some (drop at text) else first_bad read (drop (at + it.width) text)) found;
+          ∙ ap (λ o. if is_none o then Some (drop at text) else first_bad read (drop (at + it.width) text)) found;
       count = ap length turn ∙ omega arith;
     }
 

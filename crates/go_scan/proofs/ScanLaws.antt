@@ -22,7 +22,7 @@ pub record IsScanned (bytes : List ℕ) (place : Place) (tokens : List Token) : 
   pub tokens_are : (after : List (List ℕ)) → tokens_from (start_of bytes) (pieces ++ after) ≡ tokens ++ tokens_from place after
 
 pub scanned-start : (bytes : List ℕ) → IsScanned bytes (start_of bytes) []
-scanned-start bytes = record { pieces = []; cut = refl; tokens_are = λ after. refl; }
+scanned-start bytes = record { pieces = []; cut = refl; tokens_are = λ after. refl }
 
 pub scanned-more : (bytes : List ℕ) (place next : Place) (old new : List Token) (piece : Piece) → IsScanned bytes place old → place.at ≤ length bytes
     → IsFound (take (length bytes - place.at) (drop place.at bytes)) piece
@@ -38,19 +38,22 @@ scanned-more bytes place next old new piece scanned inside found next_is new_is 
     let next_here : next ≡ place_after place text piece.kind = next_is ∙ ap (λ r. place_after place (take piece.length r) piece.kind) whole in
     let new_here : new ≡ old ++ tokens_of place text piece.kind = new_is ∙ ap (λ r. old ++ tokens_of place (take piece.length r) piece.kind) whole in
     let moved : next.at ≡ place.at + length text = ap (λ p. p.at) next_here ∙ after_at place text piece.kind in
-    let gone : drop (length text) rest ≡ drop next.at bytes = drop-drop (length text) place.at bytes ∙ ap (λ n. drop n bytes) (sym moved) in
-    (omega (arith, moved, size), omega (arith, moved, size, found_here.within, length-drop place.at bytes), record {
-      pieces = scanned.pieces ++ text ∷ [];
-      cut = subst (AreCut (drop (mark_width bytes) bytes) (scanned.pieces ++ text ∷ [])) gone
-          (cut-more (drop (mark_width bytes) bytes) scanned.pieces rest text scanned.cut found_here.longest found_here.sound);
-      tokens_are = λ after.
-          ap (tokens_from (start_of bytes)) (append_assoc scanned.pieces (text ∷ []) after)
-          ∙ scanned.tokens_are (text ∷ after)
-          ∙ ap (λ k. old ++ (tokens_of place text k ++ tokens_from (place_after place text k) after)) found_here.kind_is
-          ∙ sym (append_assoc old (tokens_of place text piece.kind) (tokens_from (place_after place text piece.kind) after))
-          ∙ ap (λ ts. ts ++ tokens_from (place_after place text piece.kind) after) (sym new_here)
-          ∙ ap (λ p. new ++ tokens_from p after) (sym next_here);
-    })
+    let gone : drop (length text) rest ≡ drop next.at bytes = drop-drop (length text) place.at bytes ∙ ap (λ n. drop n bytes) (sym moved) in (
+      omega (arith, moved, size),
+      omega (arith, moved, size, found_here.within, length-drop place.at bytes),
+      record {
+        pieces = scanned.pieces ++ text ∷ [];
+        cut = subst (AreCut (drop (mark_width bytes) bytes) (scanned.pieces ++ text ∷ [])) gone
+            (cut-more (drop (mark_width bytes) bytes) scanned.pieces rest text scanned.cut found_here.longest found_here.sound);
+        tokens_are = λ after.
+            ap (tokens_from (start_of bytes)) (append_assoc scanned.pieces (text ∷ []) after)
+            ∙ scanned.tokens_are (text ∷ after)
+            ∙ ap (λ k. old ++ (tokens_of place text k ++ tokens_from (place_after place text k) after)) found_here.kind_is
+            ∙ sym (append_assoc old (tokens_of place text piece.kind) (tokens_from (place_after place text piece.kind) after))
+            ∙ ap (λ ts. ts ++ tokens_from (place_after place text piece.kind) after) (sym new_here)
+            ∙ ap (λ p. new ++ tokens_from p after) (sym next_here);
+      },
+    )
   where
     after_at : (place : Place) (text : List ℕ) (kind : Option Kind) → (place_after place text kind).at ≡ place.at + length text
     after_at place text None = refl

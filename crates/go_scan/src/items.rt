@@ -101,11 +101,7 @@ fn escape(quote: u8, text: &[u8]) -> Option<Item>
         b'x' => item_of(4, true, fixed_digits(16, 2, digits)),
         b'u' => item_of(6, false, code_point(fixed_digits(16, 4, digits))),
         b'U' => item_of(10, false, code_point(fixed_digits(16, 8, digits))),
-        b'0'..=b'7' => item_of(
-            4,
-            true,
-            one_byte(fixed_digits(8, 3, text)),
-        ),
+        b'0'..=b'7' => item_of(4, true, one_byte(fixed_digits(8, 3, text))),
         _ => item_of(2, false, named_escape(quote, *letter)),
     }
 }

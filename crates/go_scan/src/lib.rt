@@ -15,6 +15,7 @@ mod scanner;
 mod words;
 
 pub use integers::int_value;
+pub use pieces::is_literal;
 pub use runes::{rune_value, string_value};
 pub use scanner::{ScanError, scan};
 

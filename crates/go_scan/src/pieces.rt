@@ -1,7 +1,7 @@
 //! The piece at the head of a text: white space, a comment or a token. Go specification, "Lexical elements".
 
-ghost use Rattle.std.specs.Prelude.{◌≡◌, ◌≤◌, ◌+◌, ◌^◌, ◌<◌, true, false, length, IfOk, IfErr};
-ghost use Rattle.go_ast.specs.Pieces.{class_of, kind_of_class};
+ghost use Rattle.std.specs.Prelude.{◌≡◌, ◌≤◌, ◌+◌, ◌^◌, ◌<◌, true, false, length, IfOk, IfErr, IsTrue};
+ghost use Rattle.go_ast.specs.Pieces.{class_of, kind_of_class, IsLiteral};
 ghost use Rattle.go_scan.specs.Reach.{ending};
 ghost use Rattle.go_ast.specs.Lexical.{IsFaultOf};
 ghost use Rattle.go_scan.specs.Reading.{ending_of, view_class, view_fault, behind};
@@ -131,5 +131,30 @@ pub fn read_piece(text: &[u8]) -> Result<Piece, Fault>
             length: ending.length,
             kind: kind_of(class, spelled),
         }),
+    }
+}
+
+/// Whether a piece is a token of this kind.
+fn is_kind(found: Option<Kind>, kind: Kind) -> bool
+    ensures same { IsTrue result → found ≡ Some kind }
+    ensures other { found ≡ Some kind → IsTrue result }
+{
+    match found {
+        Some(found) => found == kind,
+        None => false,
+    }
+}
+
+/// Whether a text is a literal of this kind: one piece without a fault.
+pub fn is_literal(kind: Kind, text: &[u8]) -> bool
+    ensures sound { IsTrue result → IsLiteral kind text.now }
+    ensures complete { IsLiteral kind text.now → IsTrue result }
+{
+    if text.is_empty() {
+        return false;
+    }
+    match read_piece(text) {
+        Ok(piece) => piece.length == text.len() && is_kind(piece.kind, kind),
+        Err(_) => false,
     }
 }

@@ -80,7 +80,12 @@ fn end_line(tokens: &mut Tokens, place: Place) -> Result<(), NoMemory>
 }
 
 /// Adds the tokens that a piece brings, and gives the place behind it.
-fn add_piece(tokens: &mut Tokens, place: Place, text: &[u8], kind: Option<Kind>) -> Result<Place, NoMemory>
+fn add_piece(
+    tokens: &mut Tokens,
+    place: Place,
+    text: &[u8],
+    kind: Option<Kind>,
+) -> Result<Place, NoMemory>
     requires { place.at + length text.now < 2 ^ 32 }
     ensures tokens { OnOk result (tokens.new ≡ tokens.old ++ tokens_of (view_place place) text.now kind) }
     ensures place { IfOk result (λ next. view_place next ≡ place_after (view_place place) text.now kind) }

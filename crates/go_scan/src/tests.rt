@@ -1,7 +1,7 @@
 //! Token lists and values from the Go specification, and inputs for each lexical rule, at its place and just inside.
 
 use crate::scanner::{ScanError, scan};
-use crate::{int_value, rune_value, string_value};
+use crate::{int_value, is_literal, rune_value, string_value};
 use go_ast::Kind;
 use go_base::Rule;
 use std::test::Fail;
@@ -363,22 +363,25 @@ fn just_inside(rt: HostRuntime) -> Result<(), Fail> {
 
 #[test]
 fn values_of_integers(rt: HostRuntime) {
-    assert_eq!(rt; int_value(b"0"), Some(0));
-    assert_eq!(rt; int_value(b"4_2"), Some(42));
-    assert_eq!(rt; int_value(b"0600"), Some(384));
-    assert_eq!(rt; int_value(b"0_600"), Some(384));
-    assert_eq!(rt; int_value(b"0o17"), Some(15));
-    assert_eq!(rt; int_value(b"0B_101"), Some(5));
-    assert_eq!(rt; int_value(b"0xBad_Face"), Some(0xBAD_FACE));
-    assert_eq!(rt;
-        int_value(b"170141183460469231731687303715884105727"),
-        Some(170141183460469231731687303715884105727)
-    );
-    assert_eq!(rt; int_value(b"170141183460469231731687303715884105728"), None);
-    assert_eq!(rt;
-        int_value(b"0xFFFF_FFFF_FFFF_FFFF_FFFF_FFFF_FFFF_FFFF_0"),
-        None
-    );
+    let cases = [
+        ("0", Some(0)),
+        ("4_2", Some(42)),
+        ("0600", Some(384)),
+        ("0_600", Some(384)),
+        ("0o17", Some(15)),
+        ("0B_101", Some(5)),
+        ("0xBad_Face", Some(0xBAD_FACE)),
+        (
+            "170141183460469231731687303715884105727",
+            Some(170141183460469231731687303715884105727),
+        ),
+        ("170141183460469231731687303715884105728", None),
+        ("0xFFFF_FFFF_FFFF_FFFF_FFFF_FFFF_FFFF_FFFF_0", None),
+    ];
+    for (text, value) in cases {
+        assert!(rt; is_literal(Kind::Int, text.as_bytes()), "at {text}");
+        assert_eq!(rt; int_value(text.as_bytes()), value, "at {text}");
+    }
 }
 
 #[test]
@@ -398,6 +401,7 @@ fn values_of_runes(rt: HostRuntime) {
         (r"'\U00101234'", 0x101234),
     ];
     for (text, value) in cases {
+        assert!(rt; is_literal(Kind::Rune, text.as_bytes()), "at {text}");
         assert_eq!(rt; rune_value(text.as_bytes()), value, "at {text}");
     }
 }
@@ -416,6 +420,7 @@ fn values_of_strings(rt: HostRuntime) -> Result<(), Fail> {
         (r#""""#, "".as_bytes()),
     ];
     for (text, value) in cases {
+        assert!(rt; is_literal(Kind::Text, text.as_bytes()), "at {text}");
         let found = string_value(rt.alloc(), text.as_bytes())?;
         assert_eq!(rt; found.as_slice(), value, "at {text}");
     }

@@ -10,5 +10,5 @@ loop-at-preserved c =
     record {
       within = omega (arith, fits, ap length (rest-is c.args.inner.now c.loop-at.at), length-drop c.loop-at.at c.args.inner.now);
       whole = c.loop-at.invariant.whole
-        ∙ value-turn c.args.inner.now c.loop-at.at c.in_ok-at.field-0 c.loop-at.value.items c.push_first.new.value.items c.loop-at-test.true c.in_ok-at.ensures.least width pushed;
+          ∙ value-turn c.args.inner.now c.loop-at.at c.in_ok-at.field-0 c.loop-at.value.items c.push_first.new.value.items c.loop-at-test.true c.in_ok-at.ensures.least width pushed;
     }
