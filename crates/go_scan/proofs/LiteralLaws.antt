@@ -34,10 +34,10 @@ none_some x fault e f = absurd cc
 pub literal-faultless : (text : List ℕ) (kind : Kind) (fault : Fault) → IsFaultOf text fault → IsLiteral kind text → ⊥
 literal-faultless text kind fault breaks literal =
     ⊎_elim
-        (λ broken.
-            let piece = broken.0 in
-            let long = longest_literal text piece broken.1 literal.piece in
-            let same : text ≡ piece = sym (take_all (length piece) text long) ∙ ap (take (length piece)) broken.1.begins ∙ take-append_seam piece (drop (length piece) text) in
-            none_some (fault_of text) fault (ap fault_of same ∙ broken.2) literal.sound)
-        (λ none. none.0 text [] literal.piece (sym (append-nil text)))
-        breaks
+    (λ broken.
+    let piece = broken.0 in
+    let long = longest_literal text piece broken.1 literal.piece in
+    let same : text ≡ piece = sym (take_all (length piece) text long) ∙ ap (take (length piece)) broken.1.begins ∙ take-append_seam piece (drop (length piece) text) in
+    none_some (fault_of text) fault (ap fault_of same ∙ broken.2) literal.sound)
+    (λ none. none.0 text [] literal.piece (sym (append-nil text)))
+    breaks
