@@ -19,7 +19,11 @@ fn refusal(rt: &HostRuntime, bytes: &[u8]) -> Option<(u32, Rule)> {
 
 /// Whether these are the kinds of the tokens of a text.
 fn has_kinds(rt: &HostRuntime, text: &str, want: &[Kind]) -> Result<bool, ScanError> {
-    let tokens = scan(rt.alloc(), 0, text.as_bytes())?;
+    let bytes = text.as_bytes();
+    if bytes.len() > 1000 {
+        return Ok(false);
+    }
+    let tokens = scan(rt.alloc(), 0, bytes)?;
     Ok(
         tokens.len() == want.len()
             && tokens
