@@ -2,10 +2,12 @@
 //! a tree is written with (`Trees`).
 #![tactic(auto)]
 
+mod laws;
 mod token;
 mod tokens;
 mod tree;
 
+pub use laws::one_cut;
 pub use token::{Kind, Token};
 pub use tokens::Tokens;
 pub use tree::{Block, Call, FileTree};

@@ -1,7 +1,7 @@
 -- A character hangs on its own bytes alone.
-use Rattle.std.proofs.Common.{◌≡◌, ◌⊎◌, ℕ, zero, suc, ◌+◌, ◌-◌, ◌<◌, ◌≤◌, Bool, true, false, if◌then◌else◌, Option, Some, None, is_some, List, [], ◌∷◌, ◌++◌, length, take, drop, get_or, slice_index, refl, ap, sym, ◌∙◌, subst, arith, length-append, length-take-le, get_or-take, ⊎_elim}
+use Rattle.std.proofs.Common.{◌≡◌, ℕ, ◌<◌, ◌≤◌, Bool, true, false, if◌then◌else◌, Option, Some, None, List, [], ◌∷◌, ◌++◌, length, take, get_or, refl, ap, sym, ◌∙◌, arith, length-append, length-take-le, get_or-take, ⊎_elim}
 use Rattle.std.proofs.lemmas.List.{get_or_append_left}
-use Rattle.bstr.specs.Utf8.{Decoded, bad, good, decoded, decoded_by, continues, second, code_of_2, code_of_3, code_of_4}
+use Rattle.bstr.specs.Utf8.{bad, good, decoded, decoded_by, continues, second, code_of_2, code_of_3, code_of_4}
 use Rattle.bstr.proofs.lemmas.PieceLemmas.{decoded_by-shape, size-bounds, value-1, value-6, value-9, value-12}
 use Rattle.go_ast.specs.Characters.{passes, passing}
 use Rattle.go_scan.proofs.Parts.{IsLocal}

@@ -1,8 +1,7 @@
 -- Values of digits.
-use Rattle.std.proofs.Common.{◌≡◌, ◌≢◌, ℕ, zero, suc, ◌+◌, ◌-◌, ◌*◌, ◌^◌, ◌<◌, ◌≤◌, Bool, true, false, ◌==◌, if◌then◌else◌, Option, Some, None, List, [], ◌∷◌, length, get_or, drop, refl, ap, sym, ◌∙◌, arith, add-one, nat_lt}
+use Rattle.std.proofs.Common.{◌≡◌, ◌≢◌, ℕ, zero, suc, ◌+◌, ◌-◌, ◌*◌, ◌^◌, ◌<◌, ◌≤◌, Bool, true, false, ◌==◌, if◌then◌else◌, Some, None, List, [], ◌∷◌, length, get_or, drop, refl, ap, ◌∙◌, arith, add-one, nat_lt}
 use Rattle.std.proofs.Math.Nat.{pow-suc, pow-le-pow_right, suc-mul, le-mul_of_pos_right}
 use Rattle.std.proofs.lemmas.Nat.{mul-le}
-use Rattle.std.proofs.lemmas.Bool.{cases_Bool}
 use Rattle.std.proofs.lemmas.Bool.Decides.{nat_tests}
 use Rattle.std.specs.Char.{digit_value}
 use Rattle.go_ast.specs.Literals.{digits_value, fixed_digits}

@@ -1,10 +1,9 @@
 -- Where lines, comments and literals end: what is found is a piece, and none that begins the same text is longer.
-use Rattle.std.proofs.Common.{◌≡◌, ℕ, zero, suc, ◌+◌, ◌-◌, ◌<◌, ◌≤◌, Bool, true, false, ◌&&◌, ◌==◌, not, if◌then◌else◌, List, [], ◌∷◌, ◌++◌, length, take, drop, refl, ap, sym, ◌∙◌, arith}
+use Rattle.std.proofs.Common.{◌≡◌, ℕ, suc, ◌+◌, ◌≤◌, Bool, true, false, ◌&&◌, ◌==◌, not, if◌then◌else◌, List, [], ◌∷◌, ◌++◌, length, take, refl, ap, sym, ◌∙◌, arith}
 use Rattle.std.specs.List.{list_all}
 use Rattle.std.proofs.lemmas.Bool.{false≢true}
 use Rattle.go_ast.specs.Pieces.{Extent, Open, Closed, TooLong, closed_before, comment_extent, quoted_extent, raw_extent, is_within}
 use Rattle.go_scan.specs.Reach.{line_length, comment_ending, quoted_ending, raw_ending, ending, one_more}
-use Rattle.go_scan.specs.declared.endings.Ending.{Ending}
 use Rattle.go_scan.proofs.PartLaws.{and-both}
 
 abbrev pub shut : Bool → Extent

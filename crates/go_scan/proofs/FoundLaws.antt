@@ -1,9 +1,9 @@
 -- What a reading of the piece at the head of a text says of the text.
-use Rattle.std.proofs.Common.{◌≡◌, ◌⊎◌, ℕ, zero, suc, ◌+◌, ◌-◌, ◌<◌, ◌≤◌, Bool, true, false, ◌==◌, if◌then◌else◌, Option, Some, None, List, [], ◌∷◌, ◌++◌, length, take, drop, refl, ap, sym, ◌∙◌, subst, arith, inl, inr, take-append-drop, length-take-le}
+use Rattle.std.proofs.Common.{◌≡◌, ℕ, ◌-◌, ◌≤◌, Bool, true, false, ◌==◌, if◌then◌else◌, Option, Some, None, List, [], ◌∷◌, ◌++◌, length, take, drop, refl, ap, sym, ◌∙◌, subst, arith, inr, take-append-drop, length-take-le}
 use Rattle.go_base.specs.declared.rule.Rule.{Rule}
 use Rattle.go_base.specs.declared.rule.Rule.TheVariants as rules
 use Rattle.go_ast.specs.Literals.{first_bad, item_rests, character, item, is_integer}
-use Rattle.go_ast.specs.Pieces.{Class, Space, LineComment, GeneralComment, Mark, Word, Numeral, RuneLiteral, StringLiteral, RawLiteral, class_of, extent, is_closed, is_of, is_piece, kind_of, kind_of_class, fault_of, fault_of_class, Fault, fault_at, at_start, bad_character, bad_item, rune_fault, or_else, stray_rule, bad_rule}
+use Rattle.go_ast.specs.Pieces.{Class, Space, LineComment, GeneralComment, Mark, Word, Numeral, RuneLiteral, StringLiteral, RawLiteral, class_of, extent, is_closed, is_of, is_piece, kind_of, kind_of_class, fault_of, fault_of_class, Fault, fault_at, at_start, or_else, stray_rule, bad_rule}
 use Rattle.go_ast.specs.Lexical.{IsLongest, IsFaultOf}
 use Rattle.go_scan.specs.Reading.{ending_of}
 use Rattle.go_scan.specs.declared.endings.Ending.{Ending}

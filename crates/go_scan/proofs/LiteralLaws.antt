@@ -1,5 +1,5 @@
 -- A text that is one piece.
-use Rattle.std.proofs.Common.{◌≡◌, ◌⊎◌, ℕ, ◌+◌, ◌<◌, ◌≤◌, Bool, true, Option, Some, None, List, [], ◌++◌, length, take, refl, ap, sym, ◌∙◌, subst, arith, append-nil, take_all, drop, length-take-le, ⊎_elim}
+use Rattle.std.proofs.Common.{◌≡◌, ℕ, ◌≤◌, true, Option, Some, None, List, [], length, take, ap, sym, ◌∙◌, arith, append-nil, take_all, drop, length-take-le, ⊎_elim}
 use Rattle.std.proofs.Math.Seq.{take-append_seam}
 use Rattle.go_ast.specs.declared.token.Kind.{Kind}
 use Rattle.go_ast.specs.Pieces.{is_piece, kind_of, fault_of, Fault, IsLiteral}

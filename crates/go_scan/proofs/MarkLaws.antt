@@ -1,9 +1,9 @@
 -- The longest mark: it is one, and none that begins the same text is longer.
-use Rattle.std.proofs.Common.{◌≡◌, ℕ, zero, suc, ◌+◌, ◌<◌, ◌≤◌, Bool, true, false, if◌then◌else◌, Option, Some, None, is_some, List, [], ◌∷◌, ◌++◌, length, take, refl, ap, sym, ◌∙◌, arith}
+use Rattle.std.proofs.Common.{◌≡◌, ℕ, ◌≤◌, Bool, true, false, if◌then◌else◌, None, is_some, List, [], ◌∷◌, ◌++◌, length, take, refl, ap, ◌∙◌, arith}
 use Rattle.std.proofs.Math.Bool.{and-false}
 use Rattle.go_ast.specs.Literals.{first, second}
 use Rattle.go_ast.specs.Marks.{mark_of_one, mark_of_two, mark_of_three, mark_kind}
-use Rattle.go_scan.specs.Reach.{third, longest_mark, mark_length}
+use Rattle.go_scan.specs.Reach.{mark_length}
 
 abbrev longest_by : Bool → Bool → Bool → ℕ
 longest_by three two one = if three then 3 else if two then 2 else if one then 1 else 0

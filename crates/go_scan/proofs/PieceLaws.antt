@@ -1,19 +1,17 @@
 -- The longest piece at the head of a text: it is one, and none that begins the text is longer.
-use Rattle.std.proofs.Common.{◌≡◌, ◌⊎◌, ℕ, zero, suc, ◌+◌, ◌-◌, ◌<◌, ◌≤◌, Bool, true, false, ◌&&◌, ◌==◌, if◌then◌else◌, Option, Some, None, is_some, List, [], ◌∷◌, ◌++◌, length, take, drop, refl, ap, sym, ◌∙◌, subst, arith, inl, inr}
-use Rattle.std.proofs.lemmas.Bool.{eqb-true, false≢true}
+use Rattle.std.proofs.Common.{◌≡◌, ◌⊎◌, ℕ, suc, ◌+◌, ◌≤◌, Bool, true, false, ◌&&◌, ◌==◌, if◌then◌else◌, Option, Some, None, is_some, List, [], ◌∷◌, ◌++◌, length, take, drop, refl, ap, sym, ◌∙◌, subst, arith, inl, inr}
+use Rattle.std.proofs.lemmas.Bool.{eqb-true}
 use Rattle.bstr.specs.Utf8.{decoded}
 use Rattle.go_ast.specs.Characters.{passing, is_letter, is_name_character, is_numeral_character, are_characters}
-use Rattle.go_ast.specs.Literals.{first, second}
-use Rattle.go_ast.specs.Pieces as pieces
 use Rattle.go_ast.specs.Pieces.{Class, Space, LineComment, GeneralComment, Mark, Word, Numeral, RuneLiteral, StringLiteral, RawLiteral, class_of, class_of_pair, extent, is_closed, is_within, is_of, is_piece, quoted_extent, comment_extent, raw_extent, is_space, is_decimal, begins_word}
-use Rattle.go_scan.specs.Reach.{run_length, line_length, comment_ending, quoted_ending, raw_ending, mark_length}
+use Rattle.go_scan.specs.Reach.{run_length, comment_ending, quoted_ending, raw_ending}
 use Rattle.go_scan.specs.Reading.{ending_of}
-use Rattle.go_scan.proofs.Parts.{IsLocal, run-step, run-stop}
+use Rattle.go_scan.proofs.Parts.{run-step, run-stop}
 use Rattle.go_scan.proofs.Decoding.{passing-local, passing-some}
 use Rattle.go_scan.proofs.PartLaws.{is_some-is, and-both, parts-longest, parts-run, run-within, step-front}
 use Rattle.go_scan.proofs.EndLaws.{shut, line-within, line-front, line-longest, comment-within, comment-front, comment-longest, quoted-within, quoted-front, quoted-longest, raw-within, raw-front, raw-longest}
-use Rattle.go_scan.proofs.MarkLaws.{IsMark, mark-found, mark-longest}
-use Rattle.go_scan.proofs.ClassLaws.{pair-cases, class-front, plain_class, pair_zero}
+use Rattle.go_scan.proofs.MarkLaws.{mark-found, mark-longest}
+use Rattle.go_scan.proofs.ClassLaws.{pair-cases, plain_class, pair_zero}
 use Rattle.go_scan.proofs.ItemLaws.{if_case}
 
 shut-within : (closed : Bool) → is_within (shut closed) ≡ true

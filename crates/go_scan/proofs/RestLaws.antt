@@ -1,5 +1,5 @@
 -- Turns of loops over the items of a text.
-use Rattle.std.proofs.Common.{◌≡◌, ℕ, zero, suc, ◌+◌, ◌-◌, ◌<◌, ◌≤◌, Bool, true, false, Option, Some, None, is_none, List, [], ◌∷◌, ◌++◌, length, take, drop, refl, ap, sym, ◌∙◌, arith, length-drop, drop-drop, take_all, append_assoc, get_or, if◌then◌else◌}
+use Rattle.std.proofs.Common.{◌≡◌, ℕ, zero, suc, ◌+◌, ◌-◌, ◌<◌, ◌≤◌, Bool, Option, Some, None, is_none, List, [], ◌∷◌, ◌++◌, length, take, drop, ap, sym, ◌∙◌, arith, length-drop, drop-drop, take_all, append_assoc, get_or, if◌then◌else◌}
 use Rattle.std.specs.Prelude.{unwrap_or, find, filter, flat_map, option_map}
 use Rattle.go_ast.specs.Characters.{rests}
 use Rattle.go_ast.specs.Literals.{Item, width_of, item_rests, first_bad, item, bytes_of}

@@ -1,9 +1,7 @@
 -- Turns of loops that read a text part by part.
-use Rattle.std.proofs.Common.{◌≡◌, ℕ, ◌+◌, ◌-◌, ◌<◌, ◌≤◌, Bool, Option, Some, None, List, length, take, drop, refl, ap, sym, ◌∙◌, arith, length-drop, take_all, drop-drop}
-use Rattle.go_ast.specs.Characters.{passing}
+use Rattle.std.proofs.Common.{◌≡◌, ℕ, ◌+◌, ◌-◌, ◌≤◌, Option, Some, None, List, length, take, drop, ap, sym, ◌∙◌, arith, length-drop, take_all, drop-drop}
 use Rattle.go_scan.specs.Reach.{run_length}
 use Rattle.go_scan.proofs.Parts.{IsLocal, run-step, run-stop}
-use Rattle.go_scan.proofs.Decoding.{passing-local}
 
 pub rest-is : (text : List ℕ) (at : ℕ) → take (length text - at) (drop at text) ≡ drop at text
 rest-is text at = take_all (length text - at) (drop at text) (omega (arith, length-drop at text))

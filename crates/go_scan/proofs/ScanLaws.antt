@@ -1,9 +1,9 @@
 -- A scan of a file, piece by piece.
-use Rattle.std.proofs.Common.{◌≡◌, ◌⊎◌, ℕ, zero, suc, ◌+◌, ◌-◌, ◌<◌, ◌≤◌, Bool, true, false, Option, Some, None, List, [], ◌∷◌, ◌++◌, length, take, drop, refl, ap, sym, ◌∙◌, subst, arith, append_assoc, append-nil, length-drop, drop-drop, length-take-le, take_all}
+use Rattle.std.proofs.Common.{◌≡◌, ℕ, ◌+◌, ◌-◌, ◌≤◌, Option, Some, None, List, [], ◌∷◌, ◌++◌, length, take, drop, refl, ap, sym, ◌∙◌, subst, arith, append_assoc, append-nil, length-drop, drop-drop, length-take-le}
 use Rattle.go_base.specs.declared.rule.Rule.{Rule}
 use Rattle.go_ast.specs.declared.token.Kind.{Kind}
 use Rattle.go_ast.specs.declared.token.Token.{Token}
-use Rattle.go_ast.specs.Pieces.{kind_of, fault_of, Fault}
+use Rattle.go_ast.specs.Pieces.{fault_of, Fault}
 use Rattle.go_ast.specs.Lexical.{Place, IsLongest, AreCut, IsFaultOf, IsFault, IsTokenList, mark_width, start_of, tokens_of, place_after, tokens_from, inserted}
 use Rattle.go_scan.specs.declared.pieces.Piece.{Piece}
 use Rattle.go_scan.specs.Scanning.{IsFound}

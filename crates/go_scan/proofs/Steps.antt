@@ -1,9 +1,8 @@
 -- What the readings of a text are worth one byte further.
-use Rattle.std.proofs.Common.{◌≡◌, ℕ, zero, suc, ◌+◌, ◌-◌, ◌*◌, ◌<◌, ◌≤◌, Bool, true, false, not, ◌&&◌, ◌==◌, if◌then◌else◌, List, [], ◌∷◌, length, get_or, drop, refl, ap, sym, ◌∙◌, arith, add-one, drop-cons, nat_lt}
+use Rattle.std.proofs.Common.{◌≡◌, ℕ, zero, suc, ◌+◌, ◌*◌, ◌<◌, ◌≤◌, Bool, true, false, not, ◌&&◌, ◌==◌, if◌then◌else◌, List, [], ◌∷◌, length, get_or, drop, refl, ap, arith, add-one, drop-cons, nat_lt}
 use Rattle.std.specs.Char.{digit_value}
 use Rattle.go_ast.specs.Literals.{digits_after, digits_value}
 use Rattle.go_scan.specs.Reach.{line_length, comment_ending, quoted_ending, raw_ending, ending, one_more}
-use Rattle.go_scan.specs.declared.endings.Ending.{Ending}
 
 pub drop-step : (text : List ℕ) (i : ℕ) → i < length text → drop i text ≡ get_or text i 0 ∷ drop (i + 1) text
 drop-step text i h = rw add-one (drop-cons text i 0 h)

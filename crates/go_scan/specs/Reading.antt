@@ -1,5 +1,5 @@
 -- What the types of the scanner stand for.
-use Rattle.std.specs.Prelude.{ℕ, ◌+◌, ◌-◌, List, Bool, true, false, Option, Some, None, is_some, drop, if◌then◌else◌}
+use Rattle.std.specs.Prelude.{ℕ, ◌+◌, List, true, false, Option, is_some, drop, if◌then◌else◌}
 use Rattle.go_ast.specs.Characters.{is_letter, is_name_character, is_numeral_character, passing}
 use Rattle.go_ast.specs.Literals as literals
 use Rattle.go_ast.specs.Literals.{character, item}

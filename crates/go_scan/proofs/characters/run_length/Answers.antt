@@ -1,8 +1,8 @@
-use Rattle.std.proofs.Common.{◌+◌, arith, sym, ◌∙◌}
+use Rattle.std.proofs.Common.{arith, sym, ◌∙◌}
 use Rattle.go_ast.specs.Characters.{passing}
 use Rattle.go_scan.specs.Runs.{allows}
 use Rattle.go_scan.proofs.Decoding.{passing-local}
-use Rattle.go_scan.proofs.Runs.{IsTurn, run-turn, run-over}
+use Rattle.go_scan.proofs.Runs.{IsTurn, run-turn}
 use Rattle.go_scan.proofs.characters.run_length.Goals as goal
 
 turn : (c : goal.In-Some) → IsTurn (passing (allows c.args.run)) c.args.text.now c.loop-width.at c.in-Some.width

@@ -1,4 +1,4 @@
-use Rattle.std.proofs.Common.{◌≡◌, ℕ, ◌+◌, ◌-◌, ◌≤◌, length, drop}
+use Rattle.std.proofs.Common.{◌≡◌, ◌+◌, ◌-◌, ◌≤◌, length, drop}
 use Rattle.go_ast.specs.Characters.{passing}
 use Rattle.go_scan.specs.Reach.{run_length}
 use Rattle.go_scan.specs.Runs.{allows}

@@ -1,4 +1,4 @@
-use Rattle.std.proofs.Common.{◌+◌, arith, sym, ◌∙◌, ap, length, length-drop}
+use Rattle.std.proofs.Common.{arith, sym, ◌∙◌, ap, length, length-drop}
 use Rattle.go_scan.specs.Reading.{reading, view_item}
 use Rattle.go_scan.proofs.RestLaws.{rest-is, IsCounted, count-turn}
 use Rattle.go_scan.proofs.faults.count_items.Goals as goal

@@ -1,4 +1,4 @@
-use Rattle.std.proofs.Common.{length, drop, ◌-◌, ◌≡◌, ℕ, ◌+◌, ◌≤◌}
+use Rattle.std.proofs.Common.{length, drop, ◌-◌, ◌≡◌, ◌+◌, ◌≤◌}
 use Rattle.go_ast.specs.Literals.{first_bad, item_rests}
 use Rattle.go_scan.specs.Reading.{reading}
 use Rattle.go_scan.proofs.faults.count_items.Given as goal

@@ -1,6 +1,6 @@
-use Rattle.std.proofs.Common.{◌≡◌, ◌+◌, ◌*◌, ◌^◌, ◌<◌, ◌≤◌, length, get_or, drop, arith, sym, ◌∙◌, ap, subst, ℕ, option_map, pos, Some, None}
+use Rattle.std.proofs.Common.{◌≡◌, ◌+◌, ◌*◌, get_or, drop, arith, sym, ◌∙◌, ap, option_map, pos, Some, None}
 use Rattle.std.specs.Char.{digit_value}
-use Rattle.go_ast.specs.Literals.{digits_value, int_value, base_of, digits_of}
+use Rattle.go_ast.specs.Literals.{digits_value, int_value, base_of}
 use Rattle.go_scan.specs.Reach.{limited}
 use Rattle.go_scan.proofs.Digits.{int-bar, int-digit, int-over, limited-some}
 use Rattle.go_scan.proofs.integers.int_value.Goals as goal

@@ -1,4 +1,4 @@
-use Rattle.std.proofs.Common.{◌≡◌, ◌+◌, ◌*◌, ◌^◌, ◌<◌, ◌≤◌, length, get_or, drop, ◌-◌, arith, sym, ◌∙◌, ap, subst, ℕ}
+use Rattle.std.proofs.Common.{◌+◌, ◌*◌, ◌<◌, ◌≤◌, get_or, drop, ◌-◌, arith, sym, ◌∙◌, ap, subst}
 use Rattle.std.specs.Char.{digit_value}
 use Rattle.go_ast.specs.Literals.{fixed_digits}
 use Rattle.go_scan.proofs.Digits.{fixed-short, fixed-good, fixed-bad, digit-fits, power-fits}

@@ -1,4 +1,4 @@
-use Rattle.std.proofs.Common.{◌≡◌, ◌≤◌, ◌+◌, ◌-◌, arith, ap, sym, ◌∙◌, length, take, drop, length-drop, false}
+use Rattle.std.proofs.Common.{◌-◌, arith, ap, sym, ◌∙◌, length, take, drop, length-drop, false}
 use Rattle.go_scan.specs.Reach.{comment_ending, quoted_ending, raw_ending}
 use Rattle.go_scan.specs.Reading.{ending_of, view_class, behind}
 use Rattle.go_scan.proofs.RestLaws.{rest-is}

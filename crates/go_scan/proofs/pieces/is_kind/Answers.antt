@@ -1,4 +1,4 @@
-use Rattle.std.proofs.Common.{rules, ◌≡◌, ◌∙◌, sym, ap, Some}
+use Rattle.std.proofs.Common.{rules, ◌∙◌, sym, ap, Some}
 use Rattle.go_scan.proofs.pieces.is_kind.Goals as goal
 use denote.Enum.Bare.{same_true}
 use Rattle.go_ast.specs.contracts.token.Kind.{the_type}

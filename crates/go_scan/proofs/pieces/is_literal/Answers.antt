@@ -1,4 +1,4 @@
-use Rattle.std.proofs.Common.{◌≡◌, sym, ◌∙◌, eq-eqb, IsTrue, nat_eq, length}
+use Rattle.std.proofs.Common.{eq-eqb, length}
 use Rattle.go_scan.specs.Reading.{view_fault}
 use Rattle.go_scan.proofs.LiteralLaws.{literal-found, found-literal, literal-faultless}
 use Rattle.go_scan.proofs.pieces.is_literal.Goals as goal

@@ -1,6 +1,5 @@
-use Rattle.std.proofs.Common.{◌≡◌, ◌≤◌, ◌⊎◌, ap, sym, ◌∙◌, arith, length, take, length-take-le, inl, Some, None, option_map}
-use Rattle.go_ast.specs.Pieces.{fault_of_class, kind_of_class, stray_rule}
-use Rattle.go_scan.specs.Reading.{ending_of, view_class, view_fault}
+use Rattle.std.proofs.Common.{ap, sym, ◌∙◌, arith, take, length-take-le, inl, option_map}
+use Rattle.go_scan.specs.Reading.{view_class, view_fault}
 use Rattle.go_scan.proofs.FoundLaws.{IsSpelled, spelled-of, stray-of, fault-within}
 use Rattle.go_scan.proofs.pieces.read_piece.Goals as goal
 

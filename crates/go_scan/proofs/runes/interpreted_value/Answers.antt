@@ -1,4 +1,4 @@
-use Rattle.std.proofs.Common.{◌≡◌, arith, ◌∙◌, length, ap, length-drop}
+use Rattle.std.proofs.Common.{arith, ◌∙◌, length, ap, length-drop}
 use Rattle.go_scan.proofs.RestLaws.{rest-is, value-turn}
 use Rattle.go_scan.proofs.runes.interpreted_value.Goals as goal
 

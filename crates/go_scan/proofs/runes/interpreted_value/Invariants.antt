@@ -1,4 +1,4 @@
-use Rattle.std.proofs.Common.{length, drop, ◌-◌, ◌≡◌, ◌++◌, ℕ, ◌+◌, ◌≤◌}
+use Rattle.std.proofs.Common.{length, drop, ◌-◌, ◌≡◌, ◌++◌, ◌≤◌}
 use Rattle.std.specs.Prelude.{flat_map}
 use Rattle.go_ast.specs.Literals.{item, item_rests}
 use Rattle.go_scan.proofs.RestLaws.{string_bytes_of}

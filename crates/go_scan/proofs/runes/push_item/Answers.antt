@@ -1,4 +1,4 @@
-use Rattle.std.proofs.Common.{◌≡◌, arith, sym, ◌∙◌, length-take-le}
+use Rattle.std.proofs.Common.{arith, sym, ◌∙◌, length-take-le}
 use Rattle.std.proofs.lemmas.Bool.{false≢true}
 use Rattle.go_scan.specs.Reading.{view_item}
 use Rattle.go_scan.proofs.ItemLaws.{item-byte, item-point, item-good, point-scalar}
