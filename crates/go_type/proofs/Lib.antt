@@ -1,0 +1,11 @@
+pub mod Shifts
+pub mod SameTerm
+pub mod Places
+pub mod Distinct
+pub mod Predeclared
+pub mod IdenticalTypes
+pub mod Saturate
+pub mod Comparables
+pub mod Numbered
+pub mod Selections
+pub mod Leaves

@@ -1,0 +1,11 @@
+pub mod Constants
+pub mod Same
+pub mod Table
+pub mod Held
+pub mod Identity
+pub mod Representable
+pub mod Comparable
+pub mod Selector
+pub mod Assignable
+pub mod MethodSets
+pub mod Sizes
