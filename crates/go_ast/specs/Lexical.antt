@@ -1,12 +1,12 @@
 -- How bytes are cut into pieces, which tokens they are, and where they cannot be cut. Go specification, "Lexical
 -- elements", "Semicolons".
-use Rattle.std.specs.Prelude.{◌≡◌, ℕ, ◌+◌, ◌-◌, ◌≤◌, List, [], ◌∷◌, ◌++◌, length, drop, Bool, true, false, Option, Some, None, ◌==◌, if◌then◌else◌, nat_eq, ◌⊎◌}
+use Rattle.std.specs.Prelude.{◌≡◌, ℕ, ◌+◌, ◌-◌, ◌≤◌, List, [], ◌∷◌, ◌++◌, length, drop, Bool, true, false, Option, Some, None, ◌==◌, if◌then◌else◌, nat_eq, ◌⊎◌, ◌≢◌, take}
 use Rattle.std.specs.List.{list_any, starts_with}
 use Rattle.go_ast.specs.declared.token.Kind.{Kind}
 use Rattle.go_ast.specs.declared.token.Kind.TheVariants as kinds
 use Rattle.go_ast.specs.declared.token.Token.{Token}
 use Rattle.go_base.specs.declared.rule.Rule.{Rule}
-use Rattle.go_ast.specs.Pieces.{is_piece, kind_of, Fault, fault_of, stray_rule}
+use Rattle.go_ast.specs.Pieces.{is_piece, kind_of, Fault, fault_of, stray_rule, IsLiteral}
 
 -- ---- cuts
 
@@ -89,6 +89,16 @@ pub record IsTokenList (bytes : List ℕ) (tokens : List Token) : Type 0 where
   pub pieces : List (List ℕ)
   pub cut : IsCutInto bytes pieces
   pub tokens_are : tokens ≡ tokens_from (start_of bytes) pieces
+
+-- the bytes of a token
+abbrev pub token_text : List ℕ → Token → List ℕ
+token_text bytes token = take (token.end - token.start) (drop token.start bytes)
+
+-- a token lies in the bytes, and one that was not put in is spelled there, without a fault
+pub record IsTokenIn (bytes : List ℕ) (token : Token) : Type 0 where
+  pub ordered : token.start ≤ token.end
+  pub within : token.end ≤ length bytes
+  pub spelled : token.kind ≢ kinds.Inserted → IsLiteral token.kind (token_text bytes token)
 
 -- ---- faults
 

@@ -7,7 +7,7 @@ mod token;
 mod tokens;
 mod tree;
 
-pub use laws::one_cut;
+pub use laws::{one_cut, spelled_tokens};
 pub use token::{Kind, Token};
 pub use tokens::Tokens;
 pub use tree::{Block, Call, FileTree};

@@ -141,6 +141,7 @@ fn refused(at: u32, fault: Fault) -> ScanError
 /// Cuts the bytes of a file into tokens, with the semicolons of its lines put in.
 ///
 /// `Refused` names the first place where the bytes cannot be cut, in bytes from 0, and the rule that is broken there.
+/// The number of the file, from 0, is free: the answer speaks of bytes alone.
 pub fn scan(alloc: Global, file: u32, bytes: &[u8]) -> Result<Tokens, ScanError>
     requires { length bytes.now ≤ 4194304 }
     ensures tokens { IfOk result (λ tokens. IsTokenList bytes.now tokens) }
