@@ -18,7 +18,7 @@ use Rattle.go_type.specs.declared.term.TypeTerm.TheVariants.{Struct, Interface}
 use Rattle.go_type.specs.Table.{Table, term_at, underlying_of, definition_at}
 use Rattle.go_type.proofs.Saturate.{Property, Within, steps, never_shows}
 use Rattle.go_type.proofs.Comparables.{undefined, termless}
-use Rattle.go_type.specs.Selector.{is_wanted, flat_map_from, method_named, signature_named, field_named, members_named, embedded_by, embedded_of, selected_in, embedded_in, places_at, selected_at, NoneAbove, Selects, IsFirst, without_pointer}
+use Rattle.go_type.specs.Selector.{is_wanted, flat_map_from, method_named, signature_named, field_named, members_named, embedded_by, embedded_of, selected_in, embedded_in, places_at, selected_at, NoneAbove, Selects, IsFirst, without_pointer, base}
 
 -- the one found, or the first two, where nothing is found above
 pub selects_first : (types : Table) (wanted : Wanted) (a : TypeId) (n : ℕ) (found : List Selection) (r : Result Selection SelectError)
@@ -227,11 +227,11 @@ module _ (types : Table) (counts : length types.definitions ≡ length types.ter
   below_next zero places = refl
   below_next (suc n) places = below_next n (flat_map (embedded_in types) places)
 
-  places_below : (a : TypeId) (n : ℕ) → places_at n types a ≡ below n (record { of = without_pointer types a; path = [] } ∷ [])
+  places_below : (a : TypeId) (n : ℕ) → places_at n types a ≡ below n (record { of = base types a; path = [] } ∷ [])
   unfolding places_at
   places_below a zero = refl
   places_below a (suc n) =
-      ap (flat_map (embedded_in types)) (places_below a n) ∙ below_next n (record { of = without_pointer types a; path = [] } ∷ [])
+      ap (flat_map (embedded_in types)) (places_below a n) ∙ below_next n (record { of = base types a; path = [] } ∷ [])
 
   -- where nothing is selected above a depth, nothing shows by then
   nothing_shows : (n : ℕ) (places : List Place) → ((k : ℕ) → k < n → flat_map (selected_in types wanted) (below k places) ≡ []) → among n places ≡ false
@@ -251,11 +251,11 @@ module _ (types : Table) (counts : length types.definitions ≡ length types.ter
   -- what is not selected above as many levels as there are types is selected nowhere
   pub none_at_all : (a : TypeId) → NoneAbove (length types.terms) types wanted a → (n : ℕ) → selected_at n types wanted a ≡ []
   none_at_all a none n =
-      let start : List Place = record { of = without_pointer types a; path = [] } ∷ [] in
+      let start : List Place = record { of = base types a; path = [] } ∷ [] in
       let hidden : among (length types.terms) start ≡ false =
       nothing_shows (length types.terms) start (λ k less. ap (flat_map (selected_in types wanted)) (sym (places_below a k)) ∙ none k less) in
-      let never : (m : ℕ) → shows m (without_pointer types a) ≡ false =
-      never_shows (next types wanted) (mono types wanted) (length types.terms) inside (without_pointer types a) (or_left_false (shows (length types.terms) (without_pointer types a)) false hidden) in
+      let never : (m : ℕ) → shows m (base types a) ≡ false =
+      never_shows (next types wanted) (mono types wanted) (length types.terms) inside (base types a) (or_left_false (shows (length types.terms) (base types a)) false hidden) in
       ap (flat_map (selected_in types wanted)) (places_below a n) ∙ nothing_selected n start (λ m. ap (λ b. b || false) (never m))
 
 -- ---- vectors without items

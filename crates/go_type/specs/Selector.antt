@@ -1,5 +1,5 @@
 -- What a selector selects. Go specification, "Selectors" and "Struct types".
-use Rattle.std.specs.Prelude.{◌≡◌, ℕ, zero, suc, ◌+◌, ◌<◌, Bool, ◌==◌, ◌&&◌, List, [], ◌∷◌, ◌++◌, if◌then◌else◌, Option, Some, Result, Ok, Err}
+use Rattle.std.specs.Prelude.{false, ◌≡◌, ℕ, zero, suc, ◌+◌, ◌<◌, Bool, ◌==◌, ◌&&◌, List, [], ◌∷◌, ◌++◌, if◌then◌else◌, Option, Some, Result, Ok, Err, ◌⊎◌, ◌≢◌, not, true}
 use Rattle.std.specs.List.{flat_map}
 use Rattle.go_base.specs.declared.ids.NameId.{NameId}
 use Rattle.go_base.specs.declared.ids.TypeId.{TypeId}
@@ -14,6 +14,7 @@ use Rattle.go_type.specs.declared.methods.SelectError.{SelectError}
 use Rattle.go_type.specs.declared.methods.SelectError.TheVariants as error
 use Rattle.go_type.specs.declared.selectors.Wanted.{Wanted}
 use Rattle.go_type.specs.declared.selectors.Place.{Place}
+use Rattle.go_type.specs.Assignable.{is_interface}
 use Rattle.go_type.specs.Table.{Table, term_at, definition_at, underlying_of}
 
 -- names are compared with the package that they belong to
@@ -75,9 +76,17 @@ embedded_in types place = embedded_of types place.path (term_at types (underlyin
 
 -- ---- by depth
 
+-- where a selector begins: at what a pointer points to, but for a pointer to an interface
+abbrev pub base_by : Table → Option TypeTerm → TypeId → TypeId
+base_by types (Some (Pointer elem)) a = if is_interface (term_at types (underlying_of types elem)) then a else elem
+base_by types _ a = a
+
+abbrev pub base : Table → TypeId → TypeId
+base types a = base_by types (term_at types (underlying_of types a)) a
+
 -- the places at a depth below a type, in the order of their paths
 unfoldable pub places_at : ℕ → Table → TypeId → List Place
-places_at zero types a = record { of = without_pointer types a; path = [] } ∷ []
+places_at zero types a = record { of = base types a; path = [] } ∷ []
 places_at (suc n) types a = flat_map (embedded_in types) (places_at n types a)
 
 abbrev pub selected_at : ℕ → Table → Wanted → TypeId → List Selection
@@ -94,6 +103,21 @@ Selects types wanted a (Err (error.Ambiguous first second)) =
     × ((selected_at n types wanted a ≡ f ∷ g ∷ rest) × (f.path ≡ first) × (g.path ≡ second) × NoneAbove n types wanted a))))
 Selects types wanted a (Err error.Absent) = (n : ℕ) → selected_at n types wanted a ≡ []
 Selects types wanted a (Err error.OutOfMemory) = Unit {0}
+
+-- a declared type that is a pointer has the fields of what it points to, and no methods
+abbrev pub is_pointer : Option TypeTerm → Bool
+is_pointer (Some (Pointer elem)) = true
+is_pointer _ = false
+
+abbrev pub is_declared_pointer : Table → TypeId → Bool
+is_declared_pointer types a = is_pointer (term_at types (underlying_of types a)) && not (is_pointer (term_at types a))
+
+abbrev pub SelectsFrom : Table → Wanted → TypeId → Result Selection SelectError → Type 0
+SelectsFrom types wanted a (Ok selection) = Selects types wanted a (Ok selection) × (is_declared_pointer types a ≡ true → selection.kind ≡ kind.Field)
+SelectsFrom types wanted a (Err error.Absent) =
+    Selects types wanted a (Err error.Absent)
+    ⊎ ((is_declared_pointer types a ≡ true) × ((s : Selection) × ((s.kind ≢ kind.Field) × Selects types wanted a (Ok s))))
+SelectsFrom types wanted a (Err e) = Selects types wanted a (Err e)
 
 -- the one selection, or the paths of the first two
 abbrev pub IsFirst : List Selection → Result Selection SelectError → Type 0

@@ -27,7 +27,7 @@ pub fn assignable(types: &Types, from: TypeId, to: TypeId) -> bool
 fn has_underlying_of(types: &Types, a: TypeId, b: TypeId) -> bool
     ensures { result ≡ same_id (underlying_of types.now a) (underlying_of types.now b) }
 {
-    types.underlying_of(a) == types.underlying_of(b)
+    types.underlying(a) == types.underlying(b)
 }
 
 /// Whether a type is predeclared or declared.
@@ -123,7 +123,7 @@ fn has_method(types: &Types, a: TypeId, method: &MethodType) -> bool {
 #[cycle(found)]
 fn found_at(types: &Types, wanted: Wanted, id: TypeId, indirect: bool, depth: usize) -> Found {
     let (of, indirect) = match types.get(id) {
-        Some(TypeTerm::Pointer(elem)) => (*elem, true),
+        Some(TypeTerm::Pointer(elem)) if !is_interface_type(types, *elem) => (*elem, true),
         _ => (id, indirect),
     };
     if depth == 0 {

@@ -1,8 +1,10 @@
 //! What a selector selects. Go specification, "Selectors" and "Struct types".
 
-ghost use Rattle.std.specs.Prelude.{◌≡◌, ◌<◌, ◌^◌, ◌++◌, ◌∷◌, [], zero, length, OnOk, IfOk, List};
+ghost use Rattle.std.specs.Prelude.{if◌then◌else◌, ◌≡◌, ◌<◌, ◌^◌, ◌++◌, ◌∷◌, [], zero, length, OnOk, IfOk, List};
 ghost use Rattle.std.specs.List.{flat_map};
-ghost use Rattle.go_type.specs.Selector.{Selects, IsFirst, is_wanted, method_named, field_named, fields_named, signature_named, selected_in, without_pointer, embedded_by, embedded_from, embedded_in};
+ghost use Rattle.go_type.specs.Assignable.{is_interface};
+ghost use Rattle.go_type.specs.Table.{term_at, underlying_of};
+ghost use Rattle.go_type.specs.Selector.{SelectsFrom, is_declared_pointer, base, Selects, IsFirst, is_wanted, method_named, field_named, fields_named, signature_named, selected_in, without_pointer, embedded_by, embedded_from, embedded_in};
 
 use crate::methods::{MethodEntry, Path, SelectError, Selection, SelectionKind};
 use crate::term::{Field, MethodType, TypeTerm};
@@ -35,8 +37,42 @@ pub struct Place {
 
 /// The field or method of a name at the least depth of a type, or of what a pointer type points to. `Absent` exactly
 /// where there is none, and `Ambiguous` exactly where there are two or more at the least depth, with the paths of the
-/// first two. The name belongs to the package `of`.
+/// first two. A declared type that is a pointer has the fields of what it points to, and no methods. The name belongs
+/// to the package `of`.
 pub fn find_selector(
+    alloc: Global,
+    types: &Types,
+    a: TypeId,
+    name: NameId,
+    of: u32,
+) -> Result<Selection, SelectError>
+    ensures { SelectsFrom types.now (record { name = name; «package» = of }) a result }
+{
+    let selection = match select(alloc, types, a, name, of) {
+        Ok(selection) => selection,
+        Err(error) => return Err(error),
+    };
+    if let SelectionKind::Field = selection.kind {
+        return Ok(selection);
+    }
+    if is_declared_pointer(types, a) {
+        return Err(SelectError::Absent);
+    }
+    Ok(selection)
+}
+
+fn is_declared_pointer(types: &Types, a: TypeId) -> bool
+    ensures { result ≡ is_declared_pointer types.now a }
+{
+    match (types.underlying_term(a), types.get(a)) {
+        (Some(TypeTerm::Pointer(_)), Some(TypeTerm::Pointer(_))) => false,
+        (Some(TypeTerm::Pointer(_)), _) => true,
+        _ => false,
+    }
+}
+
+/// The field or method of a name at the least depth.
+fn select(
     alloc: Global,
     types: &Types,
     a: TypeId,
@@ -86,14 +122,33 @@ fn first_of(found: Vec<Selection>) -> Result<Selection, SelectError>
 
 /// The place of a type itself, or of what a pointer type points to.
 pub fn first_level(alloc: Global, types: &Types, a: TypeId) -> Result<Vec<Place>, NoMemory>
-    ensures { IfOk result (λ level. level.items ≡ record { of = without_pointer types.now a; path = [] } ∷ []) }
+    ensures { IfOk result (λ level. level.items ≡ record { of = base types.now a; path = [] } ∷ []) }
 {
     let mut level = Vec::new(alloc);
     level.push(Place {
-        of: follow(types, a),
+        of: base(types, a),
         path: Path::new(alloc),
     })?;
     Ok(level)
+}
+
+/// Where a selector begins: at what a pointer points to, but for a pointer to an interface.
+fn base(types: &Types, a: TypeId) -> TypeId
+    ensures { result ≡ base types.now a }
+{
+    match types.underlying_term(a) {
+        Some(TypeTerm::Pointer(elem)) => beyond(types, *elem, a),
+        _ => a,
+    }
+}
+
+fn beyond(types: &Types, elem: TypeId, a: TypeId) -> TypeId
+    ensures { result ≡ (if is_interface (term_at types.now (underlying_of types.now elem)) then a else elem) }
+{
+    match types.underlying_term(elem) {
+        Some(TypeTerm::Interface(_)) => a,
+        _ => elem,
+    }
 }
 
 /// What a pointer type points to, and else the type.

@@ -170,7 +170,7 @@ fn identical_types(rt: HostRuntime) -> Result<(), Fail> {
     assert!(rt; !identical(&types, first, with_tag));
     assert!(rt; !identical(&types, here, there));
     assert!(rt; !identical(&types, named, first));
-    assert_eq!(rt; types.underlying_of(named), first);
+    assert_eq!(rt; types.underlying(named), first);
     Ok(())
 }
 
@@ -274,6 +274,27 @@ fn selectors(rt: HostRuntime) -> Result<(), Fail> {
         }
         Err(_) => assert!(rt; false),
     }
+    Ok(())
+}
+
+#[test]
+fn selectors_of_pointers(rt: HostRuntime) -> Result<(), Fail> {
+    let alloc = rt.alloc();
+    let mut types = Types::new(alloc, name(0), name(1))?;
+    let int = basic(&mut types, Basic::Int)?;
+    let x = one_field(&rt, alloc, &mut types, plain(alloc, 5, int, false))?;
+    let t = declare(&rt, &mut types, 6, x)?;
+    method(&rt, alloc, &mut types, t, 7, true)?;
+    let pointer = types.hold(TypeTerm::Pointer(t))?;
+    let named = declare(&rt, &mut types, 8, pointer)?;
+    let error = types.error();
+    let to_error = types.hold(TypeTerm::Pointer(error))?;
+    assert!(rt; find_selector(alloc, &types, pointer, name(7), EXPORTED).is_ok());
+    assert!(rt; find_selector(alloc, &types, named, name(5), EXPORTED).is_ok());
+    assert!(rt; find_selector(alloc, &types, named, name(7), EXPORTED).is_err());
+    assert!(rt; find_selector(alloc, &types, error, name(1), EXPORTED).is_ok());
+    assert!(rt; find_selector(alloc, &types, to_error, name(1), EXPORTED).is_err());
+    assert!(rt; !assignable(&types, to_error, error));
     Ok(())
 }
 

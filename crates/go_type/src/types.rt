@@ -210,16 +210,6 @@ impl Types {
         &self.terms.as_slice()[id.number as usize]
     }
 
-    /// The underlying type of a type.
-    pub fn underlying(&self, id: TypeId) -> TypeId
-        requires { id.number < length self.now.terms }
-        ensures { result ≡ underlying_of self.now id }
-    {
-        self.definitions[id.number as usize]
-            .underlying
-            .unwrap_or(id)
-    }
-
     /// The term of a type. None where that is not held.
     pub fn get(&self, id: TypeId) -> Option<&TypeTerm>
         ensures { option_copied result ≡ term_at self.now id }
@@ -242,11 +232,11 @@ impl Types {
         ensures term { option_copied result ≡ term_at self.now (underlying_of self.now id) }
         ensures fields { IfSome result (λ term. FieldsFit term.now) }
     {
-        self.terms.get_index(self.underlying_of(id).number as usize)
+        self.terms.get_index(self.underlying(id).number as usize)
     }
 
     /// The underlying type of a type, which is the type itself where it is not declared.
-    pub fn underlying_of(&self, id: TypeId) -> TypeId
+    pub fn underlying(&self, id: TypeId) -> TypeId
         ensures { result ≡ underlying_of self.now id }
     {
         match self.definitions.get(id.number as usize) {

@@ -15,4 +15,4 @@ pub returns : goal.returns
 returns c = λ all.
     one_more c.args.types.now c.args.a c.args.entries.now.items c.push.new.self.items
     (record { name = c.args.candidate.name; «package» = c.args.candidate.package; path = c.in-Ok.selection.path; kind = c.in-Ok.selection.kind; of = c.in-Ok.selection.result; pointer = c.args.candidate.pointer })
-    c.in_ok-push.ensures.items (c.in-Ok.ensures, c.in_default.not-Field) all
+    c.in_ok-push.ensures.items (c.in-Ok.ensures.0, c.in_default.not-Field) all
