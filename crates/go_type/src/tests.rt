@@ -238,6 +238,10 @@ fn assignable_types(rt: HostRuntime) -> Result<(), Fail> {
     Ok(())
 }
 
+fn leads(path: &Path, steps: &[u32]) -> bool {
+    path.as_slice() == steps
+}
+
 #[test]
 fn selectors(rt: HostRuntime) -> Result<(), Fail> {
     let alloc = rt.alloc();
@@ -252,8 +256,8 @@ fn selectors(rt: HostRuntime) -> Result<(), Fail> {
     let both = hold_struct(&rt, &mut types, fields)?;
     match find_selector(alloc, &types, both, name(5), EXPORTED) {
         Err(SelectError::Ambiguous { first, second }) => {
-            assert_eq!(rt; first.as_slice(), [0, 0].as_slice());
-            assert_eq!(rt; second.as_slice(), [1, 0].as_slice());
+            assert!(rt; leads(&first, &[0, 0]));
+            assert!(rt; leads(&second, &[1, 0]));
         }
         _ => assert!(rt; false),
     }
@@ -269,7 +273,7 @@ fn selectors(rt: HostRuntime) -> Result<(), Fail> {
     let deep = one_field(&rt, alloc, &mut types, plain(alloc, 9, deep, true))?;
     match find_selector(alloc, &types, deep, name(5), EXPORTED) {
         Ok(selection) => {
-            assert_eq!(rt; selection.path.as_slice(), [0, 0, 0].as_slice());
+            assert!(rt; leads(&selection.path, &[0, 0, 0]));
             assert_eq!(rt; selection.kind, SelectionKind::Field);
         }
         Err(_) => assert!(rt; false),
