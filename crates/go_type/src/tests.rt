@@ -1,8 +1,8 @@
 use crate::{
     Basic, Const, ConstError, ConstOp, Dir, EXPORTED, Field, Fields, IntFault, MethodEntry,
-    MethodSet, MethodType, MethodTypes, Path, SelectError, SelectionKind, Signature, TypeIds,
-    TypeName, TypeTerm, Types, assignable, comparable, find_selector, identical, int_binary,
-    int_shift, is_nested_within, join, leaves_up_to, method_set, represent,
+    MethodSet, MethodType, MethodTypes, Path, SelectError, Selection, SelectionKind, Signature,
+    TypeIds, TypeName, TypeTerm, Types, assignable, comparable, find_selector, identical,
+    int_binary, int_shift, is_nested_within, join, leaves_up_to, method_set, represent,
 };
 use go_base::{Bytes, FuncId, NameId, TypeId};
 use std::alloc::Global;
@@ -242,6 +242,26 @@ fn leads(path: &Path, steps: &[u32]) -> bool {
     path.as_slice() == steps
 }
 
+type Found = Result<Selection, SelectError>;
+
+fn is_ambiguous(found: &Found, one: &[u32], other: &[u32]) -> bool {
+    match found {
+        Err(SelectError::Ambiguous { first, second }) => leads(first, one) && leads(second, other),
+        _ => false,
+    }
+}
+
+fn is_absent(found: &Found) -> bool {
+    matches!(found, Err(SelectError::Absent))
+}
+
+fn is_field(found: &Found, steps: &[u32]) -> bool {
+    match found {
+        Ok(selection) => selection.kind == SelectionKind::Field && leads(&selection.path, steps),
+        _ => false,
+    }
+}
+
 #[test]
 fn selectors(rt: HostRuntime) -> Result<(), Fail> {
     let alloc = rt.alloc();
@@ -254,30 +274,16 @@ fn selectors(rt: HostRuntime) -> Result<(), Fail> {
     fields.push(plain(alloc, 6, a, true))?;
     fields.push(plain(alloc, 7, b, true))?;
     let both = hold_struct(&rt, &mut types, fields)?;
-    match find_selector(alloc, &types, both, name(5), EXPORTED) {
-        Err(SelectError::Ambiguous { first, second }) => {
-            assert!(rt; leads(&first, &[0, 0]));
-            assert!(rt; leads(&second, &[1, 0]));
-        }
-        _ => assert!(rt; false),
-    }
-    assert!(rt;
-        matches!(
-            find_selector(alloc, &types, both, name(8), EXPORTED),
-            Err(SelectError::Absent)
-        )
-    );
+    let found = find_selector(alloc, &types, both, name(5), EXPORTED);
+    assert!(rt; is_ambiguous(&found, &[0, 0], &[1, 0]));
+    let found = find_selector(alloc, &types, both, name(8), EXPORTED);
+    assert!(rt; is_absent(&found));
     let deep = types.hold(TypeTerm::Pointer(a))?;
     let deep = one_field(&rt, alloc, &mut types, plain(alloc, 6, deep, true))?;
     let deep = declare(&rt, &mut types, 9, deep)?;
     let deep = one_field(&rt, alloc, &mut types, plain(alloc, 9, deep, true))?;
-    match find_selector(alloc, &types, deep, name(5), EXPORTED) {
-        Ok(selection) => {
-            assert!(rt; leads(&selection.path, &[0, 0, 0]));
-            assert_eq!(rt; selection.kind, SelectionKind::Field);
-        }
-        Err(_) => assert!(rt; false),
-    }
+    let found = find_selector(alloc, &types, deep, name(5), EXPORTED);
+    assert!(rt; is_field(&found, &[0, 0, 0]));
     Ok(())
 }
 
