@@ -4,9 +4,8 @@ ghost use Rattle.std.specs.List.Sorted.{IsStrictlyIncreasing};
 use crate::call::ssadump;
 use crate::outcome::Outcome;
 use crate::status::status;
-use go_base::{MemFiles, MemSink};
+use go_base::{MemFiles, MemSink, NoMemory};
 use std::alloc::{AllocError, Global};
-use std::process::Abort;
 use std::test::Fail;
 
 const HELLO: &str = "package main\n\nfunc main() { println(\"hi\", 7) }\n";
@@ -97,11 +96,11 @@ fn plan(fails: bool) -> &'static [u64]
 
 // Calls `-run path` where `bytes` stand at `path`; the first call of each device fails as said.
 fn run_with(
-    rt: &(impl Abort + AllocGlobal),
+    rt: &impl AllocGlobal,
     path: &str,
     bytes: &[u8],
     fails: (bool, bool, bool),
-) -> Result<Answer, Fail> {
+) -> Result<Answer, NoMemory> {
     let alloc = rt.alloc();
     let words = words_of(alloc, &["-run", path])?;
     let mut files = MemFiles::new(alloc, plan(fails.0))?;
@@ -178,6 +177,21 @@ fn tells_faults(rt: HostRuntime) -> Result<(), Fail> {
         assert_eq!(rt; answer.err.bytes(), err.as_bytes());
     }
     Ok(())
+}
+
+// With each allocation failing in turn: want of memory is told, and what was written is a front of what is right.
+#[test]
+fn wants_memory(rt: HostRuntime) {
+    if let Ok(answer) = run_with(&rt, "x.go", HELLO.as_bytes(), (false, false, false)) {
+        let code = status(&answer.outcome);
+        assert!(rt; code == 0 || code == 6);
+        assert!(rt; b"hi 7\n".as_slice().starts_with(answer.out.bytes()));
+        let line = b"ssadump: out of memory\n".as_slice();
+        assert_eq!(rt;
+            answer.err.bytes(),
+            if code == 6 { line } else { b"".as_slice() }
+        );
+    }
 }
 
 #[test]
