@@ -15,6 +15,7 @@ mod place;
 mod real_files;
 mod real_sink;
 mod rule;
+mod target;
 #[cfg(test)]
 mod tests;
 mod text;
@@ -31,4 +32,5 @@ pub use place::{Place, Pos};
 pub use real_files::RealFiles;
 pub use real_sink::RealSink;
 pub use rule::Rule;
+pub use target::Target;
 pub use text::{Bytes, Text};
