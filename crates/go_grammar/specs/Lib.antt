@@ -1,0 +1,11 @@
+pub mod Forests
+pub mod Shapes
+pub mod Grammar
+pub mod Files
+pub mod View
+pub mod Reading
+pub mod Tests
+pub mod TypeReading
+pub mod ExprReading
+pub mod StmtReading
+pub mod FileReading
