@@ -1,0 +1,11 @@
+//! The parser: the tree of a file's tokens. Go specification, "Source file organization".
+//!
+//! The reach of every token is computed first; then part after part is read.
+#![tactic(auto)]
+
+mod parser;
+mod reach;
+mod stop;
+
+pub use parser::parse;
+pub use stop::ParseError;
