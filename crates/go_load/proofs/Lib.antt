@@ -1,0 +1,5 @@
+pub mod Steps
+pub mod Texts
+pub mod ReadLines
+pub mod Stopping
+pub mod Modules

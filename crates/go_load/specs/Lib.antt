@@ -1,0 +1,11 @@
+pub mod Words
+pub mod Versions
+pub mod GoMod
+pub mod Lines
+pub mod Places
+pub mod Loaded
+pub mod Listing
+pub mod Paths
+pub mod BuiltIns
+pub mod Sources
+pub mod Refusals

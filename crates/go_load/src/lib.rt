@@ -1,0 +1,33 @@
+//! Loading of a Go program: go.mod, the files of the target, and the packages that they import, or the first rule that
+//! the files break.
+//!
+//! `load` asks the files one call at a time: go.mod, then package after package in the order in which they are
+//! imported. Within a package each file is read, scanned and parsed in turn.
+#![tactic(auto)]
+
+mod built_in;
+mod cycles;
+mod error;
+mod find_module;
+mod go_mod;
+mod import_paths;
+mod imports;
+mod listing;
+mod loader;
+mod loading;
+mod one_file;
+mod paths;
+mod queue;
+mod read;
+mod resolve;
+mod sources;
+mod target;
+#[cfg(test)]
+mod tests;
+mod versions;
+mod words;
+
+pub use error::LoadError;
+pub use go_base::Target;
+pub use loading::{from_text, load};
+pub use sources::{Import, SourceFile, SourcePackage, Sources};

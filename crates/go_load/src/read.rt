@@ -1,0 +1,144 @@
+//! Reading of one file.
+
+ghost use Rattle.std.specs.Prelude.{◌≡◌, ◌≤◌, [], length, Option, IfOk, IfErr, IsErrOf, slice_get};
+ghost use Rattle.go_base.specs.Devices.{HasFaulted, Tree};
+ghost use Rattle.go_ast.specs.Lexical.{IsTokenList};
+ghost use Rattle.go_load.specs.Places.{place_in, start_in, IsSmall, Refuses};
+ghost use Rattle.go_load.specs.Sources.{HasBytes, IsText};
+ghost use Rattle.go_load.specs.Refusals.{Stops};
+
+use crate::error::LoadError;
+use go_ast::Tokens;
+use go_base::{FileError, Files, MAX_FILE_BYTES, NoMemory, Place, Rule, Text, line_column};
+use go_parse::{ParseError, parse};
+use go_scan::{ScanError, scan};
+use go_syntax::FileTree;
+use std::alloc::Global;
+
+/// A byte of a file.
+pub fn place_at(alloc: Global, path: &str, bytes: &[u8], offset: usize) -> Result<Place, NoMemory>
+    requires within { offset ≤ length bytes.now }
+    requires is_file { length bytes.now ≤ 4194304 }
+    ensures { IfOk result (λ place. place ≡ place_in path.now bytes.now offset) }
+{
+    let (line, column) = line_column(bytes, offset);
+    Ok(Place {
+        path: Text::new(alloc, path)?,
+        offset: offset as u32,
+        line,
+        column,
+    })
+}
+
+/// The first byte of a file, whatever it holds.
+fn first_place(alloc: Global, path: &str) -> Result<Place, NoMemory>
+    ensures { IfOk result (λ place. place ≡ place_in path.now [] 0) }
+{
+    Ok(Place {
+        path: Text::new(alloc, path)?,
+        offset: 0,
+        line: 1,
+        column: 1,
+    })
+}
+
+/// That a file breaks a rule at its first byte.
+pub fn refuse_first(alloc: Global, path: &str, rule: Rule) -> LoadError
+    ensures { Refuses (place_in path.now [] 0) rule result }
+{
+    match first_place(alloc, path) {
+        Ok(place) => LoadError::Refused { place, rule },
+        Err(_) => LoadError::OutOfMemory,
+    }
+}
+
+/// That a file breaks a rule at a byte.
+pub fn refuse_at(alloc: Global, path: &str, bytes: &[u8], offset: usize, rule: Rule) -> LoadError
+    requires within { offset ≤ length bytes.now }
+    requires is_file { length bytes.now ≤ 4194304 }
+    ensures { Refuses (place_in path.now bytes.now offset) rule result }
+{
+    match place_at(alloc, path, bytes, offset) {
+        Ok(place) => LoadError::Refused { place, rule },
+        Err(_) => LoadError::OutOfMemory,
+    }
+}
+
+/// The bytes of a file, or None where it is absent.
+pub fn read_whole<F: Files>(
+    alloc: Global,
+    files: &mut F,
+    path: &str,
+) -> Result<Option<Vec<u8>>, LoadError>
+    ensures small { IfOk result IsSmall }
+    ensures text { IfOk result (HasBytes (F.tree files.old) path.now) }
+    ensures fault { IsErrOf result LoadError.ReadFault → HasFaulted (F.faults files.old) (F.faults files.new) }
+    ensures later { F.faults files.old ≤ F.faults files.new }
+    ensures why { IfErr result (Stops (F.tree files.old)) }
+    ensures same { F.tree files.new ≡ F.tree files.old }
+{
+    match files.read(alloc, path, MAX_FILE_BYTES) {
+        Ok(bytes) => {
+            if bytes.len() > MAX_FILE_BYTES {
+                return Err(refuse_first(alloc, path, Rule::FileTooLarge));
+            }
+            Ok(Some(bytes))
+        }
+        Err(FileError::Absent) => Ok(None),
+        Err(FileError::TooLarge) => Err(refuse_first(alloc, path, Rule::FileTooLarge)),
+        Err(FileError::Failed) => Err(LoadError::ReadFault),
+        Err(FileError::OutOfMemory) => Err(LoadError::OutOfMemory),
+    }
+}
+
+/// The tree of a file that has the number `number`.
+pub fn read_tree(
+    alloc: Global,
+    path: &str,
+    number: u32,
+    bytes: &[u8],
+) -> Result<FileTree, LoadError>
+    requires { length bytes.now ≤ 4194304 }
+    ensures no_fault { IsErrOf result LoadError.ReadFault → ⊥ }
+    ensures why { IfErr result (λ error. (files : Option Tree) → IsText files path.now bytes.now → Stops files error) }
+{
+    match scan(alloc, number, bytes) {
+        Ok(tokens) => tree_of(alloc, path, bytes, &tokens),
+        Err(ScanError::OutOfMemory) => Err(LoadError::OutOfMemory),
+        Err(ScanError::Refused { offset, rule }) => {
+            Err(refuse_at(alloc, path, bytes, offset as usize, rule))
+        }
+    }
+}
+
+/// The tree of the tokens of a file.
+fn tree_of(alloc: Global, path: &str, bytes: &[u8], tokens: &Tokens) -> Result<FileTree, LoadError>
+    requires small { length bytes.now ≤ 4194304 }
+    requires list { IsTokenList bytes.now tokens.now }
+    ensures no_fault { IsErrOf result LoadError.ReadFault → ⊥ }
+    ensures why { IfErr result (λ error. (files : Option Tree) → IsText files path.now bytes.now → Stops files error) }
+{
+    match parse(alloc, tokens) {
+        Ok(tree) => Ok(tree),
+        Err(ParseError::OutOfMemory) => Err(LoadError::OutOfMemory),
+        Err(ParseError::TooDeep { index }) => {
+            let offset = token_start(bytes, tokens, index);
+            Err(refuse_at(alloc, path, bytes, offset, Rule::NestedTooDeeply))
+        }
+        Err(ParseError::Unexpected { index }) => {
+            let offset = token_start(bytes, tokens, index);
+            Err(refuse_at(alloc, path, bytes, offset, Rule::SyntaxError))
+        }
+    }
+}
+
+/// Where the token at an index begins; the end of the file where there is none.
+fn token_start(bytes: &[u8], tokens: &Tokens, index: usize) -> usize
+    ensures within { result ≤ length bytes.now }
+    ensures start { result ≡ start_in bytes.now (slice_get tokens.now index) }
+{
+    match tokens.get(index) {
+        Some(token) => (token.start as usize).min(bytes.len()),
+        None => bytes.len(),
+    }
+}

@@ -1,0 +1,20 @@
+//! The paths of what is to be loaded.
+
+use crate::paths::parent;
+use go_base::Target;
+
+/// The path of a target.
+pub fn target_path(target: &Target) -> &str {
+    match target {
+        Target::File(path) => path.as_str(),
+        Target::Dir(path) => path.as_str(),
+    }
+}
+
+/// The directory of a target.
+pub fn target_dir(target: &Target) -> &str {
+    match target {
+        Target::File(path) => parent(path.as_str()).unwrap_or("."),
+        Target::Dir(path) => path.as_str(),
+    }
+}

@@ -1,0 +1,387 @@
+// Trees in memory.
+ghost use Rattle.std.specs.List.Sorted.{IsStrictlyIncreasing};
+
+use crate::loading::load_within;
+use crate::{LoadError, Sources, Target, from_text, load};
+use go_base::{MemFiles, NoMemory, Pos, Text};
+use std::alloc::Global;
+use std::test::Fail;
+
+/// A file: its path, and its text.
+type File = (&'static str, &'static str);
+
+const GO_MOD: File = ("go.mod", "module example.com/m\n");
+
+/// A target, files, and the place and code of the rule that they break first; the last is empty where they break none.
+const TREES: &[(&str, &[File], &str)] = &[
+    // A file alone.
+    ("x.go", &[("x.go", "package main\n")], ""),
+    ("x.go", &[("y.go", "package main\n")], "x.go:1:1 M4"),
+    ("a/x.go", &[("a/x.go", "package main\nimport \"os\"\n")], ""),
+    (
+        "x.go",
+        &[("x.go", "package main\nimport \"fmt\"\n")],
+        "x.go:2:8 M3",
+    ),
+    (
+        "x.go",
+        &[("x.go", "package main\nvar s = \"\n")],
+        "x.go:2:9 L6",
+    ),
+    ("x.go", &[("x.go", "")], "x.go:1:1 S1"),
+    ("x.go", &[("x.go", "// only\n")], "x.go:2:1 S1"),
+    (
+        "x.go",
+        &[("x.go", "package main\nimport x\n")],
+        "x.go:2:1 S1",
+    ),
+    // A directory.
+    (".", &[], ".:1:1 M4"),
+    ("a", &[("x.go", "package main\n")], "a:1:1 M4"),
+    (
+        "a",
+        &[
+            ("a/x_test.go", "("),
+            ("a/_x.go", "("),
+            ("a/.x.go", "("),
+            ("a/x.c", "("),
+        ],
+        "a:1:1 M4",
+    ),
+    (
+        "a",
+        &[("a/b.go", "package b\n"), ("a/a.go", "package a\n")],
+        "a/b.go:1:9 M7",
+    ),
+    (
+        "a",
+        &[("a/c.go", "package a\n"), ("a/b.go", "("), ("a/a.go", ")")],
+        "a/a.go:1:1 S1",
+    ),
+    (".", &[("b/x.go", "("), ("a.go", "package main\n")], ""),
+    // go.mod.
+    (
+        ".",
+        &[
+            ("go.mod", "module example.com/m\n\ngo 1.22\n"),
+            ("a.go", "("),
+        ],
+        "go.mod:3:4 M2",
+    ),
+    (
+        "a/b",
+        &[
+            ("go.mod", "("),
+            ("a/go.mod", "module m"),
+            ("a/b/x.go", "package b\nimport \"m/b\"\n"),
+        ],
+        "a/b/x.go:2:8 M9",
+    ),
+    (
+        "a/b",
+        &[("go.mod", "("), ("a/b/x.go", "package b\n")],
+        "go.mod:1:1 M1",
+    ),
+    (
+        "a/b/x.go",
+        &[("a/go.mod", "module m\n("), ("a/b/x.go", "package b\n")],
+        "a/go.mod:2:1 M1",
+    ),
+    // Imports.
+    (
+        ".",
+        &[
+            GO_MOD,
+            ("a.go", "package main\nimport \"example.com/m/b\"\n"),
+            ("b/b.go", "package b\nimport \"runtime\"\n"),
+        ],
+        "",
+    ),
+    (
+        ".",
+        &[
+            GO_MOD,
+            ("a.go", "package main\nimport \"example.com/m/b\"\n"),
+            ("b/b_test.go", "package b\n"),
+        ],
+        "a.go:2:8 M3",
+    ),
+    (
+        ".",
+        &[
+            GO_MOD,
+            ("a.go", "package main\nimport \"example.com/m/./b\"\n"),
+            ("b/b.go", "package b\n"),
+        ],
+        "a.go:2:8 M3",
+    ),
+    (
+        ".",
+        &[
+            GO_MOD,
+            ("a.go", "package main\nimport \"example.com/m/\"\n"),
+        ],
+        "a.go:2:8 M3",
+    ),
+    (
+        ".",
+        &[
+            GO_MOD,
+            ("a.go", "package main\nimport \"example.com/mb\"\n"),
+            ("b/b.go", "package b\n"),
+        ],
+        "a.go:2:8 M3",
+    ),
+    (
+        ".",
+        &[
+            GO_MOD,
+            ("a.go", "package main\nimport \"command-line-arguments\"\n"),
+        ],
+        "a.go:2:8 M3",
+    ),
+    (
+        "a.go",
+        &[GO_MOD, ("a.go", "package a\nimport \"example.com/m\"\n")],
+        "a.go:2:8 M9",
+    ),
+    (
+        "b",
+        &[
+            GO_MOD,
+            ("c/c.go", "package c\n"),
+            (
+                "b/b.go",
+                "package main\nimport \"example.com/m/c\"\nimport \"example.com/m/d\"\n",
+            ),
+            ("d/d.go", "package main\n"),
+        ],
+        "b/b.go:3:8 M8",
+    ),
+    (
+        "a",
+        &[
+            GO_MOD,
+            ("a/a.go", "package a\n\nimport \"example.com/m/b\"\n"),
+            ("b/b.go", "package b\n\nimport \"example.com/m/a\"\n"),
+        ],
+        "a/a.go:3:8 M9",
+    ),
+    // M8 is asked of every import before M9 is.
+    (
+        "a",
+        &[
+            GO_MOD,
+            ("a/a.go", "package a\nimport \"example.com/m/b\"\n"),
+            (
+                "b/b.go",
+                "package b\nimport \"example.com/m/a\"\nimport \"example.com/m/c\"\n",
+            ),
+            ("c/c.go", "package main\n"),
+        ],
+        "b/b.go:3:8 M8",
+    ),
+    // The first import on a cycle does not lead to one alone.
+    (
+        ".",
+        &[
+            GO_MOD,
+            (
+                "a.go",
+                "package a\nimport \"example.com/m/b\"\nimport \"example.com/m/c\"\n",
+            ),
+            ("b/b.go", "package b\nimport \"example.com/m/d\"\n"),
+            (
+                "c/c.go",
+                "package c\nimport \"example.com/m/b\"\nimport \"example.com/m/e\"\n",
+            ),
+            ("d/d.go", "package d\nimport \"example.com/m/d\"\n"),
+            ("e/e.go", "package e\nimport \"example.com/m/c\"\n"),
+        ],
+        "c/c.go:3:8 M9",
+    ),
+];
+
+/// Texts of go.mod beside a good file, and the place and code of the rule that they break first.
+const GO_MODS: &[(&str, &str)] = &[
+    ("module example.com/m", ""),
+    ("\r\n\tmodule \"example.com/m\" // text\r\n\n", ""),
+    (
+        "go 1.21.5\nmodule m\nrequire x v1\nreplace (\n x => y\n module z\n) // end\ntoolchain\n",
+        "",
+    ),
+    ("module m\ngo 1.9", ""),
+    ("", "1:1 M1"),
+    ("// module m\n", "1:1 M1"),
+    ("go 1.22\n", "1:1 M1"),
+    ("module m\nmodul n\n", "2:1 M1"),
+    ("module m\n\n  module m\n", "3:1 M1"),
+    ("module m\ngo 1.20\ngo 1.30\n", "3:1 M1"),
+    ("go 1.22\nmodule main\n", "1:4 M2"),
+    ("// text\nmodule main\n", "2:1 M1"),
+    ("\nmodule (\n x\n)\n", "2:1 M1"),
+    ("\nmodule *m\n", "2:1 M1"),
+    ("\nmodule sync\n", "2:1 M1"),
+    ("module m\nrequire (\n", "2:1 M1"),
+    ("module m\ngo 1.021\n", ""),
+    ("module m\n go\t1.99999999999999999999.1\n", "2:5 M2"),
+    ("module m\ngo 1.21rc1\n", "2:1 M1"),
+    ("module m\ngo 1.21.\n", "2:1 M1"),
+    ("module m\ngo 2.0\n", "2:1 M1"),
+    ("module m\ngo 1.2 x\n", "2:1 M1"),
+    ("module m\n)\n", "2:1 M1"),
+    ("module m\nrequire(\n)\n", "2:1 M1"),
+];
+
+fn tree(alloc: Global, fail: &[u64], files: &[File]) -> Result<MemFiles, NoMemory>
+    requires { IsStrictlyIncreasing fail.now }
+{
+    let mut tree = MemFiles::new(alloc, fail)?;
+    for file in files {
+        tree.add(file.0, file.1.as_bytes())?;
+    }
+    Ok(tree)
+}
+
+fn target(alloc: Global, path: &str) -> Result<Target, NoMemory> {
+    let text = Text::new(alloc, path)?;
+    Ok(if path.ends_with(".go") {
+        Target::File(text)
+    } else {
+        Target::Dir(text)
+    })
+}
+
+fn told(alloc: Global, answer: Result<Sources, LoadError>) -> Result<String, Fail> {
+    Ok(match answer {
+        Ok(_) => String::new(alloc),
+        Err(LoadError::Refused { place, rule }) => {
+            format!(in alloc;
+                "{}:{}:{} {}",
+                place.path.as_str(),
+                place.line,
+                place.column,
+                rule.code()
+            )?
+        }
+        Err(LoadError::ReadFault) => String::from_str(alloc, "read fault")?,
+        Err(LoadError::OutOfMemory) => String::from_str(alloc, "out of memory")?,
+    })
+}
+
+fn load_tree(alloc: Global, path: &str, fail: &[u64], files: &[File]) -> Result<String, Fail>
+    requires { IsStrictlyIncreasing fail.now }
+{
+    let mut files = tree(alloc, fail, files)?;
+    let target = target(alloc, path)?;
+    told(alloc, load(alloc, &mut files, &target))
+}
+
+#[test]
+fn names_the_first_broken_rule(rt: HostRuntime) -> Result<(), Fail> {
+    for (path, files, wanted) in TREES {
+        let told = load_tree(rt.alloc(), path, &[], files)?;
+        assert_eq!(rt; told.as_str(), *wanted, "{path} {wanted}");
+    }
+    Ok(())
+}
+
+#[test]
+fn reads_go_mod(rt: HostRuntime) -> Result<(), Fail> {
+    for (text, wanted) in GO_MODS {
+        let told = load_tree(
+            rt.alloc(),
+            ".",
+            &[],
+            &[("go.mod", text), ("a.go", "package a\n")],
+        )?;
+        let told = told
+            .as_str()
+            .strip_prefix("go.mod:")
+            .unwrap_or(told.as_str());
+        assert_eq!(rt; told, *wanted, "{text}");
+    }
+    Ok(())
+}
+
+// The calls of the device that fail: one, or none for 0.
+fn plan(call: u64) -> &'static [u64]
+    ensures { IsStrictlyIncreasing result.now }
+{
+    match call {
+        0 => &[],
+        3 => &[3],
+        _ => &[6],
+    }
+}
+
+/// A program of two packages.
+const PROGRAM: &[File] = &[
+    ("p/go.mod", "module m\n"),
+    ("p/z.go", "package main\nimport \"m/q\"\n"),
+    ("p/_a.go", "("),
+    ("p/b.go", "package main\nimport \"os\"\n"),
+    ("p/a.go", "package main\nimport \"m/q\"\nimport \"m\"\n"),
+    ("p/q/q.go", "package q\n"),
+];
+
+// Calls that fail, the bytes that files may have together, and what is told.
+const LIMITS: &[(u64, usize, &str)] = &[
+    (0, 98, "p/a.go:3:8 M8"),
+    (0, 97, "p/q/q.go:1:1 M6"),
+    (0, 87, "p/z.go:1:1 M6"),
+    (3, 1000, "read fault"),
+    (6, 1000, "read fault"),
+    (6, 36, "p/a.go:1:1 M6"),
+];
+
+#[test]
+fn stops_where_it_must(rt: HostRuntime) -> Result<(), Fail> {
+    let alloc = rt.alloc();
+    for (call, limit, wanted) in LIMITS {
+        let mut files = tree(alloc, plan(*call), PROGRAM)?;
+        let target = target(alloc, "p")?;
+        let told = told(alloc, load_within(alloc, &mut files, &target, *limit))?;
+        assert_eq!(rt; told.as_str(), *wanted, "{call} {limit}");
+    }
+    Ok(())
+}
+
+// What is loaded of a file: its path, and its package.
+const LOADED: &[(&str, u32)] = &[
+    ("a/a.go", 0),
+    ("a/b.go", 0),
+    ("b/b.go", 1),
+    ("builtin:errors.go", 2),
+    ("builtin:runtime.go", 3),
+];
+
+#[test]
+fn loads_in_order(rt: HostRuntime) -> Result<(), Fail> {
+    let alloc = rt.alloc();
+    let mut files = tree(
+        alloc,
+        plan(0),
+        &[
+            GO_MOD,
+            ("b/b.go", "package b\nimport \"errors\"\n"),
+            (
+                "a/b.go",
+                "package main\nimport \"example.com/m/b\"\nimport \"errors\"",
+            ),
+            ("a/a.go", "\npackage main\n"),
+        ],
+    )?;
+    let sources = load(alloc, &mut files, &target(alloc, "a")?)?;
+    assert_eq!(rt; sources.package_count(), 4);
+    for (index, (path, package)) in LOADED.iter().enumerate() {
+        let file = sources.file(index as u32).ok_or("no file")?;
+        assert_eq!(rt; file.path.as_str(), *path);
+        assert_eq!(rt; file.package, *package);
+    }
+    assert!(rt; sources.file(5).is_none());
+    let package = sources.package(0).ok_or("no package")?;
+    assert_eq!(rt; package.path.as_str(), "example.com/m/a");
+    assert_eq!(rt; package.label.as_str(), "main");
+    Ok(())
+}
