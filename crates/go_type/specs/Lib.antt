@@ -1,0 +1,14 @@
+pub mod Constants
+pub mod Same
+pub mod Table
+pub mod Held
+pub mod Identity
+pub mod Representable
+pub mod Comparable
+pub mod Selector
+pub mod Levels
+pub mod Sights
+pub mod MethodSets
+pub mod Assignable
+pub mod Sizes
+pub mod Conditions

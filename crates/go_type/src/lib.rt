@@ -1,0 +1,34 @@
+//! Types, method sets, selectors and constants of Go.
+#![tactic(auto)]
+
+mod assigning;
+mod comparing;
+mod conditions;
+mod constants;
+mod levels;
+mod lists;
+mod members;
+mod method_sets;
+mod methods;
+mod representable;
+mod selectors;
+#[cfg(test)]
+mod shapes;
+mod sights;
+mod sizes;
+mod term;
+#[cfg(test)]
+mod tests;
+mod types;
+
+pub use assigning::{assignable, implements};
+pub use comparing::comparable;
+pub use constants::{Const, ConstError, ConstOp, IntFault, int_binary, int_shift, join};
+pub use lists::{Fields, MethodTypes, TypeIds};
+pub use method_sets::method_set;
+pub use methods::{MethodEntry, MethodSet, Path, SelectError, Selection, SelectionKind};
+pub use representable::represent;
+pub use selectors::find_selector;
+pub use sizes::{MAX_LEAVES, MAX_NESTING, is_nested_within, leaves_up_to};
+pub use term::{Basic, Dir, EXPORTED, Field, MethodType, Signature, TypeName, TypeTerm};
+pub use types::{Definition, Types, identical};

@@ -1,0 +1,365 @@
+//! The types of a program, each held once. Go specification, "Types", "Type identity" and "Underlying types".
+
+ghost use Rattle.std.specs.Prelude.{◌≡◌, ◌==◌, ◌<◌, ◌↔◌, IsTrue, length, IfOk, OnOk, OnErr, Some, None, false, [], ◌∷◌, slice_get, option_copied, IfSome, is_some};
+ghost use Rattle.std.specs.List.{list_any, IsDistinct, fold};
+ghost use Rattle.go_type.specs.Conditions.{is_holdable, CanDefine, takes_method};
+ghost use Rattle.go_type.specs.Identity.{Identical};
+ghost use Rattle.go_type.specs.Table.{FieldsFit, predeclared, with_basic, basic_types, with_error, exported_method, place_of, with_term, with_next, same_term, underlying_of, with_underlying, with_method, term_at, definition_at};
+ghost use Rattle.go_type.specs.declared.term.TypeTerm.TheVariants.{Declared};
+
+use crate::lists::{MethodTypes, TypeIds};
+use crate::methods::{MethodEntry, MethodSet};
+use crate::term::{ALL_BASIC, Basic, EXPORTED, MethodType, Signature, TypeName, TypeTerm};
+use go_base::{NameId, NoMemory, TypeId};
+use indexmap::IndexSet;
+use std::alloc::Global;
+use std::marker::Model;
+
+/// What is declared of a type.
+#[derive(Debug, Drop)]
+pub struct Definition {
+    /// None until it is defined, and for a type that is not declared.
+    pub underlying: Option<TypeId>,
+    /// Its methods, in the order in which they came.
+    pub methods: MethodSet,
+}
+
+/// Types, numbered from 0 in the order in which they came. A contract sees their terms with their definitions; the
+/// number of an id is an index into both.
+#[derive(Drop)]
+pub struct Types {
+    alloc: Global,
+    terms: IndexSet<TypeTerm>,
+    definitions: Vec<Definition>,
+    error: TypeId,
+}
+
+impl Model for Types {
+    ghost use Rattle.std.specs.Prelude.{◌≡◌, length};
+    ghost use Rattle.go_type.specs.Table.{Table};
+
+    ghost Value = { Table };
+
+    ghost view = { λ t. record { terms = t.terms.keys; definitions = t.definitions.items; error = t.error } };
+
+    ghost use Rattle.go_type.specs.Held.{IsHeld};
+
+    ghost invariant = { λ t. IsHeld t.terms.keys t.definitions.items };
+}
+
+impl Definition {
+    /// The same definition once more.
+    pub fn copy(&self, alloc: Global) -> Result<Definition, NoMemory>
+        ensures { IfOk result (λ copy. copy ≡ self.now) }
+    {
+        Ok(Definition {
+            underlying: self.underlying,
+            methods: self.methods.copy(alloc)?,
+        })
+    }
+}
+
+impl Types {
+    /// The predeclared types. The names are the ids of the texts `error` and `Error`.
+    pub fn new(alloc: Global, error: NameId, method: NameId) -> Result<Types, NoMemory>
+        ensures { IfOk result (λ types. types ≡ predeclared error method) }
+    {
+        let mut types = Types::with_basic(alloc)?;
+        let text = types.enter(TypeTerm::Basic(Basic::Text))?;
+        let signature = types.enter(TypeTerm::Func(text_of_nothing(alloc, text)?))?;
+        let interface = types.enter(TypeTerm::Interface(one_method(alloc, method, signature)?))?;
+        types.declare_error(error, interface)?;
+        Ok(types)
+    }
+
+    /// The basic types.
+    fn with_basic(alloc: Global) -> Result<Types, NoMemory>
+        ensures { IfOk result (λ types. types ≡ basic_types) }
+    {
+        let mut types = Types {
+            alloc,
+            terms: IndexSet::new(alloc),
+            definitions: Vec::new(alloc),
+            error: TypeId { number: 0 },
+        };
+        types.hold_all(&ALL_BASIC)?;
+        Ok(types)
+    }
+
+    fn hold_all(&mut self, basics: &[Basic]) -> Result<(), NoMemory>
+        ensures { OnOk result (self.new ≡ fold with_basic self.old basics.now) }
+    {
+        for basic in basics {
+            self.enter(TypeTerm::Basic(*basic))?;
+        }
+        Ok(())
+    }
+
+    /// Declares the type `error` of an interface.
+    #[tactic(auto, unfolding(crate::specs::Table::with_error))]
+    fn declare_error(&mut self, name: NameId, interface: TypeId) -> Result<(), NoMemory>
+        ensures { OnOk result (self.new ≡ with_error name interface self.old) }
+    {
+        let id = self.enter(TypeTerm::Declared(TypeName {
+            name,
+            package: EXPORTED,
+            number: 0,
+        }))?;
+        self.set_underlying(id, interface);
+        self.error = id;
+        Ok(())
+    }
+
+    /// The id of a type: that which it has, or else the next. Types that are held keep their ids, and identical types
+    /// have one id. After `NoMemory` the types are as before. `can_hold` tells whether a type may be held.
+    pub fn hold(&mut self, term: TypeTerm) -> Result<TypeId, NoMemory>
+        requires { IsTrue (is_holdable self.old term) }
+        ensures ok { IfOk result (λ id. id.number ≡ place_of term self.old) }
+        ensures named { IfOk result (λ id. term_at self.new id ≡ Some term) }
+        ensures held { OnOk result (self.new ≡ with_term term self.old) }
+        ensures err { OnErr result (self.new ≡ self.old) }
+    {
+        self.enter(term)
+    }
+
+    /// The id of a type: that which it has, or else the next. After `NoMemory` the types are as before.
+    fn enter(&mut self, term: TypeTerm) -> Result<TypeId, NoMemory>
+        requires { FieldsFit term }
+        ensures ok { IfOk result (λ id. id.number ≡ place_of term self.old) }
+        ensures named { IfOk result (λ id. term_at self.new id ≡ Some term) }
+        ensures held { OnOk result (self.new ≡ with_term term self.old) }
+        ensures err { OnErr result (self.new ≡ self.old) }
+    {
+        if let Some(index) = self.terms.get_index_of(&term) {
+            return Ok(TypeId {
+                number: index as u64,
+            });
+        }
+        self.add(term)
+    }
+
+    /// Holds a type that is not held.
+    fn add(&mut self, term: TypeTerm) -> Result<TypeId, NoMemory>
+        requires fields { FieldsFit term }
+        requires next { list_any (same_term term) self.old.terms ≡ false }
+        ensures ok { IfOk result (λ id. id.number ≡ length self.old.terms) }
+        ensures held { OnOk result (self.new ≡ with_next term self.old) }
+        ensures err { OnErr result (self.new ≡ self.old) }
+    {
+        let id = TypeId {
+            number: self.terms.len() as u64,
+        };
+        self.definitions.push(Definition {
+            underlying: None,
+            methods: MethodSet::new(self.alloc),
+        })?;
+        match self.terms.insert(term) {
+            Ok(_) => Ok(id),
+            Err(_) => {
+                let _ = self.definitions.pop();
+                Err(NoMemory)
+            }
+        }
+    }
+
+    /// A new declared type. After `NoMemory` the types are as before.
+    pub fn declare(&mut self, name: TypeName) -> Result<TypeId, NoMemory>
+        requires { list_any (same_term (Declared name)) self.old.terms ≡ false }
+        ensures ok { IfOk result (λ id. id.number ≡ length self.old.terms) }
+        ensures held { OnOk result (self.new ≡ with_next (Declared name) self.old) }
+        ensures err { OnErr result (self.new ≡ self.old) }
+    {
+        self.add(TypeTerm::Declared(name))
+    }
+
+    /// Whether a declared type has this name.
+    pub fn is_declared(&self, name: TypeName) -> bool
+        ensures { result ≡ list_any (same_term (Declared name)) self.now.terms }
+    {
+        self.terms.contains(&TypeTerm::Declared(name))
+    }
+
+    /// Gives a declared type its underlying type. `can_define` tells whether it may have that.
+    pub fn define(&mut self, id: TypeId, underlying: TypeId)
+        requires { CanDefine self.old id underlying }
+        ensures { self.new ≡ with_underlying id underlying self.old }
+    {
+        self.set_underlying(id, underlying);
+    }
+
+    fn set_underlying(&mut self, id: TypeId, underlying: TypeId)
+        requires { id.number < length self.old.terms }
+        ensures { self.new ≡ with_underlying id underlying self.old }
+    {
+        let definition = &mut self.definitions[id.number as usize];
+        definition.underlying = Some(underlying);
+    }
+
+    /// Gives a declared type one more method. After `NoMemory` the types are as before. `can_add_method` tells whether
+    /// it may have a method of that name.
+    pub fn add_method(&mut self, id: TypeId, method: MethodEntry) -> Result<(), NoMemory>
+        requires { IsTrue (takes_method self.old id method.name method.«package») }
+        ensures ok { OnOk result (self.new ≡ with_method id method self.old) }
+        ensures err { OnErr result (self.new ≡ self.old) }
+    {
+        self.push_method(id, method)
+    }
+
+    fn push_method(&mut self, id: TypeId, method: MethodEntry) -> Result<(), NoMemory>
+        requires { id.number < length self.old.terms }
+        ensures ok { OnOk result (self.new ≡ with_method id method self.old) }
+        ensures err { OnErr result (self.new ≡ self.old) }
+    {
+        let definition = &mut self.definitions[id.number as usize];
+        definition.methods.push(method)
+    }
+
+    /// What the types take their memory from.
+    pub fn allocator(&self) -> Global {
+        self.alloc
+    }
+
+    /// How many types there are.
+    pub fn len(&self) -> usize
+        ensures value { result ≡ length self.now.terms }
+        ensures counts { length self.now.definitions ≡ length self.now.terms }
+        ensures distinct { IsDistinct same_term self.now.terms }
+    {
+        self.terms.len()
+    }
+
+    /// Whether there are none.
+    pub fn is_empty(&self) -> bool
+        ensures { result ≡ (length self.now.terms == 0) }
+    {
+        self.terms.len() == 0
+    }
+
+    /// The predeclared type `error`.
+    pub fn error(&self) -> TypeId
+        ensures { result ≡ self.now.error }
+    {
+        self.error
+    }
+
+    /// The term of a type.
+    pub fn term(&self, id: TypeId) -> &TypeTerm
+        requires { id.number < length self.now.terms }
+        ensures { term_at self.now id ≡ Some result.now }
+    {
+        &self.terms.as_slice()[id.number as usize]
+    }
+
+    /// The term of a type. None where that is not held.
+    pub fn get(&self, id: TypeId) -> Option<&TypeTerm>
+        ensures { option_copied result ≡ term_at self.now id }
+    {
+        self.terms.get_index(id.number as usize)
+    }
+
+    /// The methods of a declared type, in the order in which they came.
+    pub fn methods(&self, id: TypeId) -> &[MethodEntry]
+        ensures { result.now ≡ (definition_at self.now id).methods }
+    {
+        match self.definitions.get(id.number as usize) {
+            Some(definition) => definition.methods.as_slice(),
+            None => &[],
+        }
+    }
+
+    /// The term of a type's underlying type. None where that is not held.
+    pub fn underlying_term(&self, id: TypeId) -> Option<&TypeTerm>
+        ensures term { option_copied result ≡ term_at self.now (underlying_of self.now id) }
+        ensures fields { IfSome result (λ term. FieldsFit term.now) }
+    {
+        self.terms.get_index(self.underlying(id).number as usize)
+    }
+
+    /// The underlying type of a type, which is the type itself where it is not declared.
+    pub fn underlying(&self, id: TypeId) -> TypeId
+        ensures { result ≡ underlying_of self.now id }
+    {
+        match self.definitions.get(id.number as usize) {
+            Some(definition) => definition.underlying.unwrap_or(id),
+            None => id,
+        }
+    }
+
+    /// Whether a type has been defined.
+    pub fn is_defined(&self, id: TypeId) -> bool
+        ensures { result ≡ is_some (definition_at self.now id).underlying }
+    {
+        match self.definitions.get(id.number as usize) {
+            Some(definition) => definition.underlying.is_some(),
+            None => false,
+        }
+    }
+
+    /// The same types, with the same ids.
+    pub fn copy(&self, alloc: Global) -> Result<Types, NoMemory>
+        ensures { IfOk result (λ copy. copy ≡ self.now) }
+    {
+        Ok(Types {
+            alloc,
+            terms: copy_terms(alloc, self.terms.as_slice())?,
+            definitions: copy_definitions(alloc, self.definitions.as_slice())?,
+            error: self.error,
+        })
+    }
+}
+
+/// Whether two types are identical: then they have one id. Go specification, "Type identity".
+pub fn identical(types: &Types, a: TypeId, b: TypeId) -> bool
+    ensures { IsTrue result ↔ Identical types.now a b }
+{
+    // that each term is held once is what makes the ids enough
+    let _held_once = &types.terms;
+    a == b
+}
+
+/// `func() string`, of the type `string`.
+fn text_of_nothing(alloc: Global, text: TypeId) -> Result<Signature, NoMemory>
+    ensures { IfOk result (λ signature. signature ≡ record { params = []; results = text ∷ []; variadic = false }) }
+{
+    let mut results = TypeIds::new(alloc);
+    results.push(text)?;
+    Ok(Signature {
+        params: TypeIds::new(alloc),
+        results,
+        variadic: false,
+    })
+}
+
+/// An exported method alone.
+fn one_method(alloc: Global, name: NameId, of: TypeId) -> Result<MethodTypes, NoMemory>
+    ensures { IfOk result (λ methods. methods ≡ exported_method name of ∷ []) }
+{
+    let mut methods = MethodTypes::new(alloc);
+    methods.push(MethodType {
+        name,
+        package: EXPORTED,
+        of,
+    })?;
+    Ok(methods)
+}
+
+fn copy_terms(alloc: Global, terms: &[TypeTerm]) -> Result<IndexSet<TypeTerm>, NoMemory>
+    requires { IsDistinct same_term terms.now }
+    ensures { IfOk result (λ copy. copy.keys ≡ terms.now) }
+{
+    let mut copy = IndexSet::new(alloc);
+    for term in terms {
+        copy.insert(term.copy(alloc)?)?;
+    }
+    Ok(copy)
+}
+
+fn copy_definitions(alloc: Global, definitions: &[Definition]) -> Result<Vec<Definition>, NoMemory>
+    ensures { IfOk result (λ copy. copy.items ≡ definitions.now) }
+{
+    let mut copy = Vec::new(alloc);
+    for definition in definitions {
+        copy.push(definition.copy(alloc)?)?;
+    }
+    Ok(copy)
+}
