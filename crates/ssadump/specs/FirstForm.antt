@@ -26,6 +26,10 @@ pub record IsFirstForm (bytes : List ℕ) (tokens : List Token) (file : File) : 
   pub tree : IsTreeOf tokens file
   pub names : has_names bytes file ≡ true
 
+-- no file of the first form has these bytes
+abbrev pub HasNoForm : List ℕ → Type 0
+HasNoForm bytes = (tokens : List Token) (file : File) → IsFirstForm bytes tokens file → ⊥
+
 -- What is printed for a literal. A string without a backslash is the bytes between its quotes; a decimal numeral that
 -- begins with 0 only where it has one digit is what is printed for its value.
 abbrev pub printed_by : Kind → List ℕ → Token → List ℕ

@@ -1,9 +1,7 @@
-pub mod CommandLine
-pub mod Commands
 pub mod FirstForm
-pub mod Sources
-pub mod Stops
-pub mod Loading
+pub mod Asked
+pub mod Reading
+pub mod Running
 pub mod Lines
 pub mod Status
 pub mod WholeAnswer

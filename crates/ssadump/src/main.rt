@@ -2,16 +2,15 @@
 #![tactic(auto)]
 
 mod call;
-mod command;
+mod first_form;
 mod outcome;
 mod output;
 mod perform;
 mod report;
-mod source;
 mod status;
-mod stop;
 #[cfg(test)]
 mod tests;
+mod work;
 
 use crate::call::ssadump;
 use crate::status::status;

@@ -4,9 +4,9 @@ ghost use Rattle.std.specs.Prelude.{◌≡◌, ◌++◌, map, flat_map, All, IfO
 ghost use Rattle.go_ast.specs.Cut.{IsPlacedIn};
 ghost use Rattle.go_ast.specs.Trees.{view_call};
 ghost use Rattle.ssadump.specs.FirstForm.{line_of, printed, printed_all, printed_more};
-ghost use Rattle.ssadump.specs.Loading.{IsPlacedCall};
+ghost use Rattle.ssadump.specs.Reading.{IsPlacedCall};
 
-use crate::source::text_at;
+use crate::first_form::text_at;
 use go_ast::{Call, Kind, Token};
 use std::alloc::{AllocError, Global};
 

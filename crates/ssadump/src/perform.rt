@@ -1,19 +1,21 @@
 //! The work that the words ask for, without the line on standard error.
 
-ghost use Rattle.std.specs.Prelude.{◌≡◌, ◌≤◌, ℕ, List, map, string_bytes};
+ghost use Rattle.std.specs.Prelude.{◌≡◌, ◌≤◌, ℕ, List, Ok, map, string_bytes};
+ghost use Rattle.command_line.specs.CommandLine.{command_of};
+ghost use Rattle.command_line.specs.declared.command.Command.TheVariants as commands;
 ghost use Rattle.go_base.specs.Devices.{HasFaulted};
-ghost use Rattle.ssadump.specs.CommandLine.{Run, command_of};
-ghost use Rattle.ssadump.specs.Loading.{IsProgram};
+ghost use Rattle.ssadump.specs.Performing.{IsUsage, outcome_of};
 ghost use Rattle.ssadump.specs.WholeAnswer.{Answers};
-ghost use Rattle.ssadump.specs.Performing.{IsRefusal, IsUsage, Prints};
 
-use crate::command::{Command, read_words};
 use crate::outcome::Outcome;
-use crate::output::lines;
-use crate::source::{Source, load};
-use crate::stop::{Spot, Stop};
-use go_base::{Ending, Files, Place, Rule, Sink, SinkError, Text};
+use crate::work::{not_built, work};
+use command_line::{Command, CommandError, LoadCommand, read_words};
+use go_base::{Files, Sink, Text};
+use go_load::{LoadError, load};
 use std::alloc::Global;
+
+/// The file of a generated program.
+const GENERATED: &str = "gen.go";
 
 /// Does what the words ask for.
 pub fn perform<F: Files, O: Sink>(
@@ -29,9 +31,11 @@ pub fn perform<F: Files, O: Sink>(
     ensures out_later { O.faults out.old ≤ O.faults out.new }
     ensures same { F.tree files.new ≡ F.tree files.old }
 {
-    match read_words(words) {
-        Command::BadWord(word) => bad_word(alloc, word),
-        Command::Run(path) => run_file(alloc, path, files, out),
+    match read_words(alloc, words) {
+        Err(CommandError::BadWord(word)) => bad_word(alloc, word),
+        Err(CommandError::OutOfMemory) => Outcome::OutOfMemory,
+        Ok(Command::Generate(_)) => not_built(alloc, GENERATED),
+        Ok(Command::Load(command)) => perform_load(alloc, &command, files, out),
     }
 }
 
@@ -44,63 +48,32 @@ fn bad_word(alloc: Global, word: &str) -> Outcome
     }
 }
 
-// Loads and runs the file at a path.
-fn run_file<F: Files, O: Sink>(alloc: Global, path: &str, files: &mut F, out: &mut O) -> Outcome
-    ensures answers { (words : List (List ℕ)) → command_of words ≡ Run path.now → Answers words (F.tree files.old) result (O.written out.old) (O.written out.new) }
+// Loads the target, and does what is asked with it.
+fn perform_load<F: Files, O: Sink>(
+    alloc: Global,
+    command: &LoadCommand,
+    files: &mut F,
+    out: &mut O,
+) -> Outcome
+    ensures answers { (words : List (List ℕ)) → command_of words ≡ Ok (commands.Load command.now) → Answers words (F.tree files.old) result (O.written out.old) (O.written out.new) }
     ensures read_fault { result ≡ Outcome.ReadFault → HasFaulted (F.faults files.old) (F.faults files.new) }
     ensures write_fault { result ≡ Outcome.WriteFault → HasFaulted (O.faults out.old) (O.faults out.new) }
     ensures files_later { F.faults files.old ≤ F.faults files.new }
     ensures out_later { O.faults out.old ≤ O.faults out.new }
     ensures same { F.tree files.new ≡ F.tree files.old }
 {
-    match load(alloc, files, path) {
-        Ok(source) => print(alloc, &source, out),
-        Err(stop) => stopped(alloc, path, stop),
+    match load(alloc, files, &command.target) {
+        Ok(sources) => work(alloc, command, &sources, out),
+        Err(error) => stopped(error),
     }
 }
 
-fn stopped(alloc: Global, path: &str, stop: Stop) -> Outcome
-    ensures { IsRefusal path.now stop result }
+fn stopped(error: LoadError) -> Outcome
+    ensures { result ≡ outcome_of error }
 {
-    match stop {
-        Stop::Refused(spot, rule) => refused(alloc, path, spot, rule),
-        Stop::ReadFault => Outcome::ReadFault,
-        Stop::OutOfMemory => Outcome::OutOfMemory,
-    }
-}
-
-// The refusal of a file.
-fn refused(alloc: Global, path: &str, spot: Spot, rule: Rule) -> Outcome
-    ensures { IsRefusal path.now (Stop.Refused spot rule) result }
-{
-    match Text::new(alloc, path) {
-        Ok(path) => Outcome::Refused {
-            place: Place {
-                path,
-                offset: spot.offset,
-                line: spot.line,
-                column: spot.column,
-            },
-            rule,
-        },
-        Err(_) => Outcome::OutOfMemory,
-    }
-}
-
-// Writes what a program prints.
-fn print<O: Sink>(alloc: Global, source: &Source, out: &mut O) -> Outcome
-    requires { IsProgram source.now.bytes.items source.now.tree }
-    ensures prints { Prints source.now result (O.written out.old) (O.written out.new) }
-    ensures fault { result ≡ Outcome.WriteFault → HasFaulted (O.faults out.old) (O.faults out.new) }
-    ensures later { O.faults out.old ≤ O.faults out.new }
-{
-    let calls = source.tree.body.statements.as_slice();
-    match lines(alloc, source.bytes.as_slice(), calls) {
-        Err(_) => Outcome::OutOfMemory,
-        Ok(text) => match out.write(text.as_slice()) {
-            Ok(()) => Outcome::Ended(Ending::Exited(0)),
-            Err(SinkError::Failed) => Outcome::WriteFault,
-            Err(SinkError::OutOfMemory) => Outcome::OutOfMemory,
-        },
+    match error {
+        LoadError::Refused { place, rule } => Outcome::Refused { place, rule },
+        LoadError::ReadFault => Outcome::ReadFault,
+        LoadError::OutOfMemory => Outcome::OutOfMemory,
     }
 }

@@ -24,23 +24,45 @@ const SOURCES: &[(&str, &str)] = &[
     ("package main\n\nfunc main() {}\n", ""),
 ];
 
-// Sources that are none of these.
-const REFUSED: &[&str] = &[
-    "package main\n\nfunc main() { print(\"a\") }\n",
-    "package main\n\nfunc main() { println(01) }\n",
-    "package main\n\nfunc main() { println(\"a\\n\") }\n",
-    "package main\n\nfunc main() { println(1,) }\n",
-    "package main\n\nfunc main() { println(1) println(2) }\n",
-    "package main\n\nfunc main() {;}\n",
-    "package main\n\nfunc main() { } // end\n",
-    "package println\n\nfunc main() { println(1) }\n",
-    "package main\n\nfunc main() { main(1) }\n",
-    "package main\n\nfunc main()\n{ println(1) }\n",
-    "",
-];
-
-// Sources that have no tokens, and what is on standard error.
-const FAULTY: &[(&str, &str)] = &[
+// Sources that are not run, and what is on standard error.
+const REFUSED: &[(&str, &str)] = &[
+    (
+        "package main\n\nfunc main() { print(\"a\") }\n",
+        "x.go:1:1: not built yet (X1)\n",
+    ),
+    (
+        "package main\n\nfunc main() { println(01) }\n",
+        "x.go:1:1: not built yet (X1)\n",
+    ),
+    (
+        "package main\n\nfunc main() { println(\"a\\n\") }\n",
+        "x.go:1:1: not built yet (X1)\n",
+    ),
+    (
+        "package main\n\nfunc main() { println(1,) }\n",
+        "x.go:1:1: not built yet (X1)\n",
+    ),
+    (
+        "package main\n\nfunc main() { } // end\n",
+        "x.go:1:1: not built yet (X1)\n",
+    ),
+    (
+        "package println\n\nfunc main() { println(1) }\n",
+        "x.go:1:1: not built yet (X1)\n",
+    ),
+    (
+        "package main\n\nfunc main() { main(1) }\n",
+        "x.go:1:1: not built yet (X1)\n",
+    ),
+    (
+        "package main\n\nfunc main() { println(1) println(2) }\n",
+        "x.go:3:1: syntax error (S1)\n",
+    ),
+    (
+        "package main\n\nfunc main()\n{ println(1) }\n",
+        "x.go:4:1: syntax error (S1)\n",
+    ),
+    ("", "x.go:1:1: syntax error (S1)\n"),
     (
         "package main\nvar s = \"ab",
         "x.go:2:9: string literal not closed (L6)\n",
@@ -52,15 +74,28 @@ const FAULTY: &[(&str, &str)] = &[
     ("\n\t~", "x.go:2:2: unexpected character (L2)\n"),
 ];
 
-// Command lines, and what is on standard error.
-const LINES: &[(&str, &str)] = &[
-    ("", "ssadump: bad command line at \"\"\n"),
-    ("-run", "ssadump: bad command line at \"\"\n"),
-    ("run hello.go", "ssadump: bad command line at \"run\"\n"),
-    ("-run hello", "ssadump: bad command line at \"hello\"\n"),
-    ("-run hello.go x", "ssadump: bad command line at \"x\"\n"),
-    ("-run none.go", "none.go:1:1: no Go files (M4)\n"),
-    ("-run ./hello.go", ""),
+// Command lines, the status, and what is on standard error.
+const LINES: &[(&str, u8, &str)] = &[
+    ("", 2, "ssadump: bad command line at \"\"\n"),
+    ("-run", 2, "ssadump: bad command line at \"\"\n"),
+    (
+        "run hello.go",
+        2,
+        "ssadump: bad command line at \"hello.go\"\n",
+    ),
+    ("-run hello", 1, "hello:1:1: no Go files (M4)\n"),
+    ("-run hello.go x", 2, "ssadump: bad command line at \"x\"\n"),
+    ("-run none.go", 1, "none.go:1:1: no Go files (M4)\n"),
+    ("-run ./hello.go", 0, ""),
+    ("-run .", 0, ""),
+    ("-run -bound=0 hello.go", 3, "bound reached\n"),
+    (
+        "-run -callgraph=cha hello.go",
+        1,
+        "hello.go:1:1: not built yet (X1)\n",
+    ),
+    ("hello.go", 1, "hello.go:1:1: not built yet (X1)\n"),
+    ("-gen=3", 1, "gen.go:1:1: not built yet (X1)\n"),
 ];
 
 // Which devices fail (files, standard output, standard error), the status, and what is on standard error.
@@ -124,21 +159,7 @@ fn runs(rt: HostRuntime) -> Result<(), Fail> {
 
 #[test]
 fn refuses(rt: HostRuntime) -> Result<(), Fail> {
-    for source in REFUSED {
-        let answer = run_with(&rt, "x.go", source.as_bytes(), (false, false, false))?;
-        assert_eq!(rt; status(&answer.outcome), 1, "{source:?}");
-        assert!(rt; answer.out.bytes().is_empty(), "{source:?}");
-        assert_eq!(rt;
-            answer.err.bytes(),
-            b"x.go:1:1: not built yet (X1)\n".as_slice()
-        );
-    }
-    Ok(())
-}
-
-#[test]
-fn names_the_first_fault(rt: HostRuntime) -> Result<(), Fail> {
-    for (source, err) in FAULTY {
+    for (source, err) in REFUSED {
         let answer = run_with(&rt, "x.go", source.as_bytes(), (false, false, false))?;
         assert_eq!(rt; status(&answer.outcome), 1, "{source:?}");
         assert!(rt; answer.out.bytes().is_empty(), "{source:?}");
@@ -150,7 +171,7 @@ fn names_the_first_fault(rt: HostRuntime) -> Result<(), Fail> {
 #[test]
 fn reads_words(rt: HostRuntime) -> Result<(), Fail> {
     let alloc = rt.alloc();
-    for (line, err) in LINES {
+    for (line, code, err) in LINES {
         let mut files = MemFiles::new(alloc, plan(false))?;
         files.add("hello.go", HELLO.as_bytes())?;
         let mut out = MemSink::new(alloc, plan(false))?;
@@ -159,7 +180,8 @@ fn reads_words(rt: HostRuntime) -> Result<(), Fail> {
             .split_whitespace()
             .map(|word| String::from_str(alloc, word))
             .try_collect(alloc)?;
-        ssadump(alloc, words.as_slice(), &mut files, &mut out, &mut err_sink);
+        let outcome = ssadump(alloc, words.as_slice(), &mut files, &mut out, &mut err_sink);
+        assert_eq!(rt; status(&outcome), *code, "{line:?}");
         assert_eq!(rt; err_sink.bytes(), err.as_bytes(), "{line:?}");
     }
     Ok(())

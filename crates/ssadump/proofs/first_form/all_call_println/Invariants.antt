@@ -2,7 +2,7 @@ use Rattle.std.proofs.Common.{◌≡◌, map, drop}
 use Rattle.std.specs.List.{list_all}
 use Rattle.go_ast.specs.Trees.{view_call}
 use Rattle.ssadump.specs.FirstForm.{calls_println}
-use Rattle.ssadump.proofs.source.all_call_println.Given as goal
+use Rattle.ssadump.proofs.first_form.all_call_println.Given as goal
 
 -- what is left decides
 abbrev pub invariant-loop-call : goal.invariant-loop-call
