@@ -3,7 +3,7 @@ ghost use Rattle.std.specs.List.Sorted.{IsStrictlyIncreasing};
 
 use crate::loading::load_within;
 use crate::{LoadError, Sources, Target, from_text, load};
-use go_base::{MemFiles, NoMemory, Pos, Text};
+use go_base::{MemFiles, NoMemory, Place, Pos, Rule, Text};
 use std::alloc::Global;
 use std::test::Fail;
 
@@ -252,21 +252,27 @@ fn target(alloc: Global, path: &str) -> Result<Target, NoMemory> {
     })
 }
 
-fn told(alloc: Global, answer: Result<Sources, LoadError>) -> Result<String, Fail> {
-    Ok(match answer {
-        Ok(_) => String::new(alloc),
-        Err(LoadError::Refused { place, rule }) => {
-            format!(in alloc;
-                "{}:{}:{} {}",
-                place.path.as_str(),
-                place.line,
-                place.column,
-                rule.code()
-            )?
-        }
-        Err(LoadError::ReadFault) => String::from_str(alloc, "read fault")?,
-        Err(LoadError::OutOfMemory) => String::from_str(alloc, "out of memory")?,
-    })
+fn told(alloc: Global, answer: &Result<Sources, LoadError>) -> Result<String, Fail> {
+    match answer {
+        Ok(_) => Ok(String::new(alloc)),
+        Err(error) => told_error(alloc, error),
+    }
+}
+
+fn told_error(alloc: Global, error: &LoadError) -> Result<String, Fail> {
+    match error {
+        LoadError::Refused { place, rule } => told_refusal(alloc, place, *rule),
+        LoadError::ReadFault => Ok(String::from_str(alloc, "read fault")?),
+        LoadError::OutOfMemory => Ok(String::from_str(alloc, "out of memory")?),
+    }
+}
+
+fn told_refusal(alloc: Global, place: &Place, rule: Rule) -> Result<String, Fail> {
+    let path = place.path.as_str();
+    let line = place.line;
+    let column = place.column;
+    let code = rule.code();
+    Ok(format!(in alloc; "{path}:{line}:{column} {code}")?)
 }
 
 fn load_tree(alloc: Global, path: &str, fail: &[u64], files: &[File]) -> Result<String, Fail>
@@ -274,7 +280,8 @@ fn load_tree(alloc: Global, path: &str, fail: &[u64], files: &[File]) -> Result<
 {
     let mut files = tree(alloc, fail, files)?;
     let target = target(alloc, path)?;
-    told(alloc, load(alloc, &mut files, &target))
+    let answer = load(alloc, &mut files, &target);
+    told(alloc, &answer)
 }
 
 #[test]
@@ -341,7 +348,8 @@ fn stops_where_it_must(rt: HostRuntime) -> Result<(), Fail> {
     for (call, limit, wanted) in LIMITS {
         let mut files = tree(alloc, plan(*call), PROGRAM)?;
         let target = target(alloc, "p")?;
-        let told = told(alloc, load_within(alloc, &mut files, &target, *limit))?;
+        let answer = load_within(alloc, &mut files, &target, *limit);
+        let told = told(alloc, &answer)?;
         assert_eq!(rt; told.as_str(), *wanted, "{call} {limit}");
     }
     Ok(())
