@@ -1,39 +1,81 @@
 -- Plans whose choices are decided by what trees begin with, and by what may stand behind them.
-use Rattle.std.proofs.Common.{◌≡◌, ℕ, ◌+◌, ◌≤◌, leb, Bool, true, false, cond, List, ◌++◌, length, refl, sym, ap, ◌∙◌, arith}
+use Rattle.std.proofs.Common.{◌≡◌, ℕ, ◌+◌, ◌≤◌, leb, Bool, true, false, cond, List, ◌++◌, length, refl, sym, ap, ◌∙◌, subst, arith}
 use Rattle.std.proofs.lemmas.Bool.{leb-true, leb-false}
 use Rattle.std.proofs.lemmas.List.{append-nil, length-append}
 use Rattle.std.specs.Prelude.{◌&&◌, ◌||◌, not, if◌then◌else◌}
 use Rattle.go_ast.specs.declared.token.Kind.{Kind}
 use Rattle.go_ast.specs.declared.token.Token.{Token}
-use Rattle.go_grammar.specs.Forests.{Forest, yield}
+use Rattle.go_grammar.specs.Forests.{Forest, append, yield}
 use Rattle.go_grammar.specs.Shapes as shapes
-use Rattle.go_grammar.specs.Shapes.{Shape, Fits}
+use Rattle.go_grammar.specs.Shapes.{Shape, Fits, IsNext}
 use Rattle.go_grammar.specs.Grammar.{Sort, grammar}
 use Rattle.go_grammar.specs.Reading.{Plan, Nothing, Sign, Before, Part, Node, Then, Either, Many, shape_of, is_next}
 use Rattle.go_grammar.proofs.Forests.{yield-append}
-use Rattle.go_grammar.proofs.Again.{AreChosen, IsChosen}
+use Rattle.go_grammar.proofs.Again.{regroup, AreChosen, IsChosen}
 use Rattle.go_grammar.proofs.Cuts.{implies, implied}
-use Rattle.go_grammar.proofs.Fronts.{heads_of, empties, is_empty, IsFirst, Front, none, some, front}
+use Rattle.go_grammar.proofs.Fronts.{heads, heads_of, empties, is_empty, IsFirst, Front, none, some, front}
 
 -- what may stand at the front of a shape and what is behind it
 abbrev pub behind : Shape Sort → (Kind → Bool) → Kind → Bool
-behind shape follow kind = heads_of shape kind || (empties shape && follow kind)
+behind shapes.Nothing follow kind = follow kind
+behind (shapes.Sign test) follow kind = test kind
+behind (shapes.Before test) follow kind = test kind && follow kind
+behind (shapes.Part sort) follow kind = heads sort kind || (is_empty sort && follow kind)
+behind (shapes.Node form inner) follow kind = behind inner follow kind
+behind (shapes.Then a b) follow kind = behind a (behind b follow) kind
+behind (shapes.Either a b) follow kind = behind a follow kind || behind b follow kind
+behind (shapes.Many a) follow kind = heads_of a kind || (true && follow kind)
 
 or_left : (a b : Bool) → a ≡ true → (a || b) ≡ true
 or_left true b h = refl
 or_left false b h = absurd cc
+
+or_right : (a b : Bool) → b ≡ true → (a || b) ≡ true
+or_right true b h = refl
+or_right false b h = h
 
 or_and : (a b c : Bool) → b ≡ true → c ≡ true → (a || (b && c)) ≡ true
 or_and true b c h k = refl
 or_and false true c h k = k
 or_and false false c h k = absurd cc
 
-pub first_behind : (follow : Kind → Bool) {shape : Shape Sort} {tree : Forest} {rest : List Token} → Fits grammar shape tree rest → IsFirst follow rest → IsFirst (behind shape follow) (yield tree ++ rest)
-first_behind follow {shape} {tree} {rest} x f = go (front x)
+and_both : (a b : Bool) → a ≡ true → b ≡ true → (a && b) ≡ true
+and_both true b h k = k
+and_both false b h k = absurd cc
+
+-- by what the whole begins with, and whether it may be empty
+first_of_whole : (follow : Kind → Bool) {shape : Shape Sort} {tree : Forest} {rest : List Token} → Fits grammar shape tree rest → IsFirst follow rest → IsFirst (λ kind. heads_of shape kind || (empties shape && follow kind)) (yield tree ++ rest)
+first_of_whole follow {shape} {tree} {rest} x f = go (front x)
   where
-    go : Front shape (yield tree) → IsFirst (behind shape follow) (yield tree ++ rest)
+    go : Front shape (yield tree) → IsFirst (λ kind. heads_of shape kind || (empties shape && follow kind)) (yield tree ++ rest)
     go (none e h) = record { token = f.token; others = f.others; all = ap (λ (ws : List Token). ws ++ rest) e ∙ f.all; kind = or_and (heads_of shape f.token.kind) (empties shape) (follow f.token.kind) h f.kind }
     go (some g) = record { token = g.token; others = g.others ++ rest; all = ap (λ (ws : List Token). ws ++ rest) g.all; kind = or_left (heads_of shape g.token.kind) _ g.kind }
+
+pub first_behind : (follow : Kind → Bool) {shape : Shape Sort} {tree : Forest} {rest : List Token} → Fits grammar shape tree rest → IsFirst follow rest → IsFirst (behind shape follow) (yield tree ++ rest)
+first_behind follow shapes.nothing f = record { token = f.token; others = f.others; all = f.all; kind = f.kind }
+first_behind follow (shapes.sign {token = token} {rest = rest} e) f = record { token = token; others = rest; all = refl; kind = e }
+first_behind follow (shapes.before {test = test} {rest = rest} e) f =
+    let t : test f.token.kind ≡ true = subst (IsNext test) f.all e in
+    record { token = f.token; others = f.others; all = f.all; kind = and_both (test f.token.kind) (follow f.token.kind) t f.kind }
+first_behind follow (shapes.part {sort = sort} {tree = tree} {rest = rest} x) f =
+    let g = first_of_whole follow {shape = shapes.Part sort} {tree = tree} {rest = rest} (shapes.part x) f in
+    record { token = g.token; others = g.others; all = g.all; kind = g.kind }
+first_behind follow (shapes.below {trees = trees} {rest = rest} x) f =
+    let g = first_behind follow x f in
+    record { token = g.token; others = g.others; all = ap (λ (ws : List Token). ws ++ rest) (append-nil (yield trees)) ∙ g.all; kind = g.kind }
+first_behind follow (shapes.both {b = b} {left = left} {right = right} {rest = rest} x y) f =
+    let g = first_behind (behind b follow) x (first_behind follow y f) in
+    record { token = g.token; others = g.others; all = regroup left right rest ∙ g.all; kind = g.kind }
+first_behind follow (shapes.first {a = a} {b = b} x) f =
+    let g = first_behind follow x f in
+    record { token = g.token; others = g.others; all = g.all; kind = or_left (behind a follow g.token.kind) (behind b follow g.token.kind) g.kind }
+first_behind follow (shapes.second {a = a} {b = b} x) f =
+    let g = first_behind follow x f in
+    record { token = g.token; others = g.others; all = g.all; kind = or_right (behind a follow g.token.kind) (behind b follow g.token.kind) g.kind }
+first_behind follow (shapes.done {a = a}) f = record { token = f.token; others = f.others; all = f.all; kind = or_right (heads_of a f.token.kind) (follow f.token.kind) f.kind }
+first_behind follow (shapes.more {a = a} {left = left} {right = right} {rest = rest} x y) f =
+    let g = first_of_whole follow {shape = shapes.Many a} {tree = append left right} {rest = rest} (shapes.more x y) f in
+    record { token = g.token; others = g.others; all = g.all; kind = g.kind }
 
 -- at least so many tokens
 abbrev pub least : Shape Sort → ℕ
@@ -141,11 +183,19 @@ next_is test shape next h tree rest x f =
     let g = first_behind next x f in
     ap (is_next test) g.all ∙ implied (behind shape next) test h g.token.kind g.kind
 
+-- a test whose negation holds
+pub flip : (b : Bool) → not b ≡ true → b ≡ false
+flip false h = refl
+flip true h = absurd cc
+
 pub next_is_not : (test : Kind → Bool) (shape : Shape Sort) (next : Kind → Bool) → implies (behind shape next) (λ kind. not (test kind)) ≡ true → (tree : Forest) (rest : List Token) → Fits grammar shape tree rest → IsFirst next rest → is_next test (yield tree ++ rest) ≡ false
 next_is_not test shape next h tree rest x f =
     let g = first_behind next x f in
     ap (is_next test) g.all ∙ flip (test g.token.kind) (implied (behind shape next) (λ kind. not (test kind)) h g.token.kind g.kind)
-  where
-    flip : (b : Bool) → not b ≡ true → b ≡ false
-    flip false h = refl
-    flip true h = absurd cc
+
+-- what stands behind passes a test
+pub behind_is : (test next : Kind → Bool) → implies next test ≡ true → (rest : List Token) → IsFirst next rest → is_next test rest ≡ true
+behind_is test next h rest f = ap (is_next test) f.all ∙ implied next test h f.token.kind f.kind
+
+pub behind_is_not : (test next : Kind → Bool) → implies next (λ kind. not (test kind)) ≡ true → (rest : List Token) → IsFirst next rest → is_next test rest ≡ false
+behind_is_not test next h rest f = ap (is_next test) f.all ∙ flip (test f.token.kind) (implied next (λ kind. not (test kind)) h f.token.kind f.kind)

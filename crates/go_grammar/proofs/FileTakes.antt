@@ -179,7 +179,7 @@ module _ (p : Parsers) (s : Sound p) (params_takes : (tokens : List Token) → Y
   at_import_takes sorts.ImportSpec tokens = yields_part sorts.ImportSpec tokens _ (run_takes grammar (λ sort tokens. None) (λ sort tokens. yields_none) import_spec_plan tokens)
   at_import_takes _ tokens = yields_none
 
-  at_file_takes : (sort : Sort) (tokens : List Token) → Yields (at_file p sort tokens) (Got sort tokens)
+  pub at_file_takes : (sort : Sort) (tokens : List Token) → Yields (at_file p sort tokens) (Got sort tokens)
   at_file_takes sorts.Import tokens = yields_part sorts.Import tokens _ (run_takes grammar at_import at_import_takes import_plan tokens)
   at_file_takes sorts.PackageDecl tokens = yields_part sorts.PackageDecl tokens _ (run_takes grammar (at_package p) at_package_takes package_plan tokens)
   at_file_takes _ tokens = yields_none

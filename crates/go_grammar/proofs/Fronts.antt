@@ -169,7 +169,7 @@ covered sorts.CommClause = refl
 covered sorts.Loop = refl
 covered (sorts.Simple context) = refl
 
-filled : (sort : Sort) → empties (grammar sort) ≡ is_empty sort
+pub filled : (sort : Sort) → empties (grammar sort) ≡ is_empty sort
 filled sorts.File = refl
 filled sorts.Import = refl
 filled sorts.ImportSpec = refl

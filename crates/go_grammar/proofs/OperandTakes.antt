@@ -103,10 +103,10 @@ bare_not_only (second (second (first (below x)))) = refl
 bare_not_only (second (second (second (first (below x))))) = refl
 bare_not_only (second (second (second (second (below x))))) = refl
 
-bare_part_only : {tree : Forest} {rest : List Token} → Fits grammar (shapes.Part sorts.BareType) tree rest → is_only_a_type tree ≡ false
+pub bare_part_only : {tree : Forest} {rest : List Token} → Fits grammar (shapes.Part sorts.BareType) tree rest → is_only_a_type tree ≡ false
 bare_part_only (part x) = bare_not_only x
 
-open_not_only : {tree : Forest} {rest : List Token} → Fits grammar sorts.open_array tree rest → is_only_a_type tree ≡ false
+pub open_not_only : {tree : Forest} {rest : List Token} → Fits grammar sorts.open_array tree rest → is_only_a_type tree ≡ false
 open_not_only (below x) = refl
 
 -- a type as an operand

@@ -68,7 +68,7 @@ at_level sorts.Comparison context = refl
 at_level sorts.Addition context = refl
 at_level sorts.Multiplication context = refl
 
-above_level : (level : Level) (context : Context) → level_sort context (number level + 1) ≡ tighter level context
+pub above_level : (level : Level) (context : Context) → level_sort context (number level + 1) ≡ tighter level context
 above_level sorts.Disjunction context = refl
 above_level sorts.Conjunction context = refl
 above_level sorts.Comparison context = refl
@@ -82,7 +82,7 @@ same_number sorts.Comparison = refl
 same_number sorts.Addition = refl
 same_number sorts.Multiplication = refl
 
-precedence_small : (kind : Kind) → precedence kind ≤ 5
+pub precedence_small : (kind : Kind) → precedence kind ≤ 5
 precedence_small kinds.OrOr = omega arith
 precedence_small kinds.AndAnd = omega arith
 precedence_small kinds.Equal = omega arith
@@ -185,7 +185,7 @@ record Keeps (place : Place) (min : ℕ) (tokens : List Token) (n : ℕ) (x : Fo
   next : tight x.1 ≤ high
   room : length x.1 ≤ n
 
-tight_small : (tokens : List Token) → tight tokens ≤ 5
+pub tight_small : (tokens : List Token) → tight tokens ≤ 5
 tight_small [] = omega arith
 tight_small (token ∷ rest) = precedence_small token.kind
 

@@ -9,3 +9,4 @@ pub mod TypeReading
 pub mod ExprReading
 pub mod StmtReading
 pub mod FileReading
+pub mod PartReading

@@ -4,4 +4,6 @@
 
 mod laws;
 
-pub use laws::{cut_parts, sound_reading};
+pub use laws::{
+    cut_parts, first_bad_part, one_place, one_tree, read_again, sound_parts, sound_reading,
+};
