@@ -19,3 +19,4 @@ pub mod Cuts
 pub mod Fronts
 pub mod Choices
 pub mod TypeChoices
+pub mod Rereads

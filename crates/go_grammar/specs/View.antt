@@ -12,7 +12,30 @@ use Rattle.go_syntax.specs.declared.type_exprs.ListedName.{ListedName}
 use Rattle.go_syntax.specs.declared.type_exprs.NamedType.{NamedType}
 use Rattle.go_syntax.specs.declared.type_exprs.NamedType.TheVariants as named
 use Rattle.go_syntax.specs.declared.decls.Decl.TheOpen as layers
-use Rattle.go_syntax.specs.declared.decls.Decl.TheFolds.{fold-Decl}
+use Rattle.go_syntax.specs.declared.exprs.Expr.{Expr}
+use Rattle.go_syntax.specs.declared.stmts.Stmt.{Stmt}
+use Rattle.go_syntax.specs.declared.type_exprs.ElementLine.{ElementLine}
+use Rattle.go_syntax.specs.declared.type_exprs.FieldLine.{FieldLine}
+use Rattle.go_syntax.specs.declared.type_exprs.ResultForm.{ResultForm}
+use Rattle.go_syntax.specs.declared.type_exprs.TypeExpr.{TypeExpr}
+use Rattle.go_syntax.specs.declared.decls.FuncDecl.{FuncDecl}
+use Rattle.go_syntax.specs.declared.decls.TypeSpec.{TypeSpec}
+use Rattle.go_syntax.specs.declared.decls.ValueSpec.{ValueSpec}
+use Rattle.go_syntax.specs.declared.exprs.Element.{Element}
+use Rattle.go_syntax.specs.declared.exprs.ListedExpr.{ListedExpr}
+use Rattle.go_syntax.specs.declared.stmts.Block.{Block}
+use Rattle.go_syntax.specs.declared.stmts.CaseClause.{CaseClause}
+use Rattle.go_syntax.specs.declared.stmts.CommClause.{CommClause}
+use Rattle.go_syntax.specs.declared.stmts.ForStmt.{ForStmt}
+use Rattle.go_syntax.specs.declared.stmts.IfArm.{IfArm}
+use Rattle.go_syntax.specs.declared.stmts.RangeStmt.{RangeStmt}
+use Rattle.go_syntax.specs.declared.stmts.StmtLine.{StmtLine}
+use Rattle.go_syntax.specs.declared.stmts.SwitchStmt.{SwitchStmt}
+use Rattle.go_syntax.specs.declared.stmts.TypeSwitchStmt.{TypeSwitchStmt}
+use Rattle.go_syntax.specs.declared.type_exprs.Param.{Param}
+use Rattle.go_syntax.specs.declared.type_exprs.Params.{Params}
+use Rattle.go_syntax.specs.declared.type_exprs.Signature.{Signature}
+use Rattle.go_syntax.specs.declared.decls.Decl.TheFolds.{fold-Decl, fold-Expr, fold-Stmt, fold-ElementLine, fold-FieldLine, fold-ResultForm, fold-TypeExpr, fold-FuncDecl, fold-TypeSpec, fold-ValueSpec, fold-Element, fold-ListedExpr, fold-Block, fold-CaseClause, fold-CommClause, fold-ForStmt, fold-IfArm, fold-RangeStmt, fold-StmtLine, fold-SwitchStmt, fold-TypeSwitchStmt, fold-Param, fold-Params, fold-Signature}
 use Rattle.go_grammar.specs.Forests as forms
 use Rattle.go_grammar.specs.Forests.{Form, Forest, empty, leaf, node, append}
 
@@ -192,8 +215,124 @@ signature_layer x = tree forms.SignatureForm (x.params ⊕ x.result)
 
 -- ---- whole trees
 
-abbrev pub view_decl : Decl → Forest
-view_decl = fold-Decl Forest Forest Forest Forest Forest Forest Forest Forest Forest Forest Forest Forest Forest Forest Forest Forest Forest Forest Forest Forest Forest Forest Forest Forest
+unfoldable pub view_decl : Decl → Forest
+view_decl =
+    fold-Decl Forest Forest Forest Forest Forest Forest Forest Forest Forest Forest Forest Forest Forest Forest Forest Forest Forest Forest Forest Forest Forest Forest Forest Forest
+    decl_layer expr_layer stmt_layer element_line_layer field_line_layer result_form_layer type_expr_layer func_decl_layer type_spec_layer value_spec_layer element_layer listed_expr_layer block_layer case_clause_layer comm_clause_layer for_stmt_layer if_arm_layer range_stmt_layer stmt_line_layer switch_stmt_layer type_switch_stmt_layer param_layer params_layer signature_layer
+
+unfoldable pub view_expr : Expr → Forest
+view_expr =
+    fold-Expr Forest Forest Forest Forest Forest Forest Forest Forest Forest Forest Forest Forest Forest Forest Forest Forest Forest Forest Forest Forest Forest Forest Forest Forest
+    decl_layer expr_layer stmt_layer element_line_layer field_line_layer result_form_layer type_expr_layer func_decl_layer type_spec_layer value_spec_layer element_layer listed_expr_layer block_layer case_clause_layer comm_clause_layer for_stmt_layer if_arm_layer range_stmt_layer stmt_line_layer switch_stmt_layer type_switch_stmt_layer param_layer params_layer signature_layer
+
+unfoldable pub view_stmt : Stmt → Forest
+view_stmt =
+    fold-Stmt Forest Forest Forest Forest Forest Forest Forest Forest Forest Forest Forest Forest Forest Forest Forest Forest Forest Forest Forest Forest Forest Forest Forest Forest
+    decl_layer expr_layer stmt_layer element_line_layer field_line_layer result_form_layer type_expr_layer func_decl_layer type_spec_layer value_spec_layer element_layer listed_expr_layer block_layer case_clause_layer comm_clause_layer for_stmt_layer if_arm_layer range_stmt_layer stmt_line_layer switch_stmt_layer type_switch_stmt_layer param_layer params_layer signature_layer
+
+unfoldable pub view_element_line : ElementLine → Forest
+view_element_line =
+    fold-ElementLine Forest Forest Forest Forest Forest Forest Forest Forest Forest Forest Forest Forest Forest Forest Forest Forest Forest Forest Forest Forest Forest Forest Forest Forest
+    decl_layer expr_layer stmt_layer element_line_layer field_line_layer result_form_layer type_expr_layer func_decl_layer type_spec_layer value_spec_layer element_layer listed_expr_layer block_layer case_clause_layer comm_clause_layer for_stmt_layer if_arm_layer range_stmt_layer stmt_line_layer switch_stmt_layer type_switch_stmt_layer param_layer params_layer signature_layer
+
+unfoldable pub view_field_line : FieldLine → Forest
+view_field_line =
+    fold-FieldLine Forest Forest Forest Forest Forest Forest Forest Forest Forest Forest Forest Forest Forest Forest Forest Forest Forest Forest Forest Forest Forest Forest Forest Forest
+    decl_layer expr_layer stmt_layer element_line_layer field_line_layer result_form_layer type_expr_layer func_decl_layer type_spec_layer value_spec_layer element_layer listed_expr_layer block_layer case_clause_layer comm_clause_layer for_stmt_layer if_arm_layer range_stmt_layer stmt_line_layer switch_stmt_layer type_switch_stmt_layer param_layer params_layer signature_layer
+
+unfoldable pub view_result_form : ResultForm → Forest
+view_result_form =
+    fold-ResultForm Forest Forest Forest Forest Forest Forest Forest Forest Forest Forest Forest Forest Forest Forest Forest Forest Forest Forest Forest Forest Forest Forest Forest Forest
+    decl_layer expr_layer stmt_layer element_line_layer field_line_layer result_form_layer type_expr_layer func_decl_layer type_spec_layer value_spec_layer element_layer listed_expr_layer block_layer case_clause_layer comm_clause_layer for_stmt_layer if_arm_layer range_stmt_layer stmt_line_layer switch_stmt_layer type_switch_stmt_layer param_layer params_layer signature_layer
+
+unfoldable pub view_type_expr : TypeExpr → Forest
+view_type_expr =
+    fold-TypeExpr Forest Forest Forest Forest Forest Forest Forest Forest Forest Forest Forest Forest Forest Forest Forest Forest Forest Forest Forest Forest Forest Forest Forest Forest
+    decl_layer expr_layer stmt_layer element_line_layer field_line_layer result_form_layer type_expr_layer func_decl_layer type_spec_layer value_spec_layer element_layer listed_expr_layer block_layer case_clause_layer comm_clause_layer for_stmt_layer if_arm_layer range_stmt_layer stmt_line_layer switch_stmt_layer type_switch_stmt_layer param_layer params_layer signature_layer
+
+unfoldable pub view_func_decl : FuncDecl → Forest
+view_func_decl =
+    fold-FuncDecl Forest Forest Forest Forest Forest Forest Forest Forest Forest Forest Forest Forest Forest Forest Forest Forest Forest Forest Forest Forest Forest Forest Forest Forest
+    decl_layer expr_layer stmt_layer element_line_layer field_line_layer result_form_layer type_expr_layer func_decl_layer type_spec_layer value_spec_layer element_layer listed_expr_layer block_layer case_clause_layer comm_clause_layer for_stmt_layer if_arm_layer range_stmt_layer stmt_line_layer switch_stmt_layer type_switch_stmt_layer param_layer params_layer signature_layer
+
+unfoldable pub view_type_spec : TypeSpec → Forest
+view_type_spec =
+    fold-TypeSpec Forest Forest Forest Forest Forest Forest Forest Forest Forest Forest Forest Forest Forest Forest Forest Forest Forest Forest Forest Forest Forest Forest Forest Forest
+    decl_layer expr_layer stmt_layer element_line_layer field_line_layer result_form_layer type_expr_layer func_decl_layer type_spec_layer value_spec_layer element_layer listed_expr_layer block_layer case_clause_layer comm_clause_layer for_stmt_layer if_arm_layer range_stmt_layer stmt_line_layer switch_stmt_layer type_switch_stmt_layer param_layer params_layer signature_layer
+
+unfoldable pub view_value_spec : ValueSpec → Forest
+view_value_spec =
+    fold-ValueSpec Forest Forest Forest Forest Forest Forest Forest Forest Forest Forest Forest Forest Forest Forest Forest Forest Forest Forest Forest Forest Forest Forest Forest Forest
+    decl_layer expr_layer stmt_layer element_line_layer field_line_layer result_form_layer type_expr_layer func_decl_layer type_spec_layer value_spec_layer element_layer listed_expr_layer block_layer case_clause_layer comm_clause_layer for_stmt_layer if_arm_layer range_stmt_layer stmt_line_layer switch_stmt_layer type_switch_stmt_layer param_layer params_layer signature_layer
+
+unfoldable pub view_element : Element → Forest
+view_element =
+    fold-Element Forest Forest Forest Forest Forest Forest Forest Forest Forest Forest Forest Forest Forest Forest Forest Forest Forest Forest Forest Forest Forest Forest Forest Forest
+    decl_layer expr_layer stmt_layer element_line_layer field_line_layer result_form_layer type_expr_layer func_decl_layer type_spec_layer value_spec_layer element_layer listed_expr_layer block_layer case_clause_layer comm_clause_layer for_stmt_layer if_arm_layer range_stmt_layer stmt_line_layer switch_stmt_layer type_switch_stmt_layer param_layer params_layer signature_layer
+
+unfoldable pub view_listed_expr : ListedExpr → Forest
+view_listed_expr =
+    fold-ListedExpr Forest Forest Forest Forest Forest Forest Forest Forest Forest Forest Forest Forest Forest Forest Forest Forest Forest Forest Forest Forest Forest Forest Forest Forest
+    decl_layer expr_layer stmt_layer element_line_layer field_line_layer result_form_layer type_expr_layer func_decl_layer type_spec_layer value_spec_layer element_layer listed_expr_layer block_layer case_clause_layer comm_clause_layer for_stmt_layer if_arm_layer range_stmt_layer stmt_line_layer switch_stmt_layer type_switch_stmt_layer param_layer params_layer signature_layer
+
+unfoldable pub view_block : Block → Forest
+view_block =
+    fold-Block Forest Forest Forest Forest Forest Forest Forest Forest Forest Forest Forest Forest Forest Forest Forest Forest Forest Forest Forest Forest Forest Forest Forest Forest
+    decl_layer expr_layer stmt_layer element_line_layer field_line_layer result_form_layer type_expr_layer func_decl_layer type_spec_layer value_spec_layer element_layer listed_expr_layer block_layer case_clause_layer comm_clause_layer for_stmt_layer if_arm_layer range_stmt_layer stmt_line_layer switch_stmt_layer type_switch_stmt_layer param_layer params_layer signature_layer
+
+unfoldable pub view_case_clause : CaseClause → Forest
+view_case_clause =
+    fold-CaseClause Forest Forest Forest Forest Forest Forest Forest Forest Forest Forest Forest Forest Forest Forest Forest Forest Forest Forest Forest Forest Forest Forest Forest Forest
+    decl_layer expr_layer stmt_layer element_line_layer field_line_layer result_form_layer type_expr_layer func_decl_layer type_spec_layer value_spec_layer element_layer listed_expr_layer block_layer case_clause_layer comm_clause_layer for_stmt_layer if_arm_layer range_stmt_layer stmt_line_layer switch_stmt_layer type_switch_stmt_layer param_layer params_layer signature_layer
+
+unfoldable pub view_comm_clause : CommClause → Forest
+view_comm_clause =
+    fold-CommClause Forest Forest Forest Forest Forest Forest Forest Forest Forest Forest Forest Forest Forest Forest Forest Forest Forest Forest Forest Forest Forest Forest Forest Forest
+    decl_layer expr_layer stmt_layer element_line_layer field_line_layer result_form_layer type_expr_layer func_decl_layer type_spec_layer value_spec_layer element_layer listed_expr_layer block_layer case_clause_layer comm_clause_layer for_stmt_layer if_arm_layer range_stmt_layer stmt_line_layer switch_stmt_layer type_switch_stmt_layer param_layer params_layer signature_layer
+
+unfoldable pub view_for_stmt : ForStmt → Forest
+view_for_stmt =
+    fold-ForStmt Forest Forest Forest Forest Forest Forest Forest Forest Forest Forest Forest Forest Forest Forest Forest Forest Forest Forest Forest Forest Forest Forest Forest Forest
+    decl_layer expr_layer stmt_layer element_line_layer field_line_layer result_form_layer type_expr_layer func_decl_layer type_spec_layer value_spec_layer element_layer listed_expr_layer block_layer case_clause_layer comm_clause_layer for_stmt_layer if_arm_layer range_stmt_layer stmt_line_layer switch_stmt_layer type_switch_stmt_layer param_layer params_layer signature_layer
+
+unfoldable pub view_if_arm : IfArm → Forest
+view_if_arm =
+    fold-IfArm Forest Forest Forest Forest Forest Forest Forest Forest Forest Forest Forest Forest Forest Forest Forest Forest Forest Forest Forest Forest Forest Forest Forest Forest
+    decl_layer expr_layer stmt_layer element_line_layer field_line_layer result_form_layer type_expr_layer func_decl_layer type_spec_layer value_spec_layer element_layer listed_expr_layer block_layer case_clause_layer comm_clause_layer for_stmt_layer if_arm_layer range_stmt_layer stmt_line_layer switch_stmt_layer type_switch_stmt_layer param_layer params_layer signature_layer
+
+unfoldable pub view_range_stmt : RangeStmt → Forest
+view_range_stmt =
+    fold-RangeStmt Forest Forest Forest Forest Forest Forest Forest Forest Forest Forest Forest Forest Forest Forest Forest Forest Forest Forest Forest Forest Forest Forest Forest Forest
+    decl_layer expr_layer stmt_layer element_line_layer field_line_layer result_form_layer type_expr_layer func_decl_layer type_spec_layer value_spec_layer element_layer listed_expr_layer block_layer case_clause_layer comm_clause_layer for_stmt_layer if_arm_layer range_stmt_layer stmt_line_layer switch_stmt_layer type_switch_stmt_layer param_layer params_layer signature_layer
+
+unfoldable pub view_stmt_line : StmtLine → Forest
+view_stmt_line =
+    fold-StmtLine Forest Forest Forest Forest Forest Forest Forest Forest Forest Forest Forest Forest Forest Forest Forest Forest Forest Forest Forest Forest Forest Forest Forest Forest
+    decl_layer expr_layer stmt_layer element_line_layer field_line_layer result_form_layer type_expr_layer func_decl_layer type_spec_layer value_spec_layer element_layer listed_expr_layer block_layer case_clause_layer comm_clause_layer for_stmt_layer if_arm_layer range_stmt_layer stmt_line_layer switch_stmt_layer type_switch_stmt_layer param_layer params_layer signature_layer
+
+unfoldable pub view_switch_stmt : SwitchStmt → Forest
+view_switch_stmt =
+    fold-SwitchStmt Forest Forest Forest Forest Forest Forest Forest Forest Forest Forest Forest Forest Forest Forest Forest Forest Forest Forest Forest Forest Forest Forest Forest Forest
+    decl_layer expr_layer stmt_layer element_line_layer field_line_layer result_form_layer type_expr_layer func_decl_layer type_spec_layer value_spec_layer element_layer listed_expr_layer block_layer case_clause_layer comm_clause_layer for_stmt_layer if_arm_layer range_stmt_layer stmt_line_layer switch_stmt_layer type_switch_stmt_layer param_layer params_layer signature_layer
+
+unfoldable pub view_type_switch_stmt : TypeSwitchStmt → Forest
+view_type_switch_stmt =
+    fold-TypeSwitchStmt Forest Forest Forest Forest Forest Forest Forest Forest Forest Forest Forest Forest Forest Forest Forest Forest Forest Forest Forest Forest Forest Forest Forest Forest
+    decl_layer expr_layer stmt_layer element_line_layer field_line_layer result_form_layer type_expr_layer func_decl_layer type_spec_layer value_spec_layer element_layer listed_expr_layer block_layer case_clause_layer comm_clause_layer for_stmt_layer if_arm_layer range_stmt_layer stmt_line_layer switch_stmt_layer type_switch_stmt_layer param_layer params_layer signature_layer
+
+unfoldable pub view_param : Param → Forest
+view_param =
+    fold-Param Forest Forest Forest Forest Forest Forest Forest Forest Forest Forest Forest Forest Forest Forest Forest Forest Forest Forest Forest Forest Forest Forest Forest Forest
+    decl_layer expr_layer stmt_layer element_line_layer field_line_layer result_form_layer type_expr_layer func_decl_layer type_spec_layer value_spec_layer element_layer listed_expr_layer block_layer case_clause_layer comm_clause_layer for_stmt_layer if_arm_layer range_stmt_layer stmt_line_layer switch_stmt_layer type_switch_stmt_layer param_layer params_layer signature_layer
+
+unfoldable pub view_params : Params → Forest
+view_params =
+    fold-Params Forest Forest Forest Forest Forest Forest Forest Forest Forest Forest Forest Forest Forest Forest Forest Forest Forest Forest Forest Forest Forest Forest Forest Forest
+    decl_layer expr_layer stmt_layer element_line_layer field_line_layer result_form_layer type_expr_layer func_decl_layer type_spec_layer value_spec_layer element_layer listed_expr_layer block_layer case_clause_layer comm_clause_layer for_stmt_layer if_arm_layer range_stmt_layer stmt_line_layer switch_stmt_layer type_switch_stmt_layer param_layer params_layer signature_layer
+
+unfoldable pub view_signature : Signature → Forest
+view_signature =
+    fold-Signature Forest Forest Forest Forest Forest Forest Forest Forest Forest Forest Forest Forest Forest Forest Forest Forest Forest Forest Forest Forest Forest Forest Forest Forest
     decl_layer expr_layer stmt_layer element_line_layer field_line_layer result_form_layer type_expr_layer func_decl_layer type_spec_layer value_spec_layer element_layer listed_expr_layer block_layer case_clause_layer comm_clause_layer for_stmt_layer if_arm_layer range_stmt_layer stmt_line_layer switch_stmt_layer type_switch_stmt_layer param_layer params_layer signature_layer
 
 abbrev pub view_line : DeclLine → Forest
