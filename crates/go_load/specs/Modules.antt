@@ -1,14 +1,17 @@
 -- The module to which a directory belongs.
-use Rattle.std.specs.Prelude.{◌≡◌, ℕ, ◌<◌, min, nat_lt, List, length, Option, Some, None, option_map, Vec, Result, Ok, Err, string_bytes, codes, if◌then◌else◌}
+use Rattle.std.specs.Prelude.{◌≡◌, ◌⊎◌, ℕ, ◌<◌, min, nat_lt, List, length, Option, Some, None, option_map, Vec, Result, Ok, Err, string_bytes, codes, if◌then◌else◌}
 use Rattle.std.specs.declared.alloc.Global.{Global}
 use Rattle.go_base.specs.Devices.{Tree, file_at}
 use Rattle.go_base.specs.declared.place.Place.{Place}
 use Rattle.go_base.specs.declared.rule.Rule.{Rule}
 use Rattle.go_base.specs.declared.rule.Rule.TheVariants as rules
+use Rattle.go_base.specs.declared.target.Target.{Target}
+use Rattle.go_base.specs.declared.target.Target.TheVariants as targets
 use Rattle.go_load.specs.declared.error.LoadError.{LoadError}
 use Rattle.go_load.specs.declared.error.LoadError.TheVariants.{Refused, ReadFault, OutOfMemory}
 use Rattle.go_load.specs.declared.find_module.Module as code
 use Rattle.go_load.specs.declared.go_mod.Fault.{Fault}
+use Rattle.go_load.specs.declared.sources.Sources.{Sources}
 use Rattle.go_load.specs.GoMod.{Contents, go_mod}
 use Rattle.go_load.specs.Paths.{path_in, LiesIn}
 use Rattle.go_load.specs.Places.{place_in, first_place}
@@ -67,3 +70,28 @@ ReadsWhole files path (Err (Refused place rule)) =
     (bytes : List ℕ) × (file_at files path ≡ Some bytes) × (4194304 < length bytes) × (place ≡ first_place path) × (rule ≡ rules.FileTooLarge)
 ReadsWhole files path (Err ReadFault) = Unit {0}
 ReadsWhole files path (Err OutOfMemory) = Unit {0}
+
+-- the directory in which the go.mod of a target is looked for first
+abbrev pub IsTargetDir : Target → List ℕ → Type 0
+IsTargetDir (targets.File path) dir = LiesIn path (Some dir) ⊎ ((path ≡ codes ".") × (dir ≡ codes "."))
+IsTargetDir (targets.Dir path) dir = dir ≡ path
+
+-- the go.mod that counts for a directory breaks no rule
+abbrev pub IsSound : Option (Result Module Broken) → Type 0
+IsSound None = Unit {0}
+IsSound (Some (Ok root)) = Unit {0}
+IsSound (Some (Err broken)) = ⊥
+
+abbrev pub HasModule : Tree → List ℕ → Type 0
+HasModule files dir = (said : Option (Result Module Broken)) × Governs files dir said × IsSound said
+
+-- a program is loaded, or refused for another reason, only where its go.mod breaks no rule
+abbrev pub MindsModule : Tree → List ℕ → Result Sources LoadError → Type 0
+MindsModule files dir (Ok sources) = HasModule files dir
+MindsModule files dir (Err (Refused place rule)) =
+    Governs files dir (Some (Err (record { place = place; rule = rule }))) ⊎ HasModule files dir
+MindsModule files dir (Err ReadFault) = Unit {0}
+MindsModule files dir (Err OutOfMemory) = Unit {0}
+
+abbrev pub MindsTarget : Tree → Target → Result Sources LoadError → Type 0
+MindsTarget files target result = (dir : List ℕ) × IsTargetDir target dir × MindsModule files dir result
