@@ -3,3 +3,4 @@ pub mod Texts
 pub mod ReadLines
 pub mod Stopping
 pub mod Modules
+pub mod Governing

@@ -6,6 +6,7 @@ pub mod Places
 pub mod Loaded
 pub mod Listing
 pub mod Paths
+pub mod Modules
 pub mod BuiltIns
 pub mod Sources
 pub mod Refusals

@@ -1,5 +1,5 @@
 -- Places in files, and what is said of them.
-use Rattle.std.specs.Prelude.{◌≡◌, ℕ, ◌≤◌, List, length, Option, Some, None, IfSome, Vec, slice_get, min}
+use Rattle.std.specs.Prelude.{◌≡◌, ℕ, ◌≤◌, List, [], length, Option, Some, None, IfSome, Vec, slice_get, min}
 use Rattle.std.specs.declared.alloc.Global.{Global}
 use Rattle.go_base.specs.Lines.{line_at, column_at}
 use Rattle.go_base.specs.declared.place.Place.{Place}
@@ -12,6 +12,10 @@ use Rattle.go_load.specs.declared.error.LoadError.TheVariants.{Refused, ReadFaul
 -- a byte of the file at a path
 abbrev pub place_in : List ℕ → List ℕ → ℕ → Place
 place_in path bytes offset = record { path = path; offset = offset; line = line_at bytes offset; column = column_at bytes offset }
+
+-- the first byte of the file at a path, whatever it holds
+abbrev pub first_place : List ℕ → Place
+first_place path = place_in path [] 0
 
 -- where a token begins; the end of the file where there is none
 abbrev pub start_in : List ℕ → Option Token → ℕ

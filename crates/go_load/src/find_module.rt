@@ -1,7 +1,8 @@
 //! The module to which the target belongs.
 
-ghost use Rattle.std.specs.Prelude.{◌≡◌, ◌≤◌, IfErr, IsErrOf};
+ghost use Rattle.std.specs.Prelude.{◌≡◌, ◌≤◌, IfErr, IfSome, IsErrOf};
 ghost use Rattle.go_base.specs.Devices.{HasFaulted};
+ghost use Rattle.go_load.specs.Modules.{own_module, AnswersModule, Governs};
 ghost use Rattle.go_load.specs.Refusals.{Stops};
 
 use crate::error::LoadError;
@@ -60,16 +61,17 @@ pub fn find_module<F: Files>(
     ensures later { F.faults files.old ≤ F.faults files.new }
     ensures why { IfErr result (Stops (F.tree files.old)) }
     ensures same { F.tree files.new ≡ F.tree files.old }
+    ensures found { IfSome (F.tree files.old) (λ tree. AnswersModule result (Governs tree dir.now)) }
 {
-    let mut dir = dir;
+    let mut nearest = dir;
     'dirs: loop {
-        if let Some(module) = read_module(alloc, files, dir)? {
+        if let Some(module) = read_module(alloc, files, nearest)? {
             return Ok(Some(module));
         }
-        let Some(above) = parent(dir) else {
+        let Some(above) = parent(nearest) else {
             return Ok(None);
         };
-        dir = above;
+        nearest = above;
     }
 }
 
@@ -83,6 +85,7 @@ fn read_module<F: Files>(
     ensures later { F.faults files.old ≤ F.faults files.new }
     ensures why { IfErr result (Stops (F.tree files.old)) }
     ensures same { F.tree files.new ≡ F.tree files.old }
+    ensures own { IfSome (F.tree files.old) (λ tree. AnswersModule result (λ said. own_module tree dir.now ≡ said)) }
 {
     let path = join(alloc, dir, "go.mod")?;
     let Some(bytes) = read_whole(alloc, files, path.as_str())? else {

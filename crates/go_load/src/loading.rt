@@ -1,7 +1,8 @@
 //! Loading of a program.
 
-ghost use Rattle.std.specs.Prelude.{◌≡◌, ◌≤◌, IfOk, IfErr, IsErrOf};
+ghost use Rattle.std.specs.Prelude.{◌≡◌, ◌≤◌, IfOk, IfErr, IfSome, IsErrOf};
 ghost use Rattle.go_base.specs.Devices.{HasFaulted};
+ghost use Rattle.go_load.specs.Modules.{MindsTarget};
 ghost use Rattle.go_load.specs.Sources.{files_of, AreTold, IsLoaded};
 ghost use Rattle.go_load.specs.Refusals.{HasStopped, Stops};
 
@@ -26,6 +27,7 @@ pub fn load<F: Files>(alloc: Global, files: &mut F, target: &Target) -> Result<S
     ensures fault { IsErrOf result LoadError.ReadFault → HasFaulted (F.faults files.old) (F.faults files.new) }
     ensures later { F.faults files.old ≤ F.faults files.new }
     ensures same { F.tree files.new ≡ F.tree files.old }
+    ensures go_mod { IfSome (F.tree files.old) (λ tree. MindsTarget tree target.now result) }
 {
     load_within(alloc, files, target, MAX_PROGRAM_BYTES)
 }
@@ -42,6 +44,7 @@ pub(crate) fn load_within<F: Files>(
     ensures fault { IsErrOf result LoadError.ReadFault → HasFaulted (F.faults files.old) (F.faults files.new) }
     ensures later { F.faults files.old ≤ F.faults files.new }
     ensures same { F.tree files.new ≡ F.tree files.old }
+    ensures go_mod { IfSome (F.tree files.old) (λ tree. MindsTarget tree target.now result) }
 {
     let module = find_module(alloc, files, target_dir(target))?;
     let path = Text::new(alloc, target_path(target))?;

@@ -1,20 +1,24 @@
 //! Paths of files and directories: components joined by `/`, where `.` is the directory of the paths themselves.
 
-ghost use Rattle.std.specs.Prelude.{◌≡◌, ◌<◌, IfOk, IfSome, string_bytes};
-ghost use Rattle.go_load.specs.Paths.{depth, path_in, with_slash};
+ghost use Rattle.std.specs.Prelude.{◌≡◌, ◌<◌, IfOk, IfSome, option_map, string_bytes};
+ghost use Rattle.go_load.specs.Paths.{depth, path_in, with_slash, LiesIn};
 
 use go_base::NoMemory;
 use std::alloc::Global;
 
 /// The directory in which a file or directory lies. None for `.`, which lies in none.
 pub fn parent(path: &str) -> Option<&str>
-    ensures { IfSome result (λ dir. depth dir.now < depth path.now) }
+    ensures above { LiesIn path.now (option_map (λ dir. dir.now) result) }
+    ensures depth { IfSome result (λ dir. depth dir.now < depth path.now) }
 {
     if path == "." {
         return None;
     }
-    match path.rsplit_once('/') {
-        Some((dir, _)) => Some(dir),
+    match path.rfind('/') {
+        Some(at) => {
+            let (dir, _) = path.split_at(at);
+            Some(dir)
+        }
         None => Some("."),
     }
 }

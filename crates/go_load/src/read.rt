@@ -1,10 +1,11 @@
 //! Reading of one file.
 
-ghost use Rattle.std.specs.Prelude.{◌≡◌, ◌≤◌, [], length, Option, IfOk, IfErr, IsErrOf, slice_get};
+ghost use Rattle.std.specs.Prelude.{◌≡◌, ◌≤◌, [], length, Option, IfOk, IfErr, IfSome, IsErrOf, slice_get};
 ghost use Rattle.go_base.specs.Devices.{HasFaulted, Tree};
 ghost use Rattle.go_ast.specs.Lexical.{IsTokenList};
 ghost use Rattle.go_load.specs.Places.{place_in, start_in, IsSmall, Refuses};
 ghost use Rattle.go_load.specs.Sources.{HasBytes, IsText};
+ghost use Rattle.go_load.specs.Modules.{ReadsWhole};
 ghost use Rattle.go_load.specs.Refusals.{Stops};
 
 use crate::error::LoadError;
@@ -76,6 +77,7 @@ pub fn read_whole<F: Files>(
     ensures later { F.faults files.old ≤ F.faults files.new }
     ensures why { IfErr result (Stops (F.tree files.old)) }
     ensures same { F.tree files.new ≡ F.tree files.old }
+    ensures answer { IfSome (F.tree files.old) (λ tree. ReadsWhole tree path.now result) }
 {
     match files.read(alloc, path, MAX_FILE_BYTES) {
         Ok(bytes) => {

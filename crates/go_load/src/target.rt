@@ -1,5 +1,7 @@
 //! The paths of what is to be loaded.
 
+ghost use Rattle.go_load.specs.Modules.{IsTargetDir};
+
 use crate::paths::parent;
 use go_base::Target;
 
@@ -12,7 +14,9 @@ pub fn target_path(target: &Target) -> &str {
 }
 
 /// The directory of a target.
-pub fn target_dir(target: &Target) -> &str {
+pub fn target_dir(target: &Target) -> &str
+    ensures { IsTargetDir target.now result.now }
+{
     match target {
         Target::File(path) => parent(path.as_str()).unwrap_or("."),
         Target::Dir(path) => path.as_str(),
