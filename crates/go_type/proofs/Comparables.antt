@@ -10,7 +10,7 @@ use Rattle.go_type.specs.declared.term.TypeTerm.TheVariants.{Basic as Plain, Arr
 use Rattle.go_type.specs.Table.{Table, term_at, underlying_of, definition_at, no_definition}
 use Rattle.go_type.specs.declared.types.Definition.{Definition}
 use Rattle.go_type.specs.Comparable.{incomparable_term, incomparable_to, Comparable}
-use Rattle.go_type.proofs.Saturate.{Property, Within, steps, never_shows}
+use Rattle.go_type.proofs.Saturate.{Property, Within, steps, shows_in_bound, never_shows}
 
 abbrev next : Table → Property → Property
 next types p x = incomparable_term p (term_at types (underlying_of types x))
@@ -64,6 +64,11 @@ module _ (types : Table) (counts : length types.definitions ≡ length types.ter
   same_steps : (n : ℕ) → steps (next types) mono (length types.terms) inside n ≡ (λ id. incomparable_to n types id)
   same_steps zero = refl
   same_steps (suc n) = ap (next types) (same_steps n)
+
+  -- what is not comparable shows so in as many steps as there are types
+  pub comparable_in_bound : (n : ℕ) (x : TypeId) → incomparable_to n types x ≡ true → incomparable_to (length types.terms) types x ≡ true
+  comparable_in_bound n x h =
+      sym (ap (λ p. p x) (same_steps (length types.terms))) ∙ shows_in_bound (next types) mono (length types.terms) inside n x (ap (λ p. p x) (same_steps n) ∙ h)
 
   pub comparable_iff : (a : TypeId) (r : Bool) → r ≡ incomparable_to (length types.terms) types a → IsTrue (not r) ↔ Comparable types a
   comparable_iff a r e = (

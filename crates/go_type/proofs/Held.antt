@@ -13,7 +13,7 @@ pub fields_fit : (types : Table) (term : TypeTerm) → is_holdable types term �
 fields_fit types (Struct fields) h = ltb-true _ _ (both _ _ h).1
 fields_fit types _ h = tt
 
-inside : {X : Type 0} (xs : List X) (i : ℕ) (x : X) → slice_get xs i ≡ Some x → i < length xs
+pub inside : {X : Type 0} (xs : List X) (i : ℕ) (x : X) → slice_get xs i ≡ Some x → i < length xs
 inside [] i x h = cc
 inside (y ∷ xs) zero x h = omega arith
 inside (y ∷ xs) (suc i) x h = let k : i < length xs = inside xs i x h in omega arith

@@ -16,3 +16,5 @@ pub mod Names
 pub mod MethodsFound
 pub mod Reaching
 pub mod Held
+pub mod Spots
+pub mod InlineTypes

@@ -8,7 +8,7 @@ use Rattle.std.specs.Ordering.{is_eq}
 use Rattle.std.specs.declared.cmp.Ordering.TheVariants.{Less}
 use Rattle.go_base.specs.declared.ids.TypeId.{TypeId}
 use Rattle.go_type.specs.declared.members.Wanted.{Wanted}
-use Rattle.go_type.specs.declared.members.Place.{Place}
+use Rattle.go_type.specs.Selector.{Place}
 use Rattle.go_type.specs.declared.members.Member.{Member}
 use Rattle.go_type.specs.declared.methods.MethodEntry.{MethodEntry}
 use Rattle.go_type.specs.declared.methods.SelectionKind.TheVariants as kind

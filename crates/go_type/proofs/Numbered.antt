@@ -20,3 +20,11 @@ module _ {X Y : Type 0} (f : ℕ → X → List Y) where
       let longer : take (i + 1) xs ≡ take i xs ++ x ∷ [] = (take_at_read xs i x h).1 ∙ sym (ap (λ y. take i xs ++ y ∷ []) is) in
       e ∙ ap (λ l. l ++ f i x) before ∙ append_assoc old (flat_map_from f 0 (take i xs)) (f i x)
       ∙ ap (λ l. old ++ l) (sym (ap (flat_map_from f 0) longer ∙ one_more 0 i (take i xs) x count))
+
+  -- the same, where the item is read
+  pub turn : (old now next : List Y) (xs : List X) (i : ℕ) (d : X) → i < length xs → now ≡ old ++ flat_map_from f 0 (take i xs)
+      → next ≡ now ++ f i (get_or xs i d) → next ≡ old ++ flat_map_from f 0 (take (i + 1) xs)
+  turn old now next xs i d h before e =
+      let count : 0 + length (take i xs) ≡ i = omega (arith, length-take i xs) in
+      e ∙ ap (λ l. l ++ f i (get_or xs i d)) before ∙ append_assoc old (flat_map_from f 0 (take i xs)) (f i (get_or xs i d))
+      ∙ ap (λ l. old ++ l) (sym (ap (flat_map_from f 0) (take_at_read xs i d h).1 ∙ one_more 0 i (take i xs) (get_or xs i d) count))

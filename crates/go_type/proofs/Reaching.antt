@@ -9,7 +9,7 @@ use Rattle.go_type.specs.Same.{same_id, both, each}
 use Rattle.go_type.specs.Table.{Table, term_at, underlying_of}
 use Rattle.go_type.specs.Conditions.{has_inline, reaches_to, is_definable, CanDefine}
 use Rattle.go_type.proofs.Comparables.{termless}
-use Rattle.go_type.proofs.Saturate.{Property, Within, steps, never_shows}
+use Rattle.go_type.proofs.Saturate.{Property, Within, steps, shows_in_bound, never_shows}
 
 module _ (types : Table) (id : TypeId) where
   abbrev next : Property → Property
@@ -54,6 +54,11 @@ module _ (types : Table) (counts : length types.definitions ≡ length types.ter
   never_reaches : (from : TypeId) → reaches_to (length types.terms) types id from ≡ false → (n : ℕ) → reaches_to n types id from ≡ false
   never_reaches from none n =
       sym (ap (λ p. p from) (same_steps n)) ∙ never_shows (next types id) (mono types id) (length types.terms) inside from (ap (λ p. p from) (same_steps (length types.terms)) ∙ none) n
+
+  -- what a type reaches it reaches in as many steps as there are types
+  pub reaches_in_bound : (n : ℕ) (x : TypeId) → reaches_to n types id x ≡ true → reaches_to (length types.terms) types id x ≡ true
+  reaches_in_bound n x h =
+      sym (ap (λ p. p x) (same_steps (length types.terms))) ∙ shows_in_bound (next types id) (mono types id) (length types.terms) inside n x (ap (λ p. p x) (same_steps n) ∙ h)
 
   pub definable_iff : (from : TypeId) (first reached r : Bool) → first ≡ is_definable types id from → reached ≡ reaches_to (length types.terms) types id from
       → r ≡ first && not reached → IsTrue r ↔ CanDefine types id from

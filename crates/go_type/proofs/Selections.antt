@@ -8,7 +8,7 @@ use Rattle.std.proofs.lemmas.Bool.{cases_lt}
 use Rattle.go_base.specs.declared.ids.TypeId.{TypeId}
 use Rattle.go_type.specs.declared.methods.SelectError.TheVariants as error
 use Rattle.go_type.specs.declared.members.Wanted.{Wanted}
-use Rattle.go_type.specs.declared.members.Place.{Place}
+use Rattle.go_type.specs.Selector.{Place}
 use Rattle.go_type.specs.declared.members.Member.{Member}
 use Rattle.go_type.specs.declared.term.Field.{Field}
 use Rattle.go_type.specs.declared.term.TypeTerm.{TypeTerm}

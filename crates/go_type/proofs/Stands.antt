@@ -1,16 +1,17 @@
 -- Few places stand for all of a depth.
-use Rattle.std.proofs.Common.{◌≡◌, ℕ, zero, suc, ◌+◌, ◌<◌, ◌≤◌, Bool, true, false, true≢false, ◌||◌, cond, List, [], ◌∷◌, ◌++◌, length, refl, sym, ap, ◌∙◌, arith, ◌⊎◌, inl, inr, zero-add, append-nil, add_assoc, Result, Ok, Err, ◌-◌}
+use Rattle.std.proofs.Common.{◌≡◌, ℕ, zero, suc, ◌+◌, ◌<◌, ◌≤◌, Bool, true, false, true≢false, ◌||◌, cond, List, [], ◌∷◌, ◌++◌, length, map, refl, sym, ap, ◌∙◌, arith, ◌⊎◌, inl, inr, zero-add, append-nil, add_assoc, Result, Ok, Err, ◌-◌}
 use Rattle.std.specs.List.{list_any, flat_map}
 use Rattle.std.proofs.lemmas.Grind.{flat_map-append}
-use Rattle.std.proofs.lemmas.List.{length-append}
+use Rattle.std.proofs.lemmas.List.{length-append, map-append}
 use Rattle.std.proofs.lemmas.Bool.{cases_lt}
 use Rattle.go_base.specs.declared.ids.TypeId.{TypeId}
 use Rattle.go_type.specs.declared.levels.Thinning.{Thinning}
 use Rattle.go_type.specs.declared.members.Wanted.{Wanted}
-use Rattle.go_type.specs.declared.members.Place.{Place}
+use Rattle.go_type.specs.Selector.{Place}
 use Rattle.go_type.specs.declared.members.Member.{Member}
 use Rattle.go_type.specs.Same.{same_id, same_id-Decides}
-use Rattle.go_type.specs.Levels.{front, members_from, is_seen, is_of, copies, IsBarren, StandFor, Thins, ThinFor, SeenIn, CountsOnce, CountsTwice}
+use Rattle.go_type.specs.declared.members.Spot.{Spot}
+use Rattle.go_type.specs.Levels.{place_by, front, members_from, is_seen, is_of, copies, IsBarren, StandFor, Thins, ThinFor, SeenIn, CountsOnce, CountsTwice}
 use Rattle.go_type.specs.declared.methods.SelectError.{SelectError}
 use Rattle.go_type.specs.declared.methods.SelectError.TheVariants as error
 use Rattle.go_type.specs.Selector.{members_below, selected_in, selected_at, NoneAbove, Finds, IsFirst, embedded_in, start}
@@ -82,7 +83,13 @@ stand_next types a n places next kept seen more stand sees is thins = record {
 
 -- ---- one place more
 
-module _ (types : Table) (seen : List TypeId) (all : List Place) (place : Place) where
+module _ (types : Table) (seen : List TypeId) (paths : ℕ → List ℕ) (all : List Place) (spot : Spot) where
+  abbrev place : Place
+  place = place_by paths spot
+
+  abbrev kept_in : Thinning → List Place
+  kept_in t = map (place_by paths) t.kept.items
+
   last : (wanted : Wanted) (d : ℕ) (places : List Place) → members_from d types wanted (places ++ place ∷ []) ≡ members_from d types wanted places ++ members_below d types wanted place
   last wanted d places =
       flat_map-append (members_below d types wanted) places (place ∷ []) ∙ ap (λ l. members_from d types wanted places ++ l) (append-nil (members_below d types wanted place))
@@ -91,7 +98,7 @@ module _ (types : Table) (seen : List TypeId) (all : List Place) (place : Place)
   idle wanted d none =
       sym (ap front (last wanted d all ∙ ap (λ l. members_from d types wanted all ++ l) none ∙ append-nil (members_from d types wanted all)))
 
-  pub drop_seen : (t : Thinning) → ThinFor types seen all t → is_seen seen place.of ≡ true → ThinFor types seen (all ++ place ∷ []) t
+  pub drop_seen : (t : Thinning) → ThinFor types seen paths all t → is_seen seen place.of ≡ true → ThinFor types seen paths (all ++ place ∷ []) t
   drop_seen t thin at = record {
     thins = λ wanted d barren. thin.thins wanted d barren ∙ idle wanted d (barren place.of at place refl);
     once = thin.once;
@@ -113,67 +120,70 @@ module _ (types : Table) (seen : List TypeId) (all : List Place) (place : Place)
       one true e = some q (sym ((same_id-Decides id q.of).0 e))
       one false e = omega arith
 
-  pub drop_twice : (t : Thinning) → ThinFor types seen all t → is_seen t.twice.keys place.of ≡ true → ThinFor types seen (all ++ place ∷ []) t
+  pub drop_twice : (t : Thinning) → ThinFor types seen paths all t → is_seen t.twice.keys place.of ≡ true → ThinFor types seen paths (all ++ place ∷ []) t
   drop_twice t thin at = record {
     thins = λ wanted d barren. by wanted d (thin.thins wanted d barren) (barren_or_some types wanted d place.of);
     once = thin.once;
     twice = thin.twice;
   }
     where
-      by : (wanted : Wanted) (d : ℕ) → front (members_from d types wanted t.kept.items) ≡ front (members_from d types wanted all)
+      by : (wanted : Wanted) (d : ℕ) → front (members_from d types wanted (kept_in t)) ≡ front (members_from d types wanted all)
           → IsBarren d types wanted place.of ⊎ ((q : Place) → q.of ≡ place.of → 1 ≤ length (members_below d types wanted q))
-          → front (members_from d types wanted t.kept.items) ≡ front (members_from d types wanted (all ++ place ∷ []))
+          → front (members_from d types wanted (kept_in t)) ≡ front (members_from d types wanted (all ++ place ∷ []))
       by wanted d same (inl barren) = same ∙ idle wanted d (barren place refl)
       by wanted d same (inr some) =
-          let two : 2 ≤ copies place.of t.kept.items = thin.twice place.of at in
-          let most : copies place.of t.kept.items ≤ length (members_from d types wanted t.kept.items) = counted wanted d place.of some t.kept.items in
-          let many : 2 ≤ length (members_from d types wanted t.kept.items) = omega arith in
+          let two : 2 ≤ copies place.of (kept_in t) = thin.twice place.of at in
+          let most : copies place.of (kept_in t) ≤ length (members_from d types wanted (kept_in t)) = counted wanted d place.of some (kept_in t) in
+          let many : 2 ≤ length (members_from d types wanted (kept_in t)) = omega arith in
           let as_many : 2 ≤ length (members_from d types wanted all) = front_two _ _ many same in
           same ∙ sym (front_full (members_from d types wanted all) (members_below d types wanted place) as_many) ∙ ap front (sym (last wanted d all))
 
-  pub keep : (old new : Thinning) → ThinFor types seen all old → CountsOnce place.of old.once.keys new.once.keys
-      → CountsTwice place.of old.once.keys old.twice.keys new.twice.keys → new.kept.items ≡ old.kept.items ++ place ∷ [] → ThinFor types seen (all ++ place ∷ []) new
+  pub keep : (old new : Thinning) → ThinFor types seen paths all old → CountsOnce place.of old.once.keys new.once.keys
+      → CountsTwice place.of old.once.keys old.twice.keys new.twice.keys → new.kept.items ≡ old.kept.items ++ spot ∷ [] → ThinFor types seen paths (all ++ place ∷ []) new
   keep old new thin once twice kept = record {
     thins = λ wanted d barren.
-        ap (λ l. front (members_from d types wanted l)) kept ∙ ap front (last wanted d old.kept.items)
-        ∙ same_front (members_from d types wanted old.kept.items) (members_from d types wanted all) (members_below d types wanted place) (thin.thins wanted d barren)
+        ap (λ l. front (members_from d types wanted l)) longer ∙ ap front (last wanted d (kept_in old))
+        ∙ same_front (members_from d types wanted (kept_in old)) (members_from d types wanted all) (members_below d types wanted place) (thin.thins wanted d barren)
         ∙ ap front (sym (last wanted d all));
     once = λ id at. by_once id (once id at);
     twice = λ id at. by_twice id (twice id at);
   }
     where
+      longer : kept_in new ≡ kept_in old ++ place ∷ []
+      longer = ap (map (place_by paths)) kept ∙ map-append (place_by paths) old.kept.items (spot ∷ [])
+
       copies_last : (id : TypeId) (places : List Place) → copies id (places ++ place ∷ []) ≡ copies id places + cond (is_of id place) 1 0
       copies_last id [] = omega arith
       copies_last id (q ∷ places) =
           let rest : copies id (places ++ place ∷ []) ≡ copies id places + cond (is_of id place) 1 0 = copies_last id places in
           ap (λ n. cond (is_of id q) 1 0 + n) rest ∙ sym (add_assoc (cond (is_of id q) 1 0) (copies id places) (cond (is_of id place) 1 0))
 
-      more : (id : TypeId) → copies id new.kept.items ≡ copies id old.kept.items + cond (is_of id place) 1 0
-      more id = ap (copies id) kept ∙ copies_last id old.kept.items
+      more : (id : TypeId) → copies id (kept_in new) ≡ copies id (kept_in old) + cond (is_of id place) 1 0
+      more id = ap (copies id) longer ∙ copies_last id (kept_in old)
 
       itself : (id : TypeId) → id ≡ place.of → ◌≡◌ {A = ℕ} (cond (is_of id place) 1 0) 1
       itself id is = ap (λ b. cond b 1 0) (ap (λ x. same_id x place.of) is ∙ same_self place.of)
 
-      by_once : (id : TypeId) → (is_seen old.once.keys id ≡ true) ⊎ (id ≡ place.of) → 1 ≤ copies id new.kept.items
+      by_once : (id : TypeId) → (is_seen old.once.keys id ≡ true) ⊎ (id ≡ place.of) → 1 ≤ copies id (kept_in new)
       by_once id (inl before) =
-          let at : 1 ≤ copies id old.kept.items = thin.once id before in
-          let sum : copies id new.kept.items ≡ copies id old.kept.items + cond (is_of id place) 1 0 = more id in omega arith
+          let at : 1 ≤ copies id (kept_in old) = thin.once id before in
+          let sum : copies id (kept_in new) ≡ copies id (kept_in old) + cond (is_of id place) 1 0 = more id in omega arith
       by_once id (inr is) =
           let self : ◌≡◌ {A = ℕ} (cond (is_of id place) 1 0) 1 = itself id is in
-          let sum : copies id new.kept.items ≡ copies id old.kept.items + cond (is_of id place) 1 0 = more id in omega arith
+          let sum : copies id (kept_in new) ≡ copies id (kept_in old) + cond (is_of id place) 1 0 = more id in omega arith
 
-      by_twice : (id : TypeId) → (is_seen old.twice.keys id ≡ true) ⊎ ((id ≡ place.of) × (is_seen old.once.keys id ≡ true)) → 2 ≤ copies id new.kept.items
+      by_twice : (id : TypeId) → (is_seen old.twice.keys id ≡ true) ⊎ ((id ≡ place.of) × (is_seen old.once.keys id ≡ true)) → 2 ≤ copies id (kept_in new)
       by_twice id (inl before) =
-          let at : 2 ≤ copies id old.kept.items = thin.twice id before in
-          let sum : copies id new.kept.items ≡ copies id old.kept.items + cond (is_of id place) 1 0 = more id in omega arith
+          let at : 2 ≤ copies id (kept_in old) = thin.twice id before in
+          let sum : copies id (kept_in new) ≡ copies id (kept_in old) + cond (is_of id place) 1 0 = more id in omega arith
       by_twice id (inr again) =
-          let at : 1 ≤ copies id old.kept.items = thin.once id again.1 in
+          let at : 1 ≤ copies id (kept_in old) = thin.once id again.1 in
           let self : ◌≡◌ {A = ℕ} (cond (is_of id place) 1 0) 1 = itself id again.0 in
-          let sum : copies id new.kept.items ≡ copies id old.kept.items + cond (is_of id place) 1 0 = more id in omega arith
+          let sum : copies id (kept_in new) ≡ copies id (kept_in old) + cond (is_of id place) 1 0 = more id in omega arith
 
-pub thin_start : (types : Table) (seen : List TypeId) (t : Thinning) → t.kept.items ≡ [] → t.once.keys ≡ [] → t.twice.keys ≡ [] → ThinFor types seen [] t
-thin_start types seen t kept once twice = record {
-  thins = λ wanted d barren. ap (λ l. front (members_from d types wanted l)) kept;
+pub thin_start : (types : Table) (seen : List TypeId) (paths : ℕ → List ℕ) (t : Thinning) → t.kept.items ≡ [] → t.once.keys ≡ [] → t.twice.keys ≡ [] → ThinFor types seen paths [] t
+thin_start types seen paths t kept once twice = record {
+  thins = λ wanted d barren. ap (λ l. front (members_from d types wanted (map (place_by paths) l))) kept;
   once = λ id at. absurd (true≢false (sym (sym (ap (λ l. is_seen l id) once) ∙ at)));
   twice = λ id at. absurd (true≢false (sym (sym (ap (λ l. is_seen l id) twice) ∙ at)));
 }
@@ -257,7 +267,7 @@ module _ (types : Table) (wanted : Wanted) (a : TypeId) (n : ℕ) where
       let more = front_more (selected_at n types wanted a) h.0 h.1.0 (sym (front_at places seen stand none) ∙ ap front (sym is ∙ h.1.1.1.0)) in
       (n, (h.0, (h.1.0, (more.0, (more.1, h.1.1.1.1, h.1.1.1.2, none)))))
   found_first places seen found (Err error.Absent) stand none is h = absurd h
-  found_first places seen found (Err error.OutOfMemory) stand none is h = absurd h
+  found_first places seen found (Err error.OutOfMemory) stand none is h = tt
 
   pub none_found : (places : List Place) (seen : List TypeId) (found : List Member) → StandFor types a n places seen → NoneAbove n types wanted a
       → found ≡ flat_map (selected_in types wanted) places → found ≡ [] → selected_at n types wanted a ≡ []

@@ -5,7 +5,7 @@ use Rattle.std.proofs.Math.ListN.{get_or}
 use Rattle.std.proofs.lemmas.Grind.{flat_map-append, take_at_read}
 use Rattle.go_base.specs.declared.ids.TypeId.{TypeId}
 use Rattle.go_type.specs.declared.members.Wanted.{Wanted}
-use Rattle.go_type.specs.declared.members.Place.{Place}
+use Rattle.go_type.specs.Selector.{Place}
 use Rattle.go_type.specs.declared.term.Field.{Field}
 use Rattle.go_type.specs.declared.term.TypeTerm.{TypeTerm}
 use Rattle.go_type.specs.declared.term.TypeTerm.TheVariants.{Struct}

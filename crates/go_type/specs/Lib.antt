@@ -7,6 +7,7 @@ pub mod Representable
 pub mod Comparable
 pub mod Selector
 pub mod Levels
+pub mod Inline
 pub mod Sights
 pub mod MethodSets
 pub mod Assignable

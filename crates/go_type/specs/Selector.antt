@@ -13,9 +13,14 @@ use Rattle.go_type.specs.declared.methods.SelectionKind.TheVariants as kind
 use Rattle.go_type.specs.declared.methods.SelectError.{SelectError}
 use Rattle.go_type.specs.declared.methods.SelectError.TheVariants as error
 use Rattle.go_type.specs.declared.members.Wanted.{Wanted}
-use Rattle.go_type.specs.declared.members.Place.{Place}
 use Rattle.go_type.specs.declared.members.Member.{Member}
 use Rattle.go_type.specs.Table.{Table, term_at, definition_at, underlying_of}
+
+-- a type that embedded fields lead to, with the numbers of the fields on the way; `indirect` tells whether a pointer was followed
+pub record Place : Type 0 where
+  pub of : TypeId
+  pub path : List ℕ
+  pub indirect : Bool
 
 -- names are compared with the package that they belong to
 abbrev pub is_wanted : Wanted → NameId → ℕ → Bool
@@ -139,4 +144,5 @@ abbrev pub IsFirst : List Member → Result Member SelectError → Type 0
 IsFirst found (Ok member) = found ≡ member ∷ []
 IsFirst found (Err (error.Ambiguous first second)) =
     (f : Member) × ((g : Member) × ((rest : List Member) × ((found ≡ f ∷ g ∷ rest) × (f.path ≡ first) × (g.path ≡ second))))
+IsFirst found (Err error.OutOfMemory) = Unit {0}
 IsFirst found (Err _) = ⊥

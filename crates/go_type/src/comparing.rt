@@ -4,6 +4,7 @@ ghost use Rattle.std.specs.Prelude.{◌≡◌, ◌↔◌, IsTrue};
 ghost use Rattle.std.specs.List.{list_any};
 ghost use Rattle.go_type.specs.Comparable.{Comparable, incomparable_to};
 
+use crate::inline::inline_types;
 use crate::term::{Basic, Field, TypeTerm};
 use crate::types::Types;
 use go_base::TypeId;
@@ -13,7 +14,23 @@ use go_base::TypeId;
 pub fn comparable(types: &Types, a: TypeId) -> bool
     ensures { IsTrue result ↔ Comparable types.now a }
 {
-    !is_incomparable(types, a, types.len())
+    match inline_types(types, a) {
+        Ok(reached) => !any_incomparable(types, reached.as_slice()),
+        // a type is looked at again for each way to it
+        Err(_) => !is_incomparable(types, a, types.len()),
+    }
+}
+
+/// Whether one of some types shows by itself that its values cannot be compared.
+fn any_incomparable(types: &Types, ids: &[TypeId]) -> bool
+    ensures { result ≡ list_any (incomparable_to 1 types.now) ids.now }
+{
+    for id in ids {
+        if is_incomparable(types, *id, 1) {
+            return true;
+        }
+    }
+    false
 }
 
 #[cycle(incomparable)]

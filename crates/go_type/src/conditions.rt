@@ -8,6 +8,7 @@ ghost use Rattle.go_type.specs.Selector.{is_wanted};
 ghost use Rattle.go_type.specs.Sizes.{is_declared};
 ghost use Rattle.go_type.specs.Table.{term_at};
 
+use crate::inline::inline_types;
 use crate::members::Wanted;
 use crate::methods::MethodEntry;
 use crate::term::{Field, MethodType, TypeTerm};
@@ -101,7 +102,14 @@ impl Types {
     pub fn can_define(&self, id: TypeId, underlying: TypeId) -> bool
         ensures { IsTrue result ↔ CanDefine self.now id underlying }
     {
-        self.is_definable(id, underlying) && !reaches(self, id, underlying, self.len())
+        if !self.is_definable(id, underlying) {
+            return false;
+        }
+        match inline_types(self, underlying) {
+            Ok(reached) => !reached.contains(&id),
+            // a type is looked at again for each way to it
+            Err(_) => !reaches(self, id, underlying, self.len()),
+        }
     }
 
     fn is_definable(&self, id: TypeId, underlying: TypeId) -> bool

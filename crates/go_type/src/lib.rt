@@ -5,6 +5,7 @@ mod assigning;
 mod comparing;
 mod conditions;
 mod constants;
+mod inline;
 mod levels;
 mod lists;
 mod members;

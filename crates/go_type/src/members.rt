@@ -1,8 +1,9 @@
 //! The fields and methods of the types that embedded fields lead to. Go specification, "Struct types" and "Selectors".
 
-ghost use Rattle.std.specs.Prelude.{◌≡◌, ◌<◌, ◌^◌, ◌++◌, length, OnOk, IfOk};
+ghost use Rattle.std.specs.Prelude.{◌≡◌, ◌<◌, ◌^◌, ◌++◌, ℕ, List, length, map, OnOk, IfOk};
 ghost use Rattle.std.specs.List.{flat_map};
-ghost use Rattle.go_type.specs.Selector.{is_wanted, method_named, field_named, fields_named, signature_named, selected_in, selection_of};
+ghost use Rattle.go_type.specs.Selector.{is_wanted, flat_map_from, method_named, field_named, fields_named, signature_named, selected_in, selection_of};
+ghost use Rattle.go_type.specs.Levels.{place_at, member_by};
 
 use crate::methods::{MethodEntry, Path, Selection, SelectionKind};
 use crate::term::{Field, MethodType, TypeTerm};
@@ -26,11 +27,30 @@ impl Wanted {
     }
 }
 
-/// A type that embedded fields lead to.
-#[derive(Drop)]
-pub struct Place {
+/// A type that embedded fields lead to, without the path to it.
+#[derive(Clone, Copy)]
+pub struct Spot {
     pub of: TypeId,
-    pub path: Path,
+    /// Which of the places above has the embedded field.
+    pub from: usize,
+    /// The number of the embedded field.
+    pub number: u32,
+    /// Whether a pointer was followed on the way.
+    pub indirect: bool,
+}
+
+/// A field or method of a type that embedded fields lead to, without the path to it.
+#[derive(Clone, Copy)]
+pub struct Found {
+    /// Which of the places has it.
+    pub from: usize,
+    /// The number of a field. None for a method.
+    pub number: Option<u32>,
+    pub kind: SelectionKind,
+    /// The type of the field, or the method's function type without the receiver.
+    pub of: TypeId,
+    /// Whether it is a method whose receiver is a pointer.
+    pub pointer: bool,
     /// Whether a pointer was followed on the way.
     pub indirect: bool,
 }
@@ -73,143 +93,144 @@ pub fn members_in(
     alloc: Global,
     types: &Types,
     wanted: Wanted,
-    level: &[Place],
-) -> Result<Vec<Member>, NoMemory>
-    ensures { IfOk result (λ found. found.items ≡ flat_map (selected_in types.now wanted) level.now) }
+    level: &[Spot],
+) -> Result<Vec<Found>, NoMemory>
+    ensures { (paths : ℕ → List ℕ) → IfOk result (λ found. map (member_by paths) found.items ≡ flat_map_from (λ i spot. selected_in types.now wanted (place_at paths i spot)) 0 level.now) }
 {
     let mut found = Vec::new(alloc);
-    for place in level {
-        add_selected(alloc, types, wanted, place, &mut found)?;
+    for (index, spot) in level.iter().enumerate() {
+        add_selected(types, wanted, index, *spot, &mut found)?;
     }
     Ok(found)
 }
 
 fn add_selected(
-    alloc: Global,
     types: &Types,
     wanted: Wanted,
-    place: &Place,
-    found: &mut Vec<Member>,
+    from: usize,
+    spot: Spot,
+    found: &mut Vec<Found>,
 ) -> Result<(), NoMemory>
-    ensures { OnOk result (found.new.items ≡ found.old.items ++ selected_in types.now wanted place.now) }
+    ensures { (paths : ℕ → List ℕ) → OnOk result (map (member_by paths) found.new.items ≡ map (member_by paths) found.old.items ++ selected_in types.now wanted (place_at paths from spot)) }
 {
-    add_methods(alloc, wanted, place, types.methods(place.of), found)?;
-    match types.underlying_term(place.of) {
-        Some(TypeTerm::Struct(fields)) => {
-            add_fields(alloc, wanted, place, fields.as_slice(), found)
-        }
+    add_methods(wanted, from, spot, types.methods(spot.of), found)?;
+    match types.underlying_term(spot.of) {
+        Some(TypeTerm::Struct(fields)) => add_fields(wanted, from, spot, fields.as_slice(), found),
         Some(TypeTerm::Interface(methods)) => {
-            add_signatures(alloc, wanted, place, methods.as_slice(), found)
+            add_signatures(wanted, from, spot, methods.as_slice(), found)
         }
         _ => Ok(()),
     }
 }
 
 fn add_methods(
-    alloc: Global,
     wanted: Wanted,
-    place: &Place,
+    from: usize,
+    spot: Spot,
     methods: &[MethodEntry],
-    found: &mut Vec<Member>,
+    found: &mut Vec<Found>,
 ) -> Result<(), NoMemory>
-    ensures { OnOk result (found.new.items ≡ found.old.items ++ flat_map (method_named wanted place.now.path place.now.indirect) methods.now) }
+    ensures { (paths : ℕ → List ℕ) → OnOk result (map (member_by paths) found.new.items ≡ map (member_by paths) found.old.items ++ flat_map (method_named wanted (paths from) spot.indirect) methods.now) }
 {
     for method in methods {
-        add_method(alloc, wanted, place, method, found)?;
+        add_method(wanted, from, spot, method, found)?;
     }
     Ok(())
 }
 
 fn add_method(
-    alloc: Global,
     wanted: Wanted,
-    place: &Place,
+    from: usize,
+    spot: Spot,
     method: &MethodEntry,
-    found: &mut Vec<Member>,
+    found: &mut Vec<Found>,
 ) -> Result<(), NoMemory>
-    ensures { OnOk result (found.new.items ≡ found.old.items ++ method_named wanted place.now.path place.now.indirect method.now) }
+    ensures { (paths : ℕ → List ℕ) → OnOk result (map (member_by paths) found.new.items ≡ map (member_by paths) found.old.items ++ method_named wanted (paths from) spot.indirect method.now) }
 {
     if wanted.is(method.name, method.package) {
-        found.push(Member {
-            path: place.path.copy(alloc)?,
+        found.push(Found {
+            from,
+            number: None,
             kind: method.kind,
             of: method.of,
             pointer: method.pointer,
-            indirect: place.indirect,
+            indirect: spot.indirect,
         })?;
     }
     Ok(())
 }
 
 fn add_fields(
-    alloc: Global,
     wanted: Wanted,
-    place: &Place,
+    from: usize,
+    spot: Spot,
     fields: &[Field],
-    found: &mut Vec<Member>,
+    found: &mut Vec<Found>,
 ) -> Result<(), NoMemory>
     requires { length fields.now < 2 ^ 32 }
-    ensures { OnOk result (found.new.items ≡ found.old.items ++ fields_named wanted place.now.path place.now.indirect fields.now) }
+    ensures { (paths : ℕ → List ℕ) → OnOk result (map (member_by paths) found.new.items ≡ map (member_by paths) found.old.items ++ fields_named wanted (paths from) spot.indirect fields.now) }
 {
     for (index, field) in fields.iter().enumerate() {
-        add_field(alloc, wanted, place, index as u32, field, found)?;
+        add_field(wanted, from, spot, index as u32, field, found)?;
     }
     Ok(())
 }
 
 fn add_field(
-    alloc: Global,
     wanted: Wanted,
-    place: &Place,
+    from: usize,
+    spot: Spot,
     number: u32,
     field: &Field,
-    found: &mut Vec<Member>,
+    found: &mut Vec<Found>,
 ) -> Result<(), NoMemory>
-    ensures { OnOk result (found.new.items ≡ found.old.items ++ field_named wanted place.now.path place.now.indirect number field.now) }
+    ensures { (paths : ℕ → List ℕ) → OnOk result (map (member_by paths) found.new.items ≡ map (member_by paths) found.old.items ++ field_named wanted (paths from) spot.indirect number field.now) }
 {
     if wanted.is(field.name, field.package) {
-        found.push(Member {
-            path: place.path.longer(alloc, number)?,
+        found.push(Found {
+            from,
+            number: Some(number),
             kind: SelectionKind::Field,
             of: field.of,
             pointer: false,
-            indirect: place.indirect,
+            indirect: spot.indirect,
         })?;
     }
     Ok(())
 }
 
 fn add_signatures(
-    alloc: Global,
     wanted: Wanted,
-    place: &Place,
+    from: usize,
+    spot: Spot,
     methods: &[MethodType],
-    found: &mut Vec<Member>,
+    found: &mut Vec<Found>,
 ) -> Result<(), NoMemory>
-    ensures { OnOk result (found.new.items ≡ found.old.items ++ flat_map (signature_named wanted place.now.path place.now.indirect) methods.now) }
+    ensures { (paths : ℕ → List ℕ) → OnOk result (map (member_by paths) found.new.items ≡ map (member_by paths) found.old.items ++ flat_map (signature_named wanted (paths from) spot.indirect) methods.now) }
 {
     for method in methods {
-        add_signature(alloc, wanted, place, method, found)?;
+        add_signature(wanted, from, spot, method, found)?;
     }
     Ok(())
 }
 
 fn add_signature(
-    alloc: Global,
     wanted: Wanted,
-    place: &Place,
+    from: usize,
+    spot: Spot,
     method: &MethodType,
-    found: &mut Vec<Member>,
+    found: &mut Vec<Found>,
 ) -> Result<(), NoMemory>
-    ensures { OnOk result (found.new.items ≡ found.old.items ++ signature_named wanted place.now.path place.now.indirect method.now) }
+    ensures { (paths : ℕ → List ℕ) → OnOk result (map (member_by paths) found.new.items ≡ map (member_by paths) found.old.items ++ signature_named wanted (paths from) spot.indirect method.now) }
 {
     if wanted.is(method.name, method.package) {
-        found.push(Member {
-            path: place.path.copy(alloc)?,
+        found.push(Found {
+            from,
+            number: None,
             kind: SelectionKind::InterfaceMethod,
             of: method.of,
             pointer: false,
-            indirect: place.indirect,
+            indirect: spot.indirect,
         })?;
     }
     Ok(())

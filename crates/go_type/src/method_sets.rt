@@ -9,7 +9,7 @@ ghost use Rattle.go_type.specs.declared.members.Wanted.{Wanted};
 ghost use Rattle.go_type.specs.MethodSets.{IsMethod, HasEach, name_of, by_name, offers, NamesEach, IsEntryOf};
 
 use crate::levels::Levels;
-use crate::members::{Place, Wanted};
+use crate::members::{Spot, Wanted};
 use crate::methods::{MethodEntry, MethodSet, SelectError, SelectionKind};
 use crate::selectors::{find_member, is_declared_pointer};
 use crate::term::{MethodType, TypeTerm};
@@ -81,20 +81,20 @@ fn method_names(alloc: Global, types: &Types, a: TypeId) -> Result<BTreeSet<Want
     let mut names = BTreeSet::new(alloc);
     let mut levels = Levels::new(alloc, types, a)?;
     'depths: for depth in 0..types.len() {
-        add_names(types, levels.places.as_slice(), &mut names)?;
+        add_names(types, levels.spots.as_slice(), &mut names)?;
         levels.descend(alloc, types)?;
-        if levels.places.is_empty() {
+        if levels.spots.is_empty() {
             return Ok(names);
         }
     }
     Ok(names)
 }
 
-fn add_names(types: &Types, places: &[Place], names: &mut BTreeSet<Wanted>) -> Result<(), NoMemory>
-    ensures { (wanted : Wanted) → OnOk result (contains by_name names.new wanted ≡ contains by_name names.old wanted || list_any (λ place. offers types.now wanted place.of) places.now) }
+fn add_names(types: &Types, spots: &[Spot], names: &mut BTreeSet<Wanted>) -> Result<(), NoMemory>
+    ensures { (wanted : Wanted) → OnOk result (contains by_name names.new wanted ≡ contains by_name names.old wanted || list_any (λ spot. offers types.now wanted spot.of) spots.now) }
 {
-    for place in places {
-        add_names_of(types, place.of, names)?;
+    for spot in spots {
+        add_names_of(types, spot.of, names)?;
     }
     Ok(())
 }

@@ -1,6 +1,6 @@
 //! Methods and selections. Go specification, "Method sets" and "Selectors".
 
-ghost use Rattle.std.specs.Prelude.{◌≡◌, ◌++◌, ◌∷◌, [], OnOk, OnErr, IfOk};
+ghost use Rattle.std.specs.Prelude.{◌≡◌, ◌++◌, ◌∷◌, [], OnOk, OnErr, IfOk, reverse};
 
 use go_base::{FuncId, NameId, NoMemory, TypeId};
 use std::alloc::Global;
@@ -46,13 +46,13 @@ impl Path {
         self.steps.as_slice()
     }
 
-    /// The path with one more step at the end.
-    pub fn longer(&self, alloc: Global, step: u32) -> Result<Path, NoMemory>
-        ensures { IfOk result (λ longer. longer ≡ self.now ++ step ∷ []) }
+    /// The path of steps that begin with the last.
+    pub fn from_last(steps: Vec<u32>) -> Path
+        ensures { result ≡ reverse steps.items }
     {
-        let mut longer = self.copy(alloc)?;
-        longer.push(step)?;
-        Ok(longer)
+        let mut steps = steps;
+        steps.as_mut_slice().reverse();
+        Path { steps }
     }
 
     /// The same path once more.

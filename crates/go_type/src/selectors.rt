@@ -1,14 +1,15 @@
 //! What a selector selects. Go specification, "Selectors" and "Struct types".
 
-ghost use Rattle.std.specs.Prelude.{◌≡◌, ◌<◌, zero, length};
+ghost use Rattle.std.specs.Prelude.{◌≡◌, ◌<◌, zero, length, map, IfOk};
 ghost use Rattle.go_type.specs.Selector.{SelectsFrom, Finds, IsFirst, is_declared_pointer};
+ghost use Rattle.go_type.specs.Levels.{found_of};
 
 use crate::levels::Levels;
-use crate::members::{Member, Wanted, members_in};
+use crate::members::{Found, Member, Wanted, members_in};
 use crate::methods::{SelectError, Selection, SelectionKind};
 use crate::term::TypeTerm;
 use crate::types::Types;
-use go_base::{NameId, TypeId};
+use go_base::{NameId, NoMemory, TypeId};
 use std::alloc::Global;
 
 /// The field or method of a name at the least depth of a type, or of what a pointer type points to. `Absent` exactly
@@ -62,35 +63,50 @@ pub fn find_member(
         return Err(SelectError::OutOfMemory);
     };
     'depths: for depth in 0..types.len() {
-        let Ok(found) = members_in(alloc, types, wanted, levels.places.as_slice()) else {
+        let Ok(found) = members_in(alloc, types, wanted, levels.spots.as_slice()) else {
             return Err(SelectError::OutOfMemory);
         };
         if !found.is_empty() {
-            return first_of(found);
+            return first_of(alloc, &levels, found.as_slice());
         }
         let Ok(()) = levels.descend(alloc, types) else {
             return Err(SelectError::OutOfMemory);
         };
-        if levels.places.is_empty() {
+        if levels.spots.is_empty() {
             return Err(SelectError::Absent);
         }
     }
     Err(SelectError::Absent)
 }
 
-/// The one that is found, or the first two.
-fn first_of(found: Vec<Member>) -> Result<Member, SelectError>
-    requires { zero < length found.items }
-    ensures { IsFirst found.items result }
+/// The one that is found, or the paths of the first two.
+fn first_of(alloc: Global, levels: &Levels, found: &[Found]) -> Result<Member, SelectError>
+    requires { zero < length found.now }
+    ensures { IsFirst (map (found_of levels.now) found.now) result }
 {
-    let mut found = found;
-    let first = found.remove(0);
-    if found.is_empty() {
+    let Ok(first) = member_of(alloc, levels, found[0]) else {
+        return Err(SelectError::OutOfMemory);
+    };
+    if found.len() == 1 {
         return Ok(first);
     }
-    let second = found.remove(0);
+    let Ok(second) = member_of(alloc, levels, found[1]) else {
+        return Err(SelectError::OutOfMemory);
+    };
     Err(SelectError::Ambiguous {
         first: first.path,
         second: second.path,
+    })
+}
+
+fn member_of(alloc: Global, levels: &Levels, found: Found) -> Result<Member, NoMemory>
+    ensures { IfOk result (λ member. member ≡ found_of levels.now found) }
+{
+    Ok(Member {
+        path: levels.path(alloc, found.from, found.number)?,
+        kind: found.kind,
+        of: found.of,
+        pointer: found.pointer,
+        indirect: found.indirect,
     })
 }

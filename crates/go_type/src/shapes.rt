@@ -218,6 +218,21 @@ fn hold_other(
     hold(rt, types, term)
 }
 
+/// Two fields of a type.
+pub fn two_of(alloc: Global, of: TypeId) -> Result<Fields, Fail> {
+    let mut fields = Fields::new(alloc);
+    for number in 0..2 {
+        fields.push(Field {
+            name: NameId { number },
+            package: EXPORTED,
+            of,
+            embedded: false,
+            tag: Bytes::new(Vec::new(alloc)),
+        })?;
+    }
+    Ok(fields)
+}
+
 /// Holds a type that may be held.
 pub fn hold(rt: &impl Abort, types: &mut Types, term: TypeTerm) -> Result<TypeId, Fail> {
     assert!(rt; types.can_hold(&term));

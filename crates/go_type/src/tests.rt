@@ -6,7 +6,7 @@ use crate::shapes::Shape::{
     self, Array, Chan, Defined, Error, Func, Interface, Map, Method, Named, Plain, Pointer, Slice,
     Struct,
 };
-use crate::shapes::{at, build, hold};
+use crate::shapes::{at, build, hold, two_of};
 use crate::{
     Basic, Const, ConstError, ConstOp, Dir, EXPORTED, IntFault, MAX_LEAVES, MAX_NESTING, Path,
     SelectError, Selection, SelectionKind, TypeTerm, Types, assignable, comparable, find_selector,
@@ -517,6 +517,20 @@ fn nesting(rt: HostRuntime) -> Result<(), Fail> {
     assert!(rt; is_nested_within(&types, deep, MAX_NESTING));
     let deeper = hold(&rt, &mut types, TypeTerm::Slice(deep))?;
     assert!(rt; !is_nested_within(&types, deeper, MAX_NESTING));
+    Ok(())
+}
+
+/// Each struct has two fields of arrays of the one before, of length 0: 2^40 ways lead to the first type.
+#[test]
+fn many_ways(rt: HostRuntime) -> Result<(), Fail> {
+    let (mut types, ids) = build(&rt, rt.alloc(), &[Plain(Basic::Int), Named(1)])?;
+    let mut nest: TypeId = at(&rt, ids.as_slice(), 0);
+    for _ in 0..40 {
+        nest = hold(&rt, &mut types, TypeTerm::Array { len: 0, elem: nest })?;
+        nest = hold(&rt, &mut types, TypeTerm::Struct(two_of(rt.alloc(), nest)?))?;
+    }
+    assert!(rt; comparable(&types, nest));
+    assert!(rt; types.can_define(at(&rt, ids.as_slice(), 1), nest));
     Ok(())
 }
 

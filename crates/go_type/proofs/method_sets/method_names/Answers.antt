@@ -1,10 +1,12 @@
-use Rattle.std.proofs.Common.{ℕ, ◌+◌, ◌<◌, ◌≤◌, ◌||◌, List, length, ap, ◌∙◌, arith}
+use Rattle.std.proofs.Common.{ℕ, ◌+◌, ◌<◌, ◌≤◌, ◌||◌, List, length, map, reverse, ap, ◌∙◌, arith}
 use Rattle.std.specs.List.{list_any}
 use Rattle.std.specs.BTreeSet.{contains}
-use Rattle.go_type.specs.declared.members.Place.{Place}
+use Rattle.go_type.specs.declared.members.Spot.{Spot}
+use Rattle.go_type.specs.Levels.{places_of, place_in}
 use Rattle.go_type.specs.MethodSets.{by_name, offers}
 use Rattle.go_type.proofs.MethodsFound.{names_next, names_all}
 use Rattle.go_type.proofs.Selections.{none_at_all, no_items}
+use Rattle.go_type.proofs.Spots.{any_place}
 use Rattle.go_type.proofs.Stands.{none_without_places}
 use Rattle.go_type.proofs.method_sets.method_names.Goals as goal
 
@@ -17,19 +19,21 @@ depths-init c = record { stand = c.in_ok-levels.ensures; above = λ wanted membe
 pub depths-preserved : goal.depths-preserved
 depths-preserved c = record {
   stand = c.in_ok-descend.ensures c.args.a c.depths.depth c.depths.invariant.stand;
-  above = names_next c.args.types.now c.args.a c.depths.depth c.depths.levels.places.items c.depths.levels.seen.keys (contains by_name c.depths.names) (contains by_name c.add_names.new.names)
+  above = names_next c.args.types.now c.args.a c.depths.depth (places_of c.depths.levels) c.depths.levels.seen.keys (contains by_name c.depths.names) (contains by_name c.add_names.new.names)
       c.depths.invariant.stand c.depths.invariant.above
-      (λ wanted. c.in_ok-add_names.ensures wanted ∙ ap (λ (l : List Place). contains by_name c.depths.names wanted || list_any (λ place. offers c.args.types.now wanted place.of) l) c.as_slice.ensures.value);
+      (λ wanted. c.in_ok-add_names.ensures wanted ∙ ap (λ (l : List Spot). contains by_name c.depths.names wanted || list_any (λ spot. offers c.args.types.now wanted spot.of) l) c.as_slice.ensures.value
+      ∙ ap (λ b. contains by_name c.depths.names wanted || b) (any_place (offers c.args.types.now wanted) (reverse c.depths.levels.above.items) c.depths.levels.spots.items));
 }
 
 pub returns-then-is_empty : goal.returns-then-is_empty
 returns-then-is_empty c =
-    let above = names_next c.args.types.now c.args.a c.depths.depth c.depths.levels.places.items c.depths.levels.seen.keys (contains by_name c.depths.names) (contains by_name c.add_names.new.names)
+    let above = names_next c.args.types.now c.args.a c.depths.depth (places_of c.depths.levels) c.depths.levels.seen.keys (contains by_name c.depths.names) (contains by_name c.add_names.new.names)
     c.depths.invariant.stand c.depths.invariant.above
-    (λ wanted. c.in_ok-add_names.ensures wanted ∙ ap (λ (l : List Place). contains by_name c.depths.names wanted || list_any (λ place. offers c.args.types.now wanted place.of) l) c.as_slice.ensures.value) in
-    let gone = no_items c.descend.new.self.places.items c.descend.new.self.places.len c.is_empty.result c.descend.new.self.places.ok.0 c.is_empty.ensures c.if-is_empty.true in
+    (λ wanted. c.in_ok-add_names.ensures wanted ∙ ap (λ (l : List Spot). contains by_name c.depths.names wanted || list_any (λ spot. offers c.args.types.now wanted spot.of) l) c.as_slice.ensures.value
+    ∙ ap (λ b. contains by_name c.depths.names wanted || b) (any_place (offers c.args.types.now wanted) (reverse c.depths.levels.above.items) c.depths.levels.spots.items)) in
+    let gone = no_items c.descend.new.self.spots.items c.descend.new.self.spots.len c.is_empty.result c.descend.new.self.spots.ok.0 c.is_empty.ensures c.if-is_empty.true in
     names_all c.args.types.now c.args.a (c.depths.depth + 1) (contains by_name c.add_names.new.names) above
-    (λ wanted none. none_without_places c.args.types.now wanted c.args.a (c.depths.depth + 1) c.descend.new.self.places.items c.descend.new.self.seen.keys gone
+    (λ wanted none. none_without_places c.args.types.now wanted c.args.a (c.depths.depth + 1) (places_of c.descend.new.self) c.descend.new.self.seen.keys (ap (map (place_in (reverse c.descend.new.self.above.items))) gone)
     (c.in_ok-descend.ensures c.args.a c.depths.depth c.depths.invariant.stand) none)
 
 pub returns : goal.returns
