@@ -4,3 +4,4 @@ pub mod ReadLines
 pub mod Stopping
 pub mod Modules
 pub mod Governing
+pub mod TextReading

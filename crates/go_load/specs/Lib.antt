@@ -10,3 +10,5 @@ pub mod Modules
 pub mod BuiltIns
 pub mod Sources
 pub mod Refusals
+pub mod Reading
+pub mod Packages

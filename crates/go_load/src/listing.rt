@@ -1,6 +1,6 @@
 //! The Go files of a directory.
 
-ghost use Rattle.std.specs.Prelude.{◌≡◌, ◌≤◌, IfOk, IfErr, IsErrOf};
+ghost use Rattle.std.specs.Prelude.{◌≡◌, ◌≤◌, filter, string_bytes, IfOk, IfErr, IsErrOf, IsPermutation};
 ghost use Rattle.std.specs.List.Sorted.{IsSorted};
 ghost use Rattle.std.specs.String.{string_cmp};
 ghost use Rattle.go_base.specs.Devices.{HasFaulted};
@@ -50,7 +50,8 @@ pub fn list_go_files<F: Files>(
 
 /// The names of Go files among names, in byte order.
 fn go_file_names(names: Vec<String>) -> Result<Vec<String>, NoMemory>
-    ensures { IfOk result (λ kept. IsSorted string_cmp kept.items) }
+    ensures order { IfOk result (λ kept. IsSorted string_cmp kept.items) }
+    ensures all { IfOk result (λ kept. IsPermutation (filter (λ name. is_go_file (string_bytes name)) names.items) kept.items) }
 {
     let mut names = names;
     names.retain(|name| is_go_file(name.as_str()));

@@ -6,6 +6,7 @@ ghost use Rattle.go_ast.specs.Lexical.{IsTokenList};
 ghost use Rattle.go_load.specs.Places.{place_in, start_in, IsSmall, Refuses};
 ghost use Rattle.go_load.specs.Sources.{HasBytes, IsText};
 ghost use Rattle.go_load.specs.Modules.{ReadsWhole};
+ghost use Rattle.go_load.specs.Reading.{ReadsTree};
 ghost use Rattle.go_load.specs.Refusals.{Stops};
 
 use crate::error::LoadError;
@@ -103,6 +104,7 @@ pub fn read_tree(
     requires { length bytes.now ≤ 4194304 }
     ensures no_fault { IsErrOf result LoadError.ReadFault → ⊥ }
     ensures why { IfErr result (λ error. (files : Option Tree) → IsText files path.now bytes.now → Stops files error) }
+    ensures answer { ReadsTree path.now bytes.now result }
 {
     match scan(alloc, number, bytes) {
         Ok(tokens) => tree_of(alloc, path, bytes, &tokens),
@@ -119,6 +121,7 @@ fn tree_of(alloc: Global, path: &str, bytes: &[u8], tokens: &Tokens) -> Result<F
     requires list { IsTokenList bytes.now tokens.now }
     ensures no_fault { IsErrOf result LoadError.ReadFault → ⊥ }
     ensures why { IfErr result (λ error. (files : Option Tree) → IsText files path.now bytes.now → Stops files error) }
+    ensures answer { ReadsTree path.now bytes.now result }
 {
     match parse(alloc, tokens) {
         Ok(tree) => Ok(tree),

@@ -22,26 +22,31 @@ pub struct SourceFile {
 }
 
 impl SourceFile {
-    ghost use Rattle.std.specs.Prelude.{IsErrOf, ◌≢◌};
+    ghost use Rattle.std.specs.Prelude.{IsErrOf, min, ◌≢◌};
     ghost use Rattle.go_base.specs.Devices.{Tree};
     ghost use Rattle.go_base.specs.declared.place.Place.{Place};
     ghost use Rattle.go_load.specs.declared.error.LoadError.TheVariants.{ReadFault};
+    ghost use Rattle.go_load.specs.Packages.{package_name, text_in};
+    ghost use Rattle.go_load.specs.Places.{place_in, Refuses};
     ghost use Rattle.go_load.specs.Refusals.{Justifies, Stops};
 
     /// The bytes of a token of this file.
-    pub fn text(&self, token: Token) -> &[u8] {
-        match self
-            .bytes
-            .as_slice()
-            .get(token.start as usize..token.end as usize)
-        {
-            Some(text) => text,
-            None => b"",
+    pub fn text(&self, token: Token) -> &[u8]
+        ensures { result.now ≡ text_in self.now.bytes token }
+    {
+        let bytes = self.bytes.as_slice();
+        let (start, end) = (token.start as usize, token.end as usize);
+        if start <= end && end <= bytes.len() {
+            &bytes[start..end]
+        } else {
+            b""
         }
     }
 
     /// The name in its package clause.
-    pub fn package_name(&self) -> &[u8] {
+    pub fn package_name(&self) -> &[u8]
+        ensures { result.now ≡ package_name self.now }
+    {
         self.text(self.tree.name)
     }
 
@@ -49,6 +54,7 @@ impl SourceFile {
     pub(crate) fn refuse(&self, alloc: Global, offset: u32, rule: Rule) -> LoadError
         ensures no_fault { result ≢ ReadFault }
         ensures why { (files : Option Tree) → ((place : Place) → Justifies files place rule) → Stops files result }
+        ensures here { Refuses (place_in self.now.path self.now.bytes (min offset (length self.now.bytes))) rule result }
     {
         let bytes = self.bytes.as_slice();
         let offset = (offset as usize).min(bytes.len());

@@ -1,0 +1,50 @@
+-- What is read of one file.
+use Rattle.std.specs.Prelude.{◌≡◌, ℕ, List, length, Result, Ok, Err, slice_get}
+use Rattle.go_base.specs.declared.place.Place.{Place}
+use Rattle.go_base.specs.declared.rule.Rule.{Rule}
+use Rattle.go_base.specs.declared.rule.Rule.TheVariants as rules
+use Rattle.go_ast.specs.declared.token.Token.{Token}
+use Rattle.go_ast.specs.Lexical.{IsTokenList, IsFault}
+use Rattle.go_syntax.specs.declared.decls.FileTree.{FileTree}
+use Rattle.go_syntax.specs.Reach.{reach_index}
+use Rattle.go_parse.specs.Refusal.{DecidesReach, IsWithin}
+use Rattle.go_parse.specs.declared.stop.ParseError.{ParseError}
+use Rattle.go_parse.specs.declared.stop.ParseError.TheVariants as parses
+use Rattle.go_load.specs.declared.error.LoadError.{LoadError}
+use Rattle.go_load.specs.declared.error.LoadError.TheVariants.{Refused, ReadFault, OutOfMemory}
+use Rattle.go_load.specs.Places.{place_in, start_in}
+
+-- the most bytes that a file may have
+abbrev pub max_file_bytes : ℕ
+max_file_bytes = 4194304
+
+-- What the syntax of a file's tokens is: its tree, or the first token that reaches too far, or the first part that
+-- cannot be read. This is as much as the parser promises.
+abbrev pub IsVerdict : List Token → Result FileTree ParseError → Type 0
+IsVerdict tokens verdict = DecidesReach verdict (reach_index tokens) × IsWithin (length tokens) verdict
+
+-- a text has this tree
+pub record HasTree (bytes : List ℕ) (tree : FileTree) : Type 0 where
+  pub tokens : List Token
+  pub list : IsTokenList bytes tokens
+  pub verdict : IsVerdict tokens (Ok tree)
+
+-- a text has no tree, and this is the first rule that it breaks, at this byte: the first lexical fault, else the first
+-- token that reaches too far, else the first part that cannot be read
+pub data IsBadText (bytes : List ℕ) : ℕ → Rule → Type 0 where
+  BadBytes : (offset : ℕ) (rule : Rule) → IsFault bytes offset rule → IsBadText bytes offset rule
+  TooDeep : (tokens : List Token) (index : ℕ) → IsTokenList bytes tokens → IsVerdict tokens (Err (parses.TooDeep index)) → IsBadText bytes (start_in bytes (slice_get tokens index)) rules.NestedTooDeeply
+  BadSyntax : (tokens : List Token) (index : ℕ) → IsTokenList bytes tokens → IsVerdict tokens (Err (parses.Unexpected index)) → IsBadText bytes (start_in bytes (slice_get tokens index)) rules.SyntaxError
+
+-- a place in a text, and the rule that is broken there
+pub record BreaksText (path bytes : List ℕ) (place : Place) (rule : Rule) : Type 0 where
+  pub offset : ℕ
+  pub bad : IsBadText bytes offset rule
+  pub place_is : place ≡ place_in path bytes offset
+
+-- an answer of the code to a text at a path
+abbrev pub ReadsTree : List ℕ → List ℕ → Result FileTree LoadError → Type 0
+ReadsTree path bytes (Ok tree) = HasTree bytes tree
+ReadsTree path bytes (Err (Refused place rule)) = BreaksText path bytes place rule
+ReadsTree path bytes (Err ReadFault) = Unit {0}
+ReadsTree path bytes (Err OutOfMemory) = Unit {0}
