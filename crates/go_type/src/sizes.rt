@@ -111,6 +111,7 @@ pub fn leaves_up_to(types: &Types, id: TypeId, limit: u64, depth: usize) -> u64
         return 1;
     }
     match types.underlying_term(id) {
+        Some(TypeTerm::Array { len: 0, .. }) => 1,
         Some(TypeTerm::Array { len, elem }) => {
             times(*len, leaves_up_to(types, *elem, limit, depth - 1), limit)
         }
