@@ -1,1 +1,3 @@
 mod Reaching
+mod Within
+mod FileParts

@@ -1,2 +1,3 @@
 pub mod Counting
 pub mod Refusal
+pub mod FileParts

@@ -1,5 +1,10 @@
 -- Where tokens are refused.
-use Rattle.std.specs.Prelude.{◌≡◌, ℕ, ◌<◌, ◌≤◌, Option, Some, None, Result, Ok, Err}
+use Rattle.std.specs.Prelude.{◌≡◌, ℕ, ◌<◌, ◌≤◌, List, Option, Some, None, Result, Ok, Err}
+use Rattle.go_ast.specs.declared.token.Token.{Token}
+use Rattle.go_grammar.specs.Files.{IsTreeOf, IsUnexpected}
+use Rattle.go_grammar.specs.View.{view_file}
+use Rattle.go_readers.specs.declared.stop.Stop.{Stop}
+use Rattle.go_readers.specs.declared.stop.Stop.TheVariants as stops
 use Rattle.go_syntax.specs.declared.decls.FileTree.{FileTree}
 use Rattle.go_parse.specs.declared.stop.ParseError.{ParseError}
 use Rattle.go_parse.specs.declared.stop.ParseError.TheVariants as errors
@@ -15,16 +20,18 @@ DecidesReach (Err errors.OutOfMemory) at = Unit {0}
 abbrev pub IsIndexOf : ℕ → ℕ → Type 0
 IsIndexOf n index = (index ≤ n) × (0 < n → index < n)
 
--- the error of a part, which never reaches too far
-abbrev pub IsRefusalWithin : ℕ → ParseError → Type 0
-IsRefusalWithin n (errors.TooDeep index) = ⊥
-IsRefusalWithin n (errors.Unexpected index) = IsIndexOf n index
-IsRefusalWithin n errors.OutOfMemory = Unit {0}
+-- what is answered where a part that begins at this index is not read
+abbrev pub IsRefusalAt : ℕ → Stop → ParseError → Type 0
+IsRefusalAt at stops.Memory error = error ≡ errors.OutOfMemory
+IsRefusalAt at stops.Unexpected error = error ≡ errors.Unexpected at
 
-abbrev pub IsRefusalAt : ℕ → ParseError → Type 0
-IsRefusalAt at (errors.TooDeep index) = ⊥
-IsRefusalAt at (errors.Unexpected index) = index ≡ at
-IsRefusalAt at errors.OutOfMemory = Unit {0}
+-- The answer is the one well-formed tree of the tokens, or the index of the first part that cannot be read, unless a token
+-- reaches too far or memory ran out.
+abbrev pub IsParsed : List Token → Result FileTree ParseError → Type 0
+IsParsed tokens (Ok file) = IsTreeOf tokens (view_file file)
+IsParsed tokens (Err (errors.TooDeep index)) = Unit {0}
+IsParsed tokens (Err (errors.Unexpected index)) = IsUnexpected tokens index
+IsParsed tokens (Err errors.OutOfMemory) = Unit {0}
 
 abbrev pub IsWithin : ℕ → Result FileTree ParseError → Type 0
 IsWithin n (Ok file) = Unit {0}

@@ -1,8 +1,13 @@
 //! Files, part after part: the package clause, imports and declarations. Go specification, "Source file organization".
 
-ghost use Rattle.std.specs.Prelude.{◌≡◌, ◌-◌, length, IfErr};
+ghost use Rattle.std.specs.Prelude.{◌≡◌, ◌-◌, length};
+ghost use Rattle.go_grammar.specs.FileReading.{parsers};
+ghost use Rattle.go_grammar.specs.PartReading.{file_by_parts};
+ghost use Rattle.go_grammar.specs.View.{view_file, view_import, view_import_spec, view_line, one, token_if, each, ◌⊕◌};
+ghost use Rattle.go_readers.specs.Giving.{Gives};
 ghost use Rattle.go_syntax.specs.Reach.{reach_index};
-ghost use Rattle.go_parse.specs.Refusal.{DecidesReach, IsRefusalAt, IsRefusalWithin, IsWithin};
+ghost use Rattle.go_parse.specs.FileParts.{GivesParts, view_clause, clause_in, path_in, import_line_in, import_lines_in, import_alone_in, import_in, imports_in, decl_line_in, decls_in};
+ghost use Rattle.go_parse.specs.Refusal.{DecidesReach, IsParsed, IsRefusalAt, IsWithin};
 
 use crate::reach::too_deep;
 use crate::stop::ParseError;
@@ -11,45 +16,87 @@ use go_readers::{Stop, begins_with, decl, func_decl, line_end, optional, semicol
 use go_syntax::{Decl, DeclLine, FileTree, ImportDecl, ImportSpec};
 use std::alloc::Global;
 
-/// The word, the name and the semicolon. Go specification, "Package clause".
-fn package_clause(tokens: &[Token]) -> Result<(Token, Token, Token, &[Token]), Stop> {
+/// The word, the name and the semicolon of a package clause.
+#[derive(Clone, Copy, Debug, PartialEq, Eq)]
+struct PackageClause {
+    word: Token,
+    name: Token,
+    semicolon: Token,
+}
+
+/// Go specification, "Package clause".
+fn package_clause(tokens: &[Token]) -> Result<(PackageClause, &[Token]), Stop>
+    ensures { Gives (λ x. (view_clause x.0, x.1.now)) result (clause_in tokens.now) }
+{
     let (word, rest) = skip(tokens, Kind::PackageWord)?;
     let (name, rest) = skip(rest, Kind::Name)?;
     let (semicolon, rest) = semicolon(rest)?;
-    Ok((word, name, semicolon, rest))
+    let clause = PackageClause {
+        word,
+        name,
+        semicolon,
+    };
+    Ok((clause, rest))
 }
 
-/// An import: a path, with a name where it has one.
-fn import_spec(tokens: &[Token]) -> Result<(ImportSpec, &[Token]), Stop> {
+/// The path of an import, with a name where it has one.
+fn import_path(tokens: &[Token]) -> Result<(Option<Token>, Token, &[Token]), Stop>
+    ensures { Gives (λ x. (token_if x.0 ⊕ one x.1, x.2.now)) result (path_in tokens.now) }
+{
     let (name, rest) = optional(tokens, Kind::Name);
     let (path, rest) = skip(rest, Kind::Text)?;
+    Ok((name, path, rest))
+}
+
+/// An import in parentheses, and the semicolon behind it.
+fn import_line(tokens: &[Token]) -> Result<(ImportSpec, &[Token]), Stop>
+    ensures { Gives (λ x. (view_import_spec x.0, x.1.now)) result (import_line_in tokens.now) }
+{
+    let (name, path, rest) = import_path(tokens)?;
+    let (semicolon, rest) = line_end(rest, Kind::CloseParen)?;
     let spec = ImportSpec {
         name,
         path,
-        semicolon: None,
+        semicolon,
     };
     Ok((spec, rest))
 }
 
 /// Imports up to a closing parenthesis.
-fn import_lines(alloc: Global, tokens: &[Token]) -> Result<(Vec<ImportSpec>, &[Token]), Stop> {
+fn import_lines(alloc: Global, tokens: &[Token]) -> Result<(Vec<ImportSpec>, &[Token]), Stop>
+    ensures { Gives (λ x. (each view_import_spec x.0.items, x.1.now)) result (import_lines_in tokens.now) }
+{
     let mut specs = Vec::new(alloc);
     let mut rest = tokens;
     for _ in 0..tokens.len() {
         if begins_with(rest, Kind::CloseParen) {
             return Ok((specs, rest));
         }
-        let (mut spec, after) = import_spec(rest)?;
-        let (semicolon, after) = line_end(after, Kind::CloseParen)?;
-        spec.semicolon = semicolon;
+        let (spec, after) = import_line(rest)?;
         specs.push(spec)?;
         rest = after;
     }
     Ok((specs, rest))
 }
 
+/// An import without parentheses.
+fn import_alone(alloc: Global, tokens: &[Token]) -> Result<(Vec<ImportSpec>, &[Token]), Stop>
+    ensures { Gives (λ x. (each view_import_spec x.0.items, x.1.now)) result (import_alone_in tokens.now) }
+{
+    let (name, path, rest) = import_path(tokens)?;
+    let mut specs = Vec::new(alloc);
+    specs.push(ImportSpec {
+        name,
+        path,
+        semicolon: None,
+    })?;
+    Ok((specs, rest))
+}
+
 /// Go specification, "Import declarations".
-fn import_decl(alloc: Global, tokens: &[Token]) -> Result<(ImportDecl, &[Token]), Stop> {
+fn import_decl(alloc: Global, tokens: &[Token]) -> Result<(ImportDecl, &[Token]), Stop>
+    ensures { Gives (λ x. (view_import x.0, x.1.now)) result (import_in tokens.now) }
+{
     let (word, rest) = skip(tokens, Kind::ImportWord)?;
     if begins_with(rest, Kind::OpenParen) {
         let (open, rest) = skip(rest, Kind::OpenParen)?;
@@ -65,10 +112,8 @@ fn import_decl(alloc: Global, tokens: &[Token]) -> Result<(ImportDecl, &[Token])
         };
         return Ok((import, rest));
     }
-    let (spec, rest) = import_spec(rest)?;
+    let (specs, rest) = import_alone(alloc, rest)?;
     let (semicolon, rest) = semicolon(rest)?;
-    let mut specs = Vec::new(alloc);
-    specs.push(spec)?;
     let import = ImportDecl {
         word,
         open: None,
@@ -80,7 +125,9 @@ fn import_decl(alloc: Global, tokens: &[Token]) -> Result<(ImportDecl, &[Token])
 }
 
 /// A declaration at package level, and the semicolon behind it.
-fn decl_line(alloc: Global, depth: usize, tokens: &[Token]) -> Result<(DeclLine, &[Token]), Stop> {
+fn decl_line(alloc: Global, depth: usize, tokens: &[Token]) -> Result<(DeclLine, &[Token]), Stop>
+    ensures { Gives (λ x. (view_line x.0, x.1.now)) result (decl_line_in (parsers depth) tokens.now) }
+{
     if begins_with(tokens, Kind::FuncWord) {
         let (func, rest) = func_decl(alloc, depth, tokens)?;
         let (semicolon, rest) = semicolon(rest)?;
@@ -94,7 +141,7 @@ fn decl_line(alloc: Global, depth: usize, tokens: &[Token]) -> Result<(DeclLine,
 
 /// What is answered where the part that begins at this token cannot be read.
 fn refusal(stop: Stop, index: usize) -> ParseError
-    ensures { IsRefusalAt index result }
+    ensures { IsRefusalAt index stop result }
 {
     match stop {
         Stop::Memory => ParseError::OutOfMemory,
@@ -115,12 +162,12 @@ fn imports<'a>(
     tokens: &'a [Token],
     rest: &'a [Token],
 ) -> Result<(Vec<ImportDecl>, &'a [Token]), ParseError>
-    ensures { IfErr result (λ e. IsRefusalWithin (length tokens.now) e) }
+    ensures { GivesParts (length tokens.now) (λ x. (each view_import x.0.items, x.1.now)) result (imports_in (length tokens.now) rest.now) }
 {
     let mut imports = Vec::new(alloc);
     let mut rest = rest;
     for _ in 0..tokens.len() {
-        if rest.is_empty() || !begins_with(rest, Kind::ImportWord) {
+        if !begins_with(rest, Kind::ImportWord) {
             return Ok((imports, rest));
         }
         match import_decl(alloc, rest) {
@@ -136,7 +183,7 @@ fn imports<'a>(
 
 /// The declarations that the last tokens are.
 fn decls(alloc: Global, tokens: &[Token], rest: &[Token]) -> Result<Vec<DeclLine>, ParseError>
-    ensures { IfErr result (λ e. IsRefusalWithin (length tokens.now) e) }
+    ensures { GivesParts (length tokens.now) (λ x. each view_line x.items) result (decls_in (parsers (length tokens.now)) (length tokens.now) rest.now) }
 {
     let mut decls = Vec::new(alloc);
     let mut rest = rest;
@@ -157,16 +204,16 @@ fn decls(alloc: Global, tokens: &[Token], rest: &[Token]) -> Result<Vec<DeclLine
 
 /// The tree of a file's tokens.
 fn file(alloc: Global, tokens: &[Token]) -> Result<FileTree, ParseError>
-    ensures { IfErr result (λ e. IsRefusalWithin (length tokens.now) e) }
+    ensures { GivesParts (length tokens.now) (λ x. view_file x) result (file_by_parts (parsers (length tokens.now)) tokens.now) }
 {
     match package_clause(tokens) {
-        Ok((word, name, semicolon, rest)) => {
+        Ok((clause, rest)) => {
             let (imports, rest) = imports(alloc, tokens, rest)?;
             let decls = decls(alloc, tokens, rest)?;
             Ok(FileTree {
-                word,
-                name,
-                semicolon,
+                word: clause.word,
+                name: clause.name,
+                semicolon: clause.semicolon,
                 imports,
                 decls,
             })
@@ -179,6 +226,8 @@ fn file(alloc: Global, tokens: &[Token]) -> Result<FileTree, ParseError>
 pub fn parse(alloc: Global, tokens: &Tokens) -> Result<FileTree, ParseError>
     // `TooDeep` exactly where a token reaches too far, with the index of the first.
     ensures too_deep { DecidesReach result (reach_index tokens.now) }
+    // Else the well-formed tree of the tokens, or the index of the first part that cannot be read.
+    ensures parsed { IsParsed tokens.now result }
     // The index of `Unexpected` is that of a token, or 0 where there are none.
     ensures within { IsWithin (length tokens.now) result }
 {

@@ -1,69 +1,115 @@
 //! Declarations. Go specification, "Declarations and scope".
 
+ghost use Rattle.std.specs.Prelude.{◌≡◌, ◌∷◌, [], IfOk, IfErr, Some};
+ghost use Rattle.go_ast.specs.declared.token.Kind.TheVariants as kinds;
+ghost use Rattle.go_grammar.specs.Forests.{append};
+ghost use Rattle.go_grammar.specs.Forests as forms;
+ghost use Rattle.go_grammar.specs.Grammar as sorts;
+ghost use Rattle.go_grammar.specs.StmtReading.{decl_in, at_spec};
+ghost use Rattle.go_grammar.specs.View.{view_decl, view_func_decl, view_type_spec, view_value_spec, view_listed_name, view_type_expr, view_listed_expr, view_param, view_params, view_signature, view_block, each, if_some, token_if, tree, one};
+ghost use Rattle.go_grammar.specs.FileReading.{parsers};
+ghost use Rattle.go_readers.specs.Giving.{Gives};
+ghost use Rattle.go_readers.specs.declared.stop.Stop.TheVariants as stops;
+ghost use Rattle.go_readers.specs.Funcs.{func_in};
+ghost use Rattle.go_readers.specs.Specs.{view_values, view_named_form, view_group, optional_values_in, value_sort, group_in, spec_line_in, spec_lines_in, parens_in, declaration_in, receiver_in, receiver_name_in, optional_receiver_in, optional_body_in};
+
 use crate::exprs::expr_list;
+use crate::groups::param_name;
 use crate::operands::Context;
 use crate::stmts::block;
 use crate::stop::Stop;
-use crate::tokens::{begins_with, line_end, names, optional, skip};
-use crate::types::{optional_type, params, signature, type_expr};
+use crate::tokens::{begins_with, begins_with_type, line_end, names, optional, skip};
+use crate::types::{optional_type, signature, type_expr};
 use go_ast::{Kind, Token};
-use go_syntax::{Block, Decl, FuncDecl, Param, Params, TypeSpec, ValueSpec};
+use go_syntax::{
+    Block, Decl, FuncDecl, ListedExpr, ListedName, Param, Params, Signature, TypeExpr, TypeSpec,
+    ValueSpec,
+};
 use std::alloc::Global;
+
+/// A declaration of constants, types or variables.
+#[cycle(parser)]
+pub fn decl(alloc: Global, depth: usize, tokens: &[Token]) -> Result<(Decl, &[Token]), Stop>
+    ensures { Gives (λ x. (view_decl x.0, x.1.now)) result (decl_in (parsers depth) tokens.now) }
+{
+    let is_const = begins_with(tokens, Kind::ConstWord);
+    if is_const {
+        return const_decl(alloc, depth, tokens);
+    }
+    let is_type = begins_with(tokens, Kind::TypeWord);
+    if is_type {
+        return type_decl(alloc, depth, tokens);
+    }
+    var_decl(alloc, depth, tokens)
+}
+
+/// A declaration of constants. Go specification, "Constant declarations".
+#[cycle(parser)]
+#[tactic(auto, using(go_grammar::proofs::Views::view_decl_const))]
+fn const_decl(alloc: Global, depth: usize, tokens: &[Token]) -> Result<(Decl, &[Token]), Stop>
+    ensures { Gives (λ x. (view_decl x.0, x.1.now)) result (declaration_in (parsers depth) forms.ConstForm kinds.ConstWord sorts.ConstSpec tokens.now) }
+{
+    let (word, rest) = skip(tokens, Kind::ConstWord)?;
+    let (group, rest) = value_specs(alloc, depth, true, rest)?;
+    let decl = Decl::Const {
+        word,
+        open: group.opening,
+        specs: group.specs,
+        close: group.closing,
+    };
+    Ok((decl, rest))
+}
+
+/// A declaration of types. Go specification, "Type declarations".
+#[cycle(parser)]
+#[tactic(auto, using(go_grammar::proofs::Views::view_decl_type_decl))]
+fn type_decl(alloc: Global, depth: usize, tokens: &[Token]) -> Result<(Decl, &[Token]), Stop>
+    ensures { Gives (λ x. (view_decl x.0, x.1.now)) result (declaration_in (parsers depth) forms.TypeDeclForm kinds.TypeWord sorts.TypeSpec tokens.now) }
+{
+    let (word, rest) = skip(tokens, Kind::TypeWord)?;
+    let (group, rest) = type_specs(alloc, depth, rest)?;
+    let decl = Decl::TypeDecl {
+        word,
+        open: group.opening,
+        specs: group.specs,
+        close: group.closing,
+    };
+    Ok((decl, rest))
+}
+
+/// A declaration of variables. Go specification, "Variable declarations".
+#[cycle(parser)]
+#[tactic(auto, using(go_grammar::proofs::Views::view_decl_var))]
+fn var_decl(alloc: Global, depth: usize, tokens: &[Token]) -> Result<(Decl, &[Token]), Stop>
+    ensures { Gives (λ x. (view_decl x.0, x.1.now)) result (declaration_in (parsers depth) forms.VarForm kinds.VarWord sorts.VarSpec tokens.now) }
+{
+    let (word, rest) = skip(tokens, Kind::VarWord)?;
+    let (group, rest) = value_specs(alloc, depth, false, rest)?;
+    let decl = Decl::Var {
+        word,
+        open: group.opening,
+        specs: group.specs,
+        close: group.closing,
+    };
+    Ok((decl, rest))
+}
 
 /// Specifications: one, or any number of them in parentheses.
 #[derive(Drop)]
 struct Group<T> {
-    open: Option<Token>,
+    opening: Option<Token>,
     specs: Vec<T>,
-    close: Option<Token>,
+    closing: Option<Token>,
 }
 
-/// A declaration of constants, types or variables.
-#[cycle(parser)]
-pub fn decl(alloc: Global, depth: usize, tokens: &[Token]) -> Result<(Decl, &[Token]), Stop> {
-    if begins_with(tokens, Kind::TypeWord) {
-        let (word, rest) = skip(tokens, Kind::TypeWord)?;
-        let (group, rest) = type_specs(alloc, depth, rest)?;
-        return Ok((type_decl(word, group), rest));
-    }
-    if begins_with(tokens, Kind::ConstWord) {
-        let (word, rest) = skip(tokens, Kind::ConstWord)?;
-        let (group, rest) = value_specs(alloc, depth, true, rest)?;
-        return Ok((const_decl(word, group), rest));
-    }
-    let (word, rest) = skip(tokens, Kind::VarWord)?;
-    let (group, rest) = value_specs(alloc, depth, false, rest)?;
-    Ok((var_decl(word, group), rest))
-}
-
-/// Go specification, "Type declarations".
-fn type_decl(word: Token, group: Group<TypeSpec>) -> Decl {
-    Decl::TypeDecl {
-        word,
-        open: group.open,
-        specs: group.specs,
-        close: group.close,
-    }
-}
-
-/// Go specification, "Constant declarations".
-fn const_decl(word: Token, group: Group<ValueSpec>) -> Decl {
-    Decl::Const {
-        word,
-        open: group.open,
-        specs: group.specs,
-        close: group.close,
-    }
-}
-
-/// Go specification, "Variable declarations".
-fn var_decl(word: Token, group: Group<ValueSpec>) -> Decl {
-    Decl::Var {
-        word,
-        open: group.open,
-        specs: group.specs,
-        close: group.close,
-    }
+/// One item and no other.
+fn alone<T: Drop>(alloc: Global, item: T) -> Result<Vec<T>, Stop>
+    ensures listed { IfOk result (λ x. x.items ≡ item ∷ []) }
+    ensures memory { IfErr result (λ stop. stop ≡ stops.Memory) }
+{
+    let mut items = Vec::new(alloc);
+    items.push(item)?;
+    Ok(items)
 }
 
 /// What a declaration of constants or variables declares.
@@ -73,89 +119,56 @@ fn value_specs(
     depth: usize,
     constant: bool,
     tokens: &[Token],
-) -> Result<(Group<ValueSpec>, &[Token]), Stop> {
-    if begins_with(tokens, Kind::OpenParen) {
-        let (open, rest) = skip(tokens, Kind::OpenParen)?;
-        let (specs, rest) = value_lines(alloc, depth, constant, rest)?;
-        let (close, rest) = skip(rest, Kind::CloseParen)?;
-        let group = Group {
-            open: Some(open),
-            specs,
-            close: Some(close),
-        };
-        return Ok((group, rest));
+) -> Result<(Group<ValueSpec>, &[Token]), Stop>
+    ensures { Gives (λ x. (view_group view_value_spec x.0.opening x.0.specs.items x.0.closing, x.1.now)) result (group_in (parsers depth) (value_sort constant) tokens.now) }
+{
+    let has_parens = begins_with(tokens, Kind::OpenParen);
+    if has_parens {
+        return value_group(alloc, depth, constant, tokens);
     }
-    let (spec, rest) = value_spec(alloc, depth, constant, tokens)?;
-    Ok((alone(alloc, spec)?, rest))
+    lone_value(alloc, depth, constant, tokens)
 }
 
-/// A specification without parentheses.
-fn alone<T: Drop>(alloc: Global, spec: T) -> Result<Group<T>, Stop> {
-    let mut specs = Vec::new(alloc);
-    specs.push(spec)?;
-    Ok(Group {
-        open: None,
+/// Constants or variables in parentheses.
+#[cycle(parser)]
+fn value_group(
+    alloc: Global,
+    depth: usize,
+    constant: bool,
+    tokens: &[Token],
+) -> Result<(Group<ValueSpec>, &[Token]), Stop>
+    ensures { Gives (λ x. (view_group view_value_spec x.0.opening x.0.specs.items x.0.closing, x.1.now)) result (parens_in (parsers depth) (value_sort constant) tokens.now) }
+{
+    let (opening, rest) = skip(tokens, Kind::OpenParen)?;
+    let (specs, rest) = value_lines(alloc, depth, constant, rest)?;
+    let (closing, rest) = skip(rest, Kind::CloseParen)?;
+    let group = Group {
+        opening: Some(opening),
         specs,
-        close: None,
-    })
-}
-
-/// Constants or variables up to a closing parenthesis.
-#[cycle(parser)]
-fn value_lines(
-    alloc: Global,
-    depth: usize,
-    constant: bool,
-    tokens: &[Token],
-) -> Result<(Vec<ValueSpec>, &[Token]), Stop> {
-    let mut specs = Vec::new(alloc);
-    let mut rest = tokens;
-    for _ in 0..tokens.len() {
-        if begins_with(rest, Kind::CloseParen) {
-            return Ok((specs, rest));
-        }
-        let (mut spec, after) = value_spec(alloc, depth, constant, rest)?;
-        let (semicolon, after) = line_end(after, Kind::CloseParen)?;
-        spec.semicolon = semicolon;
-        specs.push(spec)?;
-        rest = after;
-    }
-    Ok((specs, rest))
-}
-
-/// Names of constants or variables with their type and values.
-#[cycle(parser)]
-fn value_spec(
-    alloc: Global,
-    depth: usize,
-    constant: bool,
-    tokens: &[Token],
-) -> Result<(ValueSpec, &[Token]), Stop> {
-    let (names, rest) = names(alloc, tokens)?;
-    let (form, rest) = optional_type(alloc, depth, rest)?;
-    if !begins_with(rest, Kind::Assign) {
-        if form.is_some() == constant {
-            return Err(Stop::Unexpected);
-        }
-        let spec = ValueSpec {
-            names,
-            form,
-            assign: None,
-            values: Vec::new(alloc),
-            semicolon: None,
-        };
-        return Ok((spec, rest));
-    }
-    let (assign, rest) = skip(rest, Kind::Assign)?;
-    let (values, rest) = expr_list(alloc, depth, Context::Plain, rest)?;
-    let spec = ValueSpec {
-        names,
-        form,
-        assign: Some(assign),
-        values,
-        semicolon: None,
+        closing: Some(closing),
     };
-    Ok((spec, rest))
+    Ok((group, rest))
+}
+
+/// Constants or variables of one line.
+#[cycle(parser)]
+#[tactic(auto, using(crate::proofs::Declarations::each_alone))]
+fn lone_value(
+    alloc: Global,
+    depth: usize,
+    constant: bool,
+    tokens: &[Token],
+) -> Result<(Group<ValueSpec>, &[Token]), Stop>
+    ensures { Gives (λ x. (view_group view_value_spec x.0.opening x.0.specs.items x.0.closing, x.1.now)) result (at_spec (parsers depth) (value_sort constant) tokens.now) }
+{
+    let (spec, rest) = values(alloc, depth, constant, tokens)?;
+    let specs = alone(alloc, value_spec_of(spec, None))?;
+    let group = Group {
+        opening: None,
+        specs,
+        closing: None,
+    };
+    Ok((group, rest))
 }
 
 /// What a declaration of types declares.
@@ -164,57 +177,54 @@ fn type_specs(
     alloc: Global,
     depth: usize,
     tokens: &[Token],
-) -> Result<(Group<TypeSpec>, &[Token]), Stop> {
-    if begins_with(tokens, Kind::OpenParen) {
-        let (open, rest) = skip(tokens, Kind::OpenParen)?;
-        let (specs, rest) = type_lines(alloc, depth, rest)?;
-        let (close, rest) = skip(rest, Kind::CloseParen)?;
-        let group = Group {
-            open: Some(open),
-            specs,
-            close: Some(close),
-        };
-        return Ok((group, rest));
+) -> Result<(Group<TypeSpec>, &[Token]), Stop>
+    ensures { Gives (λ x. (view_group view_type_spec x.0.opening x.0.specs.items x.0.closing, x.1.now)) result (group_in (parsers depth) sorts.TypeSpec tokens.now) }
+{
+    let has_parens = begins_with(tokens, Kind::OpenParen);
+    if has_parens {
+        return type_group(alloc, depth, tokens);
     }
-    let (spec, rest) = type_spec(alloc, depth, tokens)?;
-    Ok((alone(alloc, spec)?, rest))
+    lone_type(alloc, depth, tokens)
 }
 
-/// Types up to a closing parenthesis.
+/// Types in parentheses.
 #[cycle(parser)]
-fn type_lines(
+fn type_group(
     alloc: Global,
     depth: usize,
     tokens: &[Token],
-) -> Result<(Vec<TypeSpec>, &[Token]), Stop> {
-    let mut specs = Vec::new(alloc);
-    let mut rest = tokens;
-    for _ in 0..tokens.len() {
-        if begins_with(rest, Kind::CloseParen) {
-            return Ok((specs, rest));
-        }
-        let (mut spec, after) = type_spec(alloc, depth, rest)?;
-        let (semicolon, after) = line_end(after, Kind::CloseParen)?;
-        spec.semicolon = semicolon;
-        specs.push(spec)?;
-        rest = after;
-    }
-    Ok((specs, rest))
+) -> Result<(Group<TypeSpec>, &[Token]), Stop>
+    ensures { Gives (λ x. (view_group view_type_spec x.0.opening x.0.specs.items x.0.closing, x.1.now)) result (parens_in (parsers depth) sorts.TypeSpec tokens.now) }
+{
+    let (opening, rest) = skip(tokens, Kind::OpenParen)?;
+    let (specs, rest) = type_lines(alloc, depth, rest)?;
+    let (closing, rest) = skip(rest, Kind::CloseParen)?;
+    let group = Group {
+        opening: Some(opening),
+        specs,
+        closing: Some(closing),
+    };
+    Ok((group, rest))
 }
 
-/// A name and its type, with `=` where it is an alias.
+/// One type.
 #[cycle(parser)]
-fn type_spec(alloc: Global, depth: usize, tokens: &[Token]) -> Result<(TypeSpec, &[Token]), Stop> {
-    let (name, rest) = skip(tokens, Kind::Name)?;
-    let (assign, rest) = optional(rest, Kind::Assign);
-    let (form, rest) = type_expr(alloc, depth, rest)?;
-    let spec = TypeSpec {
-        name,
-        assign,
-        form,
-        semicolon: None,
+#[tactic(auto, using(crate::proofs::Declarations::each_alone))]
+fn lone_type(
+    alloc: Global,
+    depth: usize,
+    tokens: &[Token],
+) -> Result<(Group<TypeSpec>, &[Token]), Stop>
+    ensures { Gives (λ x. (view_group view_type_spec x.0.opening x.0.specs.items x.0.closing, x.1.now)) result (at_spec (parsers depth) sorts.TypeSpec tokens.now) }
+{
+    let (spec, rest) = named_form(alloc, depth, tokens)?;
+    let specs = alone(alloc, type_spec_of(spec, None))?;
+    let group = Group {
+        opening: None,
+        specs,
+        closing: None,
     };
-    Ok((spec, rest))
+    Ok((group, rest))
 }
 
 /// A function or a method. Go specification, "Function declarations", "Method declarations".
@@ -222,20 +232,36 @@ pub fn func_decl(
     alloc: Global,
     depth: usize,
     tokens: &[Token],
-) -> Result<(FuncDecl, &[Token]), Stop> {
+) -> Result<(FuncDecl, &[Token]), Stop>
+    ensures { Gives (λ x. (view_func_decl x.0, x.1.now)) result (func_in (parsers depth) tokens.now) }
+{
     let (word, rest) = skip(tokens, Kind::FuncWord)?;
     let (receiver, rest) = optional_receiver(alloc, depth, rest)?;
     let (name, rest) = skip(rest, Kind::Name)?;
     let (signature, rest) = signature(alloc, depth, rest)?;
     let (body, rest) = optional_block(alloc, depth, rest)?;
-    let func = FuncDecl {
+    let func = func_of(word, receiver, name, signature, body);
+    Ok((func, rest))
+}
+
+/// A function of its parts.
+#[tactic(auto, using(go_grammar::proofs::Views::view_func_decl_made))]
+fn func_of(
+    word: Token,
+    receiver: Option<Params>,
+    name: Token,
+    signature: Signature,
+    body: Option<Block>,
+) -> FuncDecl
+    ensures { view_func_decl result ≡ tree forms.FuncForm (append (one word) (append (if_some view_params receiver) (append (one name) (append (view_signature signature) (if_some view_block body))))) }
+{
+    FuncDecl {
         word,
         receiver,
         name,
         signature,
         body,
-    };
-    Ok((func, rest))
+    }
 }
 
 /// The body of a function, where it has one.
@@ -243,7 +269,9 @@ fn optional_block(
     alloc: Global,
     depth: usize,
     tokens: &[Token],
-) -> Result<(Option<Block>, &[Token]), Stop> {
+) -> Result<(Option<Block>, &[Token]), Stop>
+    ensures { Gives (λ x. (if_some view_block x.0, x.1.now)) result (optional_body_in (parsers depth) tokens.now) }
+{
     if !begins_with(tokens, Kind::OpenBrace) {
         return Ok((None, tokens));
     }
@@ -256,21 +284,292 @@ fn optional_receiver(
     alloc: Global,
     depth: usize,
     tokens: &[Token],
-) -> Result<(Option<Params>, &[Token]), Stop> {
+) -> Result<(Option<Params>, &[Token]), Stop>
+    ensures { Gives (λ x. (if_some view_params x.0, x.1.now)) result (optional_receiver_in (parsers depth) tokens.now) }
+{
     if !begins_with(tokens, Kind::OpenParen) {
         return Ok((None, tokens));
     }
-    let (receiver, rest) = params(alloc, depth, false, tokens)?;
-    if !is_receiver(&receiver.params) {
-        return Err(Stop::Unexpected);
-    }
+    let (receiver, rest) = receiver(alloc, depth, tokens)?;
     Ok((Some(receiver), rest))
 }
 
-/// Whether this is one parameter with at most one name.
-fn is_receiver(params: &[Param]) -> bool {
-    match params {
-        [param] => param.names.len() <= 1,
-        _ => false,
+/// One parameter in parentheses, with a name or without one.
+#[tactic(auto, using(crate::proofs::Declarations::each_alone))]
+fn receiver(alloc: Global, depth: usize, tokens: &[Token]) -> Result<(Params, &[Token]), Stop>
+    ensures { Gives (λ x. (view_params x.0, x.1.now)) result (receiver_in (parsers depth) tokens.now) }
+{
+    let (open, rest) = skip(tokens, Kind::OpenParen)?;
+    let (name, rest) = receiver_name(rest);
+    let (form, rest) = type_expr(alloc, depth, rest)?;
+    let (comma, rest) = optional(rest, Kind::Comma);
+    let (close, rest) = skip(rest, Kind::CloseParen)?;
+    let names = listed_names(alloc, name)?;
+    let params = alone(alloc, receiver_param(names, form, comma))?;
+    Ok((receiver_of(open, params, close), rest))
+}
+
+/// The name of a receiver, where it has one.
+fn receiver_name(tokens: &[Token]) -> (Option<Token>, &[Token])
+    ensures { receiver_name_in tokens.now ≡ Some (token_if result.0, result.1.now) }
+{
+    param_name(tokens)
+}
+
+/// A list of one name, or of none.
+fn listed_names(alloc: Global, name: Option<Token>) -> Result<Vec<ListedName>, Stop>
+    ensures listed { IfOk result (λ x. each view_listed_name x.items ≡ token_if name) }
+    ensures memory { IfErr result (λ stop. stop ≡ stops.Memory) }
+{
+    match name {
+        Some(name) => alone(alloc, ListedName { name, comma: None }),
+        None => Ok(Vec::new(alloc)),
     }
+}
+
+/// A parameter that is not variadic.
+#[tactic(auto, using(go_grammar::proofs::Views::view_param_made))]
+fn receiver_param(names: Vec<ListedName>, form: Box<TypeExpr>, comma: Option<Token>) -> Param
+    ensures { view_param result ≡ append (tree forms.ParamForm (append (each view_listed_name names.items) (view_type_expr form.value))) (token_if comma) }
+{
+    Param {
+        names,
+        ellipsis: None,
+        form,
+        comma,
+    }
+}
+
+/// Parameters in parentheses.
+#[tactic(auto, using(go_grammar::proofs::Views::view_params_made))]
+fn receiver_of(opening: Token, params: Vec<Param>, closing: Token) -> Params
+    ensures { view_params result ≡ tree forms.ParamsForm (append (one opening) (append (each view_param params.items) (one closing))) }
+{
+    Params {
+        open: opening,
+        params,
+        close: closing,
+    }
+}
+
+/// Names of constants or variables with their type and values.
+#[derive(Drop)]
+struct ValueParts {
+    names: Vec<ListedName>,
+    form: Option<Box<TypeExpr>>,
+    assign: Option<Token>,
+    values: Vec<ListedExpr>,
+}
+
+/// The specification, with the semicolon behind it.
+#[tactic(auto, using(go_grammar::proofs::Views::view_value_spec_made))]
+fn value_spec_of(spec: ValueParts, semicolon: Option<Token>) -> ValueSpec
+    ensures { view_value_spec result ≡ append (view_values spec) (token_if semicolon) }
+{
+    ValueSpec {
+        names: spec.names,
+        form: spec.form,
+        assign: spec.assign,
+        values: spec.values,
+        semicolon,
+    }
+}
+
+/// Names of constants, or of variables, with their type and values.
+#[cycle(parser)]
+fn values(
+    alloc: Global,
+    depth: usize,
+    constant: bool,
+    tokens: &[Token],
+) -> Result<(ValueParts, &[Token]), Stop>
+    ensures { Gives (λ x. (view_values x.0, x.1.now)) result (at_spec (parsers depth) (value_sort constant) tokens.now) }
+{
+    if constant {
+        let (spec, rest) = const_values(alloc, depth, tokens)?;
+        return Ok((spec, rest));
+    }
+    let (spec, rest) = var_values(alloc, depth, tokens)?;
+    Ok((spec, rest))
+}
+
+/// Names of constants with their type and values.
+#[cycle(parser)]
+fn const_values(
+    alloc: Global,
+    depth: usize,
+    tokens: &[Token],
+) -> Result<(ValueParts, &[Token]), Stop>
+    ensures { Gives (λ x. (view_values x.0, x.1.now)) result (at_spec (parsers depth) sorts.ConstSpec tokens.now) }
+{
+    let (names, rest) = names(alloc, tokens)?;
+    if !begins_with_type(rest) && !begins_with(rest, Kind::Assign) {
+        let spec = ValueParts {
+            names,
+            form: None,
+            assign: None,
+            values: Vec::new(alloc),
+        };
+        return Ok((spec, rest));
+    }
+    let (form, rest) = optional_type(alloc, depth, rest)?;
+    let (assign, rest) = skip(rest, Kind::Assign)?;
+    let (values, rest) = expr_list(alloc, depth, Context::Plain, rest)?;
+    let spec = ValueParts {
+        names,
+        form,
+        assign: Some(assign),
+        values,
+    };
+    Ok((spec, rest))
+}
+
+/// Names of variables with their type, their values or both.
+#[cycle(parser)]
+fn var_values(alloc: Global, depth: usize, tokens: &[Token]) -> Result<(ValueParts, &[Token]), Stop>
+    ensures { Gives (λ x. (view_values x.0, x.1.now)) result (at_spec (parsers depth) sorts.VarSpec tokens.now) }
+{
+    let (names, rest) = names(alloc, tokens)?;
+    if !begins_with_type(rest) {
+        let (assign, rest) = skip(rest, Kind::Assign)?;
+        let (values, rest) = expr_list(alloc, depth, Context::Plain, rest)?;
+        let spec = ValueParts {
+            names,
+            form: None,
+            assign: Some(assign),
+            values,
+        };
+        return Ok((spec, rest));
+    }
+    let (form, rest) = type_expr(alloc, depth, rest)?;
+    let (assign, values, rest) = optional_values(alloc, depth, rest)?;
+    let spec = ValueParts {
+        names,
+        form: Some(form),
+        assign,
+        values,
+    };
+    Ok((spec, rest))
+}
+
+/// `=` and values, or nothing.
+#[cycle(parser)]
+fn optional_values(
+    alloc: Global,
+    depth: usize,
+    tokens: &[Token],
+) -> Result<(Option<Token>, Vec<ListedExpr>, &[Token]), Stop>
+    ensures { Gives (λ x. (append (token_if x.0) (each view_listed_expr x.1.items), x.2.now)) result (optional_values_in (parsers depth) tokens.now) }
+{
+    if !begins_with(tokens, Kind::Assign) {
+        return Ok((None, Vec::new(alloc), tokens));
+    }
+    let (assign, rest) = skip(tokens, Kind::Assign)?;
+    let (values, rest) = expr_list(alloc, depth, Context::Plain, rest)?;
+    Ok((Some(assign), values, rest))
+}
+
+/// A name and its type, with `=` where it is an alias.
+#[derive(Drop)]
+struct NamedForm {
+    name: Token,
+    assign: Option<Token>,
+    form: Box<TypeExpr>,
+}
+
+/// The specification, with the semicolon behind it.
+#[tactic(auto, using(go_grammar::proofs::Views::view_type_spec_made))]
+fn type_spec_of(spec: NamedForm, semicolon: Option<Token>) -> TypeSpec
+    ensures { view_type_spec result ≡ append (view_named_form spec) (token_if semicolon) }
+{
+    TypeSpec {
+        name: spec.name,
+        assign: spec.assign,
+        form: spec.form,
+        semicolon,
+    }
+}
+
+/// A name and its type.
+#[cycle(parser)]
+fn named_form(alloc: Global, depth: usize, tokens: &[Token]) -> Result<(NamedForm, &[Token]), Stop>
+    ensures { Gives (λ x. (view_named_form x.0, x.1.now)) result (at_spec (parsers depth) sorts.TypeSpec tokens.now) }
+{
+    let (name, rest) = skip(tokens, Kind::Name)?;
+    let (assign, rest) = optional(rest, Kind::Assign);
+    let (form, rest) = type_expr(alloc, depth, rest)?;
+    let spec = NamedForm { name, assign, form };
+    Ok((spec, rest))
+}
+
+/// Constants or variables, and the semicolon behind them.
+#[cycle(parser)]
+#[tactic(auto, using(crate::proofs::Lines::parens_end))]
+fn value_line(
+    alloc: Global,
+    depth: usize,
+    constant: bool,
+    tokens: &[Token],
+) -> Result<(ValueSpec, &[Token]), Stop>
+    ensures { Gives (λ x. (view_value_spec x.0, x.1.now)) result (spec_line_in (parsers depth) (value_sort constant) tokens.now) }
+{
+    let (spec, rest) = values(alloc, depth, constant, tokens)?;
+    let (semicolon, rest) = line_end(rest, Kind::CloseParen)?;
+    Ok((value_spec_of(spec, semicolon), rest))
+}
+
+/// Constants or variables up to a closing parenthesis.
+#[cycle(parser)]
+fn value_lines(
+    alloc: Global,
+    depth: usize,
+    constant: bool,
+    tokens: &[Token],
+) -> Result<(Vec<ValueSpec>, &[Token]), Stop>
+    ensures { Gives (λ x. (each view_value_spec x.0.items, x.1.now)) result (spec_lines_in (parsers depth) (value_sort constant) tokens.now) }
+{
+    let mut lines = Vec::new(alloc);
+    let mut rest = tokens;
+    for _ in 0..tokens.len() {
+        if begins_with(rest, Kind::CloseParen) {
+            return Ok((lines, rest));
+        }
+        let (line, after) = value_line(alloc, depth, constant, rest)?;
+        lines.push(line)?;
+        rest = after;
+    }
+    Ok((lines, rest))
+}
+
+/// A type, and the semicolon behind it.
+#[cycle(parser)]
+#[tactic(auto, using(crate::proofs::Lines::parens_end))]
+fn type_line(alloc: Global, depth: usize, tokens: &[Token]) -> Result<(TypeSpec, &[Token]), Stop>
+    ensures { Gives (λ x. (view_type_spec x.0, x.1.now)) result (spec_line_in (parsers depth) sorts.TypeSpec tokens.now) }
+{
+    let (spec, rest) = named_form(alloc, depth, tokens)?;
+    let (semicolon, rest) = line_end(rest, Kind::CloseParen)?;
+    Ok((type_spec_of(spec, semicolon), rest))
+}
+
+/// Types up to a closing parenthesis.
+#[cycle(parser)]
+fn type_lines(
+    alloc: Global,
+    depth: usize,
+    tokens: &[Token],
+) -> Result<(Vec<TypeSpec>, &[Token]), Stop>
+    ensures { Gives (λ x. (each view_type_spec x.0.items, x.1.now)) result (spec_lines_in (parsers depth) sorts.TypeSpec tokens.now) }
+{
+    let mut lines = Vec::new(alloc);
+    let mut rest = tokens;
+    for _ in 0..tokens.len() {
+        if begins_with(rest, Kind::CloseParen) {
+            return Ok((lines, rest));
+        }
+        let (line, after) = type_line(alloc, depth, rest)?;
+        lines.push(line)?;
+        rest = after;
+    }
+    Ok((lines, rest))
 }

@@ -1,15 +1,26 @@
 //! Expressions. Go specification, "Expressions".
 
+ghost use Rattle.std.specs.Prelude.{◌≡◌, length};
+ghost use Rattle.go_ast.specs.declared.token.Kind.TheVariants.{CloseBrace, Comma};
+ghost use Rattle.go_grammar.specs.Forests.{append};
+ghost use Rattle.go_grammar.specs.Reading.{many_in, then_in};
+ghost use Rattle.go_grammar.specs.Tests.{not_closed, word_in};
+ghost use Rattle.go_grammar.specs.ExprReading.{binary_in, unary_in, primary_in, operand_in, type_operand_in, open_array_in, function_in, suffix_in, selector_in, index_in, slice_in, call_in, literal_in, element_in, separated_in};
+ghost use Rattle.go_grammar.specs.FileReading.{parsers};
+ghost use Rattle.go_grammar.specs.View.{each, if_some, one, view_element, view_expr, view_listed_expr, view_type_expr};
+ghost use Rattle.go_readers.specs.Expressions.{list_in, operation_in, view_context};
+ghost use Rattle.go_readers.specs.Giving.{Gives};
+ghost use Rattle.go_readers.specs.Operands.{paren_in};
+ghost use Rattle.go_readers.specs.Words.{begins_operand_type};
+
 use crate::operands::{
-    Context, begins_with_braces, begins_with_open_array, begins_with_suffix, is_type_only,
-    literal_type, starred,
+    Context, begins_with_braces, begins_with_open_array, begins_with_suffix, int_literal,
+    is_type_only, literal_type, name, rune_literal, sign, star, starred, text_literal,
 };
 use crate::stmts::block;
 use crate::stop::Stop;
-use crate::tokens::{
-    begins_with, begins_with_sign, list_comma, operator, optional, precedence, separator, skip,
-};
-use crate::types::{signature, type_expr, type_form};
+use crate::tokens::{begins_with, list_goes_on, operator, optional, precedence, separator, skip};
+use crate::types::{begins_with_bare_type, signature, type_expr, type_form};
 use go_ast::{Kind, Token};
 use go_syntax::{Element, Expr, ListedExpr, TypeExpr};
 use std::alloc::Global;
@@ -22,13 +33,16 @@ const TIGHT: u8 = 6;
 
 /// An expression whose binary operators bind at least so tightly.
 #[cycle(parser)]
+#[tactic(auto, using(crate::proofs::Depth::by_depth))]
 pub(crate) fn expr(
     alloc: Global,
     depth: usize,
     context: Context,
     min: u8,
     tokens: &[Token],
-) -> Result<(Box<Expr>, &[Token]), Stop> {
+) -> Result<(Box<Expr>, &[Token]), Stop>
+    ensures { Gives (λ x. (view_expr x.0.value, x.1.now)) result ((parsers depth).expr (view_context context) min tokens.now) }
+{
     if depth == 0 {
         return Err(Stop::Unexpected);
     }
@@ -43,7 +57,9 @@ fn binary(
     context: Context,
     min: u8,
     tokens: &[Token],
-) -> Result<(Box<Expr>, &[Token]), Stop> {
+) -> Result<(Box<Expr>, &[Token]), Stop>
+    ensures { Gives (λ x. (view_expr x.0.value, x.1.now)) result (binary_in (parsers depth) (view_context context) min tokens.now) }
+{
     let (mut left, mut rest) = unary(alloc, depth, context, tokens)?;
     if is_type_only(&left) {
         return Ok((left, rest));
@@ -52,17 +68,34 @@ fn binary(
         let Some((operator, after)) = operator(min, rest) else {
             return Ok((left, rest));
         };
-        let tighter = precedence(operator.kind) + 1;
-        let (right, after) = expr(alloc, depth, context.of_operand(), tighter, after)?;
-        let both = Expr::Binary {
-            left,
-            operator,
-            right,
-        };
-        left = Box::new(alloc, both)?;
-        rest = after;
+        let (longer, next) = operation(alloc, depth, context, left, operator, after)?;
+        left = longer;
+        rest = next;
     }
     Ok((left, rest))
+}
+
+/// An operand behind an operator, with the one before it.
+#[cycle(parser)]
+#[tactic(auto, using(go_grammar::proofs::Views::view_expr_binary))]
+fn operation(
+    alloc: Global,
+    depth: usize,
+    context: Context,
+    left: Box<Expr>,
+    operator: Token,
+    tokens: &[Token],
+) -> Result<(Box<Expr>, &[Token]), Stop>
+    ensures { Gives (λ x. (view_expr x.0.value, x.1.now)) result (operation_in (parsers depth) (view_context context) (view_expr left.value) operator tokens.now) }
+{
+    let tighter = precedence(operator.kind) + 1;
+    let (right, rest) = expr(alloc, depth, context.of_operand(), tighter, tokens)?;
+    let both = Expr::Binary {
+        left,
+        operator,
+        right,
+    };
+    Ok((Box::new(alloc, both)?, rest))
 }
 
 /// A sign and its operand, or an operand without a sign.
@@ -72,22 +105,18 @@ fn unary(
     depth: usize,
     context: Context,
     tokens: &[Token],
-) -> Result<(Box<Expr>, &[Token]), Stop> {
-    match tokens {
-        [] => Err(Stop::Unexpected),
-        [first, rest @ ..] => match first.kind {
-            Kind::Star => {
-                let (operand, rest) = expr(alloc, depth, context, TIGHT, rest)?;
-                Ok((starred(alloc, *first, operand)?, rest))
-            }
-            _ if begins_with_sign(tokens) => {
-                let (operand, rest) = expr(alloc, depth, context.of_operand(), TIGHT, rest)?;
-                let operator = *first;
-                Ok((Box::new(alloc, Expr::Unary { operator, operand })?, rest))
-            }
-            _ => primary(alloc, depth, context, tokens),
-        },
+) -> Result<(Box<Expr>, &[Token]), Stop>
+    ensures { Gives (λ x. (view_expr x.0.value, x.1.now)) result (unary_in (parsers depth) (view_context context) tokens.now) }
+{
+    if let Some((operator, rest)) = star(tokens) {
+        let (operand, rest) = expr(alloc, depth, context, TIGHT, rest)?;
+        return Ok((starred(alloc, operator, operand)?, rest));
     }
+    if let Some((operator, rest)) = sign(tokens) {
+        let (operand, rest) = expr(alloc, depth, context.of_operand(), TIGHT, rest)?;
+        return Ok((Box::new(alloc, Expr::Unary { operator, operand })?, rest));
+    }
+    primary(alloc, depth, context, tokens)
 }
 
 /// An operand, and selectors, indexes, calls and braces behind it. Go specification, "Primary expressions".
@@ -97,7 +126,9 @@ fn primary(
     depth: usize,
     context: Context,
     tokens: &[Token],
-) -> Result<(Box<Expr>, &[Token]), Stop> {
+) -> Result<(Box<Expr>, &[Token]), Stop>
+    ensures { Gives (λ x. (view_expr x.0.value, x.1.now)) result (primary_in (parsers depth) (view_context context) tokens.now) }
+{
     let (mut left, mut rest) = operand(alloc, depth, context, tokens)?;
     if is_type_only(&left) {
         return Ok((left, rest));
@@ -120,35 +151,60 @@ fn operand(
     depth: usize,
     context: Context,
     tokens: &[Token],
-) -> Result<(Box<Expr>, &[Token]), Stop> {
-    match tokens {
-        [] => Err(Stop::Unexpected),
-        [first, rest @ ..] => match first.kind {
-            Kind::Int => Ok((Box::new(alloc, Expr::Int(*first))?, rest)),
-            Kind::Rune => Ok((Box::new(alloc, Expr::Rune(*first))?, rest)),
-            Kind::Text => Ok((Box::new(alloc, Expr::Text(*first))?, rest)),
-            Kind::Name => Ok((Box::new(alloc, Expr::Name(*first))?, rest)),
-            Kind::OpenParen => {
-                let open = *first;
-                let (inner, rest) = expr(alloc, depth, Context::Item, LOOSE, rest)?;
-                let (close, rest) = skip(rest, Kind::CloseParen)?;
-                let paren = Expr::Paren { open, inner, close };
-                Ok((Box::new(alloc, paren)?, rest))
-            }
-            Kind::FuncWord => function(alloc, depth, context, tokens),
-            _ => type_operand(alloc, depth, context, tokens),
-        },
+) -> Result<(Box<Expr>, &[Token]), Stop>
+    ensures { Gives (λ x. (view_expr x.0.value, x.1.now)) result (operand_in (parsers depth) (view_context context) tokens.now) }
+{
+    let is_int = begins_with(tokens, Kind::Int);
+    if is_int {
+        return int_literal(alloc, tokens);
     }
+    let is_rune = begins_with(tokens, Kind::Rune);
+    if is_rune {
+        return rune_literal(alloc, tokens);
+    }
+    let is_text = begins_with(tokens, Kind::Text);
+    if is_text {
+        return text_literal(alloc, tokens);
+    }
+    let is_named = begins_with(tokens, Kind::Name);
+    if is_named {
+        return name(alloc, tokens);
+    }
+    let is_paren = begins_with(tokens, Kind::OpenParen);
+    if is_paren {
+        return paren(alloc, depth, tokens);
+    }
+    let is_function = begins_with(tokens, Kind::FuncWord);
+    if is_function {
+        return function(alloc, depth, context, tokens);
+    }
+    type_operand(alloc, depth, context, tokens)
+}
+
+/// An expression or a type in parentheses.
+#[cycle(parser)]
+#[tactic(auto, using(go_grammar::proofs::Views::view_expr_paren))]
+fn paren(alloc: Global, depth: usize, tokens: &[Token]) -> Result<(Box<Expr>, &[Token]), Stop>
+    ensures { Gives (λ x. (view_expr x.0.value, x.1.now)) result (paren_in (parsers depth) tokens.now) }
+{
+    let (open, rest) = skip(tokens, Kind::OpenParen)?;
+    let (inner, rest) = expr(alloc, depth, Context::Item, LOOSE, rest)?;
+    let (close, rest) = skip(rest, Kind::CloseParen)?;
+    let paren = Expr::Paren { open, inner, close };
+    Ok((Box::new(alloc, paren)?, rest))
 }
 
 /// A type that is an operand, or where types may stand any that begins with `chan` or `<-`.
 #[cycle(parser)]
+#[tactic(auto, using(crate::proofs::OperandTypes::operand_types, go_grammar::proofs::Views::view_expr_type_form))]
 fn type_operand(
     alloc: Global,
     depth: usize,
     context: Context,
     tokens: &[Token],
-) -> Result<(Box<Expr>, &[Token]), Stop> {
+) -> Result<(Box<Expr>, &[Token]), Stop>
+    ensures { Gives (λ x. (view_expr x.0.value, x.1.now)) result (type_operand_in (parsers depth) (view_context context) tokens.now) }
+{
     if begins_with_open_array(tokens) {
         let (form, rest) = open_array(alloc, depth, tokens)?;
         return Ok((Box::new(alloc, Expr::TypeForm(form))?, rest));
@@ -161,24 +217,24 @@ fn type_operand(
 }
 
 /// Whether a type begins here that may stand as an operand.
-fn begins_with_operand_type(context: Context, tokens: &[Token]) -> bool {
-    match tokens {
-        [] => false,
-        [first, ..] => match first.kind {
-            Kind::OpenBracket | Kind::MapWord | Kind::StructWord | Kind::InterfaceWord => true,
-            Kind::ChanWord | Kind::Arrow => context == Context::Item,
-            _ => false,
-        },
-    }
+fn begins_with_operand_type(context: Context, tokens: &[Token]) -> bool
+    ensures { result ≡ begins_operand_type (view_context context) tokens.now }
+{
+    begins_with_bare_type(tokens)
+        || context.is_item()
+            && (begins_with(tokens, Kind::ChanWord) || begins_with(tokens, Kind::Arrow))
 }
 
 /// `[...]T` before the braces of a literal. Go specification, "Composite literals".
 #[cycle(parser)]
+#[tactic(auto, using(go_grammar::proofs::Views::view_type_expr_open_array))]
 fn open_array(
     alloc: Global,
     depth: usize,
     tokens: &[Token],
-) -> Result<(Box<TypeExpr>, &[Token]), Stop> {
+) -> Result<(Box<TypeExpr>, &[Token]), Stop>
+    ensures { Gives (λ x. (view_type_expr x.0.value, x.1.now)) result (open_array_in (parsers depth) tokens.now) }
+{
     let (open, rest) = skip(tokens, Kind::OpenBracket)?;
     let (ellipsis, rest) = skip(rest, Kind::Ellipsis)?;
     let (close, rest) = skip(rest, Kind::CloseBracket)?;
@@ -197,12 +253,15 @@ fn open_array(
 
 /// A function literal, or where types may stand a function type. Go specification, "Function literals".
 #[cycle(parser)]
+#[tactic(auto, using(go_grammar::proofs::Views::view_expr_function, go_grammar::proofs::Views::view_expr_type_form, go_grammar::proofs::Views::view_type_expr_function))]
 fn function(
     alloc: Global,
     depth: usize,
     context: Context,
     tokens: &[Token],
-) -> Result<(Box<Expr>, &[Token]), Stop> {
+) -> Result<(Box<Expr>, &[Token]), Stop>
+    ensures { Gives (λ x. (view_expr x.0.value, x.1.now)) result (function_in (parsers depth) (view_context context) tokens.now) }
+{
     let (word, rest) = skip(tokens, Kind::FuncWord)?;
     let (signature, rest) = signature(alloc, depth, rest)?;
     let signature = Box::new(alloc, signature)?;
@@ -216,7 +275,7 @@ fn function(
         };
         return Ok((Box::new(alloc, function)?, rest));
     }
-    if context != Context::Item {
+    if !context.is_item() {
         return Err(Stop::Unexpected);
     }
     let form = Box::new(alloc, TypeExpr::Function { word, signature })?;
@@ -230,7 +289,9 @@ fn suffix(
     depth: usize,
     left: Box<Expr>,
     tokens: &[Token],
-) -> Result<(Box<Expr>, &[Token]), Stop> {
+) -> Result<(Box<Expr>, &[Token]), Stop>
+    ensures { Gives (λ x. (view_expr x.0.value, x.1.now)) result (suffix_in (parsers depth) (view_expr left.value) tokens.now) }
+{
     match tokens {
         [] => Err(Stop::Unexpected),
         [first, ..] => match first.kind {
@@ -248,12 +309,15 @@ fn suffix(
 
 /// A selector, or a type assertion. Go specification, "Selectors", "Type assertions".
 #[cycle(parser)]
+#[tactic(auto, using(go_grammar::proofs::Views::view_expr_selector, go_grammar::proofs::Views::view_expr_assertion))]
 fn selector(
     alloc: Global,
     depth: usize,
     operand: Box<Expr>,
     tokens: &[Token],
-) -> Result<(Box<Expr>, &[Token]), Stop> {
+) -> Result<(Box<Expr>, &[Token]), Stop>
+    ensures { Gives (λ x. (view_expr x.0.value, x.1.now)) result (selector_in (parsers depth) (view_expr operand.value) tokens.now) }
+{
     let (dot, rest) = skip(tokens, Kind::Dot)?;
     if begins_with(rest, Kind::OpenParen) {
         let (open, rest) = skip(rest, Kind::OpenParen)?;
@@ -277,12 +341,15 @@ fn selector(
 
 /// An index, or a slice. Go specification, "Index expressions".
 #[cycle(parser)]
+#[tactic(auto, using(go_grammar::proofs::Views::view_expr_index))]
 fn index(
     alloc: Global,
     depth: usize,
     operand: Box<Expr>,
     tokens: &[Token],
-) -> Result<(Box<Expr>, &[Token]), Stop> {
+) -> Result<(Box<Expr>, &[Token]), Stop>
+    ensures { Gives (λ x. (view_expr x.0.value, x.1.now)) result (index_in (parsers depth) (view_expr operand.value) tokens.now) }
+{
     let (open, rest) = skip(tokens, Kind::OpenBracket)?;
     if begins_with(rest, Kind::Colon) {
         return slice(alloc, depth, operand, open, None, rest);
@@ -303,21 +370,24 @@ fn index(
 
 /// The rest of a slice from its first colon on. Go specification, "Slice expressions".
 #[cycle(parser)]
+#[tactic(auto, using(crate::proofs::Groupings::slices, go_grammar::proofs::Views::view_expr_full_slice))]
 fn slice(
     alloc: Global,
     depth: usize,
     operand: Box<Expr>,
-    open: Token,
+    bracket: Token,
     low: Option<Box<Expr>>,
     tokens: &[Token],
-) -> Result<(Box<Expr>, &[Token]), Stop> {
+) -> Result<(Box<Expr>, &[Token]), Stop>
+    ensures { Gives (λ x. (view_expr x.0.value, x.1.now)) result (slice_in (parsers depth) (view_expr operand.value) (one bracket) (if_some (λ x. view_expr x.value) low) tokens.now) }
+{
     let (colon, rest) = skip(tokens, Kind::Colon)?;
     if begins_with(rest, Kind::CloseBracket) {
         let (close, rest) = skip(rest, Kind::CloseBracket)?;
         let high = None;
         let sliced = Expr::Slice {
             operand,
-            open,
+            open: bracket,
             low,
             colon,
             high,
@@ -331,7 +401,7 @@ fn slice(
         let high = Some(high);
         let sliced = Expr::Slice {
             operand,
-            open,
+            open: bracket,
             low,
             colon,
             high,
@@ -344,7 +414,7 @@ fn slice(
     let (close, rest) = skip(rest, Kind::CloseBracket)?;
     let sliced = Expr::FullSlice {
         operand,
-        open,
+        open: bracket,
         low,
         colon,
         high,
@@ -357,12 +427,15 @@ fn slice(
 
 /// A call, or a conversion. Go specification, "Calls".
 #[cycle(parser)]
+#[tactic(auto, using(go_grammar::proofs::Views::view_expr_call, crate::proofs::Groupings::regroup))]
 fn call(
     alloc: Global,
     depth: usize,
     callee: Box<Expr>,
     tokens: &[Token],
-) -> Result<(Box<Expr>, &[Token]), Stop> {
+) -> Result<(Box<Expr>, &[Token]), Stop>
+    ensures { Gives (λ x. (view_expr x.0.value, x.1.now)) result (call_in (parsers depth) (view_expr callee.value) tokens.now) }
+{
     let (open, rest) = skip(tokens, Kind::OpenParen)?;
     if begins_with(rest, Kind::CloseParen) {
         let (close, rest) = skip(rest, Kind::CloseParen)?;
@@ -393,12 +466,15 @@ fn call(
 
 /// The elements of a literal in their braces. Go specification, "Composite literals".
 #[cycle(parser)]
+#[tactic(auto, using(go_grammar::proofs::Views::view_expr_composite))]
 fn literal(
     alloc: Global,
     depth: usize,
     form: Option<Box<TypeExpr>>,
     tokens: &[Token],
-) -> Result<(Box<Expr>, &[Token]), Stop> {
+) -> Result<(Box<Expr>, &[Token]), Stop>
+    ensures { Gives (λ x. (view_expr x.0.value, x.1.now)) result (literal_in (parsers depth) (if_some (λ x. view_type_expr x.value) form) tokens.now) }
+{
     let (open, rest) = skip(tokens, Kind::OpenBrace)?;
     let (elements, rest) = elements(alloc, depth, rest)?;
     let (close, rest) = skip(rest, Kind::CloseBrace)?;
@@ -413,11 +489,10 @@ fn literal(
 
 /// Elements up to a closing brace.
 #[cycle(parser)]
-fn elements(
-    alloc: Global,
-    depth: usize,
-    tokens: &[Token],
-) -> Result<(Vec<Element>, &[Token]), Stop> {
+#[tactic(auto, using(crate::proofs::Loops::manies))]
+fn elements(alloc: Global, depth: usize, tokens: &[Token]) -> Result<(Vec<Element>, &[Token]), Stop>
+    ensures { Gives (λ x. (each view_element x.0.items, x.1.now)) result (many_in (not_closed CloseBrace) (separated_in (element_in (parsers depth))) (length tokens.now) tokens.now) }
+{
     let mut elements = Vec::new(alloc);
     let mut rest = tokens;
     for _ in 0..tokens.len() {
@@ -433,7 +508,9 @@ fn elements(
 
 /// An element, with its key where it has one, and the comma behind it.
 #[cycle(parser)]
-fn element(alloc: Global, depth: usize, tokens: &[Token]) -> Result<(Element, &[Token]), Stop> {
+fn element(alloc: Global, depth: usize, tokens: &[Token]) -> Result<(Element, &[Token]), Stop>
+    ensures { Gives (λ x. (view_element x.0, x.1.now)) result (separated_in (element_in (parsers depth)) tokens.now) }
+{
     let (first, rest) = value(alloc, depth, tokens)?;
     if begins_with(rest, Kind::Colon) {
         let (colon, rest) = skip(rest, Kind::Colon)?;
@@ -459,7 +536,10 @@ fn element(alloc: Global, depth: usize, tokens: &[Token]) -> Result<(Element, &[
 
 /// A key or a value: an expression, or a literal without its type.
 #[cycle(parser)]
-fn value(alloc: Global, depth: usize, tokens: &[Token]) -> Result<(Box<Expr>, &[Token]), Stop> {
+#[tactic(auto, using(crate::proofs::Depth::by_depth))]
+fn value(alloc: Global, depth: usize, tokens: &[Token]) -> Result<(Box<Expr>, &[Token]), Stop>
+    ensures { Gives (λ x. (view_expr x.0.value, x.1.now)) result ((parsers depth).value tokens.now) }
+{
     if depth == 0 {
         return Err(Stop::Unexpected);
     }
@@ -471,22 +551,43 @@ fn value(alloc: Global, depth: usize, tokens: &[Token]) -> Result<(Box<Expr>, &[
 
 /// Expressions with commas between them.
 #[cycle(parser)]
+#[tactic(auto, using(crate::proofs::Loops::manies))]
 pub(crate) fn expr_list(
     alloc: Global,
     depth: usize,
     context: Context,
     tokens: &[Token],
-) -> Result<(Vec<ListedExpr>, &[Token]), Stop> {
+) -> Result<(Vec<ListedExpr>, &[Token]), Stop>
+    ensures { Gives (λ x. (each view_listed_expr x.0.items, x.1.now)) result (list_in (parsers depth) (view_context context) tokens.now) }
+{
     let mut list = Vec::new(alloc);
-    let mut rest = tokens;
-    for _ in 0..tokens.len() {
-        let (expr, after) = expr(alloc, depth, context, LOOSE, rest)?;
-        let (comma, after) = list_comma(after);
-        list.push(ListedExpr { expr, comma })?;
-        rest = after;
-        if comma.is_none() {
+    let (mut expr, mut rest) = expr(alloc, depth, context, LOOSE, tokens)?;
+    for _ in 0..rest.len() {
+        if !list_goes_on(rest) {
+            list.push(ListedExpr { expr, comma: None })?;
             return Ok((list, rest));
         }
+        let (comma, next, after) = next_expr(alloc, depth, context, rest)?;
+        let comma = Some(comma);
+        list.push(ListedExpr { expr, comma })?;
+        expr = next;
+        rest = after;
     }
-    Err(Stop::Unexpected)
+    list.push(ListedExpr { expr, comma: None })?;
+    Ok((list, rest))
+}
+
+/// A comma, and an expression behind it.
+#[cycle(parser)]
+fn next_expr(
+    alloc: Global,
+    depth: usize,
+    context: Context,
+    tokens: &[Token],
+) -> Result<(Token, Box<Expr>, &[Token]), Stop>
+    ensures { Gives (λ x. (append (one x.0) (view_expr x.1.value), x.2.now)) result (then_in (word_in Comma) ((parsers depth).expr (view_context context) 1) tokens.now) }
+{
+    let (comma, rest) = skip(tokens, Kind::Comma)?;
+    let (next, rest) = expr(alloc, depth, context, LOOSE, rest)?;
+    Ok((comma, next, rest))
 }

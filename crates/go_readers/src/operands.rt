@@ -1,7 +1,21 @@
 //! What an expression that was read may be used as, and where it stands.
 
+ghost use Rattle.std.specs.Prelude.{◌≡◌, Some};
+ghost use Rattle.go_ast.specs.declared.token.Kind.TheVariants.{OpenBrace, OpenBracket, Ellipsis};
+ghost use Rattle.go_grammar.specs.ExprReading as exprs;
+ghost use Rattle.go_grammar.specs.ExprReading.{begins_suffix};
+ghost use Rattle.go_grammar.specs.StmtReading as stmts;
+ghost use Rattle.go_grammar.specs.Tests.{begins, begins_both, word_in};
+ghost use Rattle.go_grammar.specs.View.{each, one, view_expr, view_listed_expr, view_named, view_type_expr};
+ghost use Rattle.go_readers.specs.Expressions.{name_token, single_of, type_named, view_context};
+ghost use Rattle.go_readers.specs.Giving.{Gives, GivesOption};
+ghost use Rattle.go_readers.specs.Operands.{star_at, sign_at};
+ghost use Rattle.go_ast.specs.declared.token.Kind.TheVariants as kinds;
+ghost use Rattle.go_grammar.specs.Forests as forms;
+ghost use Rattle.go_grammar.specs.Reading.{node_in};
+
 use crate::stop::Stop;
-use crate::tokens::{begins_with, begins_with_both};
+use crate::tokens::{begins_with, begins_with_both, begins_with_sign, skip};
 use go_ast::{Kind, Token};
 use go_syntax::{Expr, ListedExpr, NamedType, TypeExpr};
 use std::alloc::Global;
@@ -19,16 +33,35 @@ pub(crate) enum Context {
 
 impl Context {
     /// Where an operand stands that is no type.
-    pub(crate) fn of_operand(self) -> Context {
+    pub(crate) fn of_operand(self) -> Context
+        ensures { view_context result ≡ exprs.of_operand (view_context self) }
+    {
         match self {
             Context::Item => Context::Plain,
             context => context,
         }
     }
+
+    /// Whether a type may stand here too.
+    pub(crate) fn is_item(self) -> bool
+        ensures { result ≡ exprs.is_item (view_context self) }
+    {
+        matches!(self, Context::Item)
+    }
+
+    /// Whether braces behind the name of a type are no literal's here.
+    pub(crate) fn is_header(self) -> bool
+        ensures { result ≡ exprs.is_header (view_context self) }
+    {
+        matches!(self, Context::Header)
+    }
 }
 
 /// Whether this is a type that is no expression.
-pub(crate) fn is_type_only(expr: &Expr) -> bool {
+#[tactic(auto, using(go_grammar::proofs::Views::view_expr_type_form))]
+pub(crate) fn is_type_only(expr: &Expr) -> bool
+    ensures { result ≡ exprs.is_type_only (view_expr expr.now) }
+{
     match expr {
         Expr::TypeForm(form) => is_only_a_type(form),
         _ => false,
@@ -36,7 +69,10 @@ pub(crate) fn is_type_only(expr: &Expr) -> bool {
 }
 
 /// Whether a type of this form is no operand.
-fn is_only_a_type(form: &TypeExpr) -> bool {
+#[tactic(auto, using(go_grammar::proofs::Views::view_type_expr_pointer, go_grammar::proofs::Views::view_type_expr_chan, go_grammar::proofs::Views::view_type_expr_receive_chan, go_grammar::proofs::Views::view_type_expr_function))]
+fn is_only_a_type(form: &TypeExpr) -> bool
+    ensures { result ≡ exprs.is_only_a_type (view_type_expr form.now) }
+{
     matches!(
         form,
         TypeExpr::Pointer { .. }
@@ -47,22 +83,30 @@ fn is_only_a_type(form: &TypeExpr) -> bool {
 }
 
 /// Whether this is a name.
-fn is_name(expr: &Expr) -> bool {
+#[tactic(auto, using(go_grammar::proofs::Views::view_expr_name))]
+fn is_name(expr: &Expr) -> bool
+    ensures { result ≡ exprs.is_name (view_expr expr.now) }
+{
     matches!(expr, Expr::Name(_))
 }
 
 /// Whether braces behind this are those of a literal.
-fn is_literal_type(context: Context, expr: &Expr) -> bool {
+#[tactic(auto, using(go_grammar::proofs::Views::view_expr_type_form, go_grammar::proofs::Views::view_expr_name, go_grammar::proofs::Views::view_expr_selector, crate::proofs::Variants::name_before))]
+fn is_literal_type(context: Context, expr: &Expr) -> bool
+    ensures { result ≡ exprs.is_literal_type (view_context context) (view_expr expr.now) }
+{
     match expr {
         Expr::TypeForm(_) => true,
-        Expr::Name(_) => context != Context::Header,
-        Expr::Selector { operand, .. } => context != Context::Header && is_name(operand),
+        Expr::Name(_) => !context.is_header(),
+        Expr::Selector { operand, .. } => !context.is_header() && is_name(operand),
         _ => false,
     }
 }
 
 /// Whether an operand goes on here. `.(type)` is no part of it.
-pub(crate) fn begins_with_suffix(context: Context, left: &Expr, tokens: &[Token]) -> bool {
+pub(crate) fn begins_with_suffix(context: Context, left: &Expr, tokens: &[Token]) -> bool
+    ensures { result ≡ begins_suffix (view_context context) (view_expr left.now) tokens.now }
+{
     match tokens {
         [] => false,
         [first, rest @ ..] => match first.kind {
@@ -75,23 +119,43 @@ pub(crate) fn begins_with_suffix(context: Context, left: &Expr, tokens: &[Token]
 }
 
 /// The type of a literal, whose braces follow.
-pub(crate) fn literal_type(alloc: Global, left: Box<Expr>) -> Result<Box<TypeExpr>, Stop> {
+#[tactic(auto, using(go_grammar::proofs::Views::view_expr_type_form, go_grammar::proofs::Views::view_type_expr_name, crate::proofs::Variants::literal_named))]
+pub(crate) fn literal_type(alloc: Global, left: Box<Expr>) -> Result<Box<TypeExpr>, Stop>
+    ensures { Gives (λ x. view_type_expr x.value) result (exprs.literal_type (view_expr left.value)) }
+{
     match Box::into_inner(left) {
         Expr::TypeForm(form) => Ok(form),
-        Expr::Name(name) => Ok(Box::new(alloc, TypeExpr::Name(NamedType::Local(name)))?),
-        Expr::Selector { operand, dot, name } => match Box::into_inner(operand) {
-            Expr::Name(package) => {
-                let name = NamedType::Imported { package, dot, name };
-                Ok(Box::new(alloc, TypeExpr::Name(name))?)
-            }
-            _ => Err(Stop::Unexpected),
-        },
+        other => {
+            let name = type_name_of(&other)?;
+            Ok(Box::new(alloc, TypeExpr::Name(name))?)
+        }
+    }
+}
+
+/// The name of a type, of what was read as an expression.
+#[tactic(auto, using(go_grammar::proofs::Views::view_expr_name, go_grammar::proofs::Views::view_expr_selector, crate::proofs::Variants::imported_none, crate::proofs::Variants::imported_some))]
+fn type_name_of(expr: &Expr) -> Result<NamedType, Stop>
+    ensures { Gives view_named result (type_named (view_expr expr.now)) }
+{
+    match expr {
+        Expr::Name(name) => Ok(NamedType::Local(*name)),
+        Expr::Selector { operand, dot, name } => {
+            let package = token_of_name(operand)?;
+            Ok(NamedType::Imported {
+                package,
+                dot: *dot,
+                name: *name,
+            })
+        }
         _ => Err(Stop::Unexpected),
     }
 }
 
 /// `*` before an expression, or before a type that is none.
-pub(crate) fn starred(alloc: Global, star: Token, operand: Box<Expr>) -> Result<Box<Expr>, Stop> {
+#[tactic(auto, using(go_grammar::proofs::Views::view_expr_type_form, go_grammar::proofs::Views::view_expr_unary, go_grammar::proofs::Views::view_type_expr_pointer, crate::proofs::Variants::starred_plain, crate::proofs::Variants::starred_type))]
+pub(crate) fn starred(alloc: Global, star: Token, operand: Box<Expr>) -> Result<Box<Expr>, Stop>
+    ensures { Gives (λ x. view_expr x.value) result (Some (exprs.starred star (view_expr operand.value))) }
+{
     if !is_type_only(&operand) {
         let operator = star;
         return Ok(Box::new(alloc, Expr::Unary { operator, operand })?);
@@ -101,50 +165,133 @@ pub(crate) fn starred(alloc: Global, star: Token, operand: Box<Expr>) -> Result<
             let form = Box::new(alloc, TypeExpr::Pointer { star, base })?;
             Ok(Box::new(alloc, Expr::TypeForm(form))?)
         }
-        _ => Err(Stop::Unexpected),
+        _other => Err(Stop::Unexpected),
     }
 }
 
-/// The expression of a list of one.
-pub(crate) fn single(list: Vec<ListedExpr>) -> Result<Box<Expr>, Stop> {
+/// The expression of a list of one, which no comma follows.
+pub(crate) fn single(list: Vec<ListedExpr>) -> Result<Box<Expr>, Stop>
+    ensures { Gives (λ x. view_expr x.value) result (single_of (each view_listed_expr list.items)) }
+{
     let mut list = list;
-    let last = list.pop();
+    let Some(last) = list.pop() else {
+        return Err(Stop::Unexpected);
+    };
     if !list.is_empty() {
         return Err(Stop::Unexpected);
     }
-    match last {
-        Some(item) => Ok(item.expr),
-        None => Err(Stop::Unexpected),
-    }
-}
-
-/// The token of a name.
-pub(crate) fn name_of(expr: Box<Expr>) -> Result<Token, Stop> {
-    match Box::into_inner(expr) {
-        Expr::Name(name) => Ok(name),
-        _ => Err(Stop::Unexpected),
-    }
-}
-
-/// An operand and what follows it, as against one with operators.
-pub(crate) fn primary_of(expr: Box<Expr>) -> Result<Box<Expr>, Stop> {
-    if is_operation(&expr) {
+    let ListedExpr { expr, comma } = last;
+    if comma.is_some() {
         return Err(Stop::Unexpected);
     }
     Ok(expr)
 }
 
-/// Whether this is an operator with its operands.
-fn is_operation(expr: &Expr) -> bool {
-    matches!(expr, Expr::Unary { .. } | Expr::Binary { .. })
+/// The token of a name.
+pub(crate) fn name_of(expr: Box<Expr>) -> Result<Token, Stop>
+    ensures { Gives one result (name_token (view_expr expr.value)) }
+{
+    token_of_name(&expr)
+}
+
+/// The token of a name.
+#[tactic(auto, using(go_grammar::proofs::Views::view_expr_name))]
+fn token_of_name(expr: &Expr) -> Result<Token, Stop>
+    ensures { Gives one result (name_token (view_expr expr.now)) }
+{
+    match expr {
+        Expr::Name(name) => Ok(*name),
+        _ => Err(Stop::Unexpected),
+    }
+}
+
+/// An operand and what follows it, as against one with operators.
+pub(crate) fn primary_of(expr: Box<Expr>) -> Result<Box<Expr>, Stop>
+    ensures { Gives (λ x. view_expr x.value) result (stmts.primary_of (view_expr expr.value)) }
+{
+    if is_primary(&expr) {
+        return Ok(expr);
+    }
+    Err(Stop::Unexpected)
+}
+
+/// Whether this is no operator with its operands.
+#[tactic(auto, using(go_grammar::proofs::Views::view_expr_unary, go_grammar::proofs::Views::view_expr_binary))]
+fn is_primary(expr: &Expr) -> bool
+    ensures { result ≡ stmts.is_primary (view_expr expr.now) }
+{
+    match expr {
+        Expr::Unary { .. } | Expr::Binary { .. } => false,
+        _ => true,
+    }
 }
 
 /// Whether `[...]` begins here, the front of an array type in a literal.
-pub(crate) fn begins_with_open_array(tokens: &[Token]) -> bool {
+pub(crate) fn begins_with_open_array(tokens: &[Token]) -> bool
+    ensures { result ≡ begins_both OpenBracket Ellipsis tokens.now }
+{
     begins_with_both(tokens, Kind::OpenBracket, Kind::Ellipsis)
 }
 
 /// Whether the braces of a literal or a body begin here.
-pub(crate) fn begins_with_braces(tokens: &[Token]) -> bool {
+pub(crate) fn begins_with_braces(tokens: &[Token]) -> bool
+    ensures { result ≡ begins OpenBrace tokens.now }
+{
     begins_with(tokens, Kind::OpenBrace)
+}
+
+/// An integer literal. Go specification, "Integer literals".
+#[tactic(auto, using(go_grammar::proofs::Views::view_expr_int))]
+pub(crate) fn int_literal(alloc: Global, tokens: &[Token]) -> Result<(Box<Expr>, &[Token]), Stop>
+    ensures { Gives (λ x. (view_expr x.0.value, x.1.now)) result (node_in forms.IntForm (word_in kinds.Int) tokens.now) }
+{
+    let (token, rest) = skip(tokens, Kind::Int)?;
+    Ok((Box::new(alloc, Expr::Int(token))?, rest))
+}
+
+/// A rune literal. Go specification, "Rune literals".
+#[tactic(auto, using(go_grammar::proofs::Views::view_expr_rune))]
+pub(crate) fn rune_literal(alloc: Global, tokens: &[Token]) -> Result<(Box<Expr>, &[Token]), Stop>
+    ensures { Gives (λ x. (view_expr x.0.value, x.1.now)) result (node_in forms.RuneForm (word_in kinds.Rune) tokens.now) }
+{
+    let (token, rest) = skip(tokens, Kind::Rune)?;
+    Ok((Box::new(alloc, Expr::Rune(token))?, rest))
+}
+
+/// A string literal. Go specification, "String literals".
+#[tactic(auto, using(go_grammar::proofs::Views::view_expr_text))]
+pub(crate) fn text_literal(alloc: Global, tokens: &[Token]) -> Result<(Box<Expr>, &[Token]), Stop>
+    ensures { Gives (λ x. (view_expr x.0.value, x.1.now)) result (node_in forms.TextForm (word_in kinds.Text) tokens.now) }
+{
+    let (token, rest) = skip(tokens, Kind::Text)?;
+    Ok((Box::new(alloc, Expr::Text(token))?, rest))
+}
+
+/// A name as an operand. Go specification, "Operands".
+#[tactic(auto, using(go_grammar::proofs::Views::view_expr_name))]
+pub(crate) fn name(alloc: Global, tokens: &[Token]) -> Result<(Box<Expr>, &[Token]), Stop>
+    ensures { Gives (λ x. (view_expr x.0.value, x.1.now)) result (node_in forms.NameForm (word_in kinds.Name) tokens.now) }
+{
+    let (token, rest) = skip(tokens, Kind::Name)?;
+    Ok((Box::new(alloc, Expr::Name(token))?, rest))
+}
+
+/// A star, and the tokens behind it.
+pub(crate) fn star(tokens: &[Token]) -> Option<(Token, &[Token])>
+    ensures { GivesOption (λ x. (x.0, x.1.now)) result (star_at tokens.now) }
+{
+    match tokens {
+        [first, rest @ ..] if first.kind == Kind::Star => Some((*first, rest)),
+        _ => None,
+    }
+}
+
+/// A sign, and the tokens behind it. Before `chan`, `<-` is none.
+pub(crate) fn sign(tokens: &[Token]) -> Option<(Token, &[Token])>
+    ensures { GivesOption (λ x. (x.0, x.1.now)) result (sign_at tokens.now) }
+{
+    match tokens {
+        [first, rest @ ..] if begins_with_sign(tokens) => Some((*first, rest)),
+        _ => None,
+    }
 }

@@ -1,19 +1,60 @@
 //! What statements are made of once their expressions were read.
 
+ghost use Rattle.std.specs.Prelude.{◌≡◌, Some, not};
+ghost use Rattle.go_grammar.specs.Forests.{node, empty};
+ghost use Rattle.go_grammar.specs.Forests.{IfForm, SwitchForm, TypeSwitchForm};
+ghost use Rattle.go_grammar.specs.StmtReading as readings;
+ghost use Rattle.go_grammar.specs.View.{view_block, view_if_arm, view_label, view_listed_expr, ◌⊕◌, one, each, if_some};
+ghost use Rattle.go_readers.specs.Giving.{Gives};
+ghost use Rattle.go_readers.specs.Statements.{boxed_expr, boxed_stmt, view_simple, view_init, view_guard, view_suffix, view_body, label_in, labels_in, suffix_in, branch_in, begins_branch, begins_decl_at, IsSplit};
+
 use crate::operands::{name_of, primary_of, single};
 use crate::stop::Stop;
-use crate::tokens::{begins_with, optional, skip};
+use crate::tokens::{begins_with, begins_with_both, optional, skip};
 use go_ast::{Kind, Token};
-use go_syntax::{Binding, CaseClause, Expr, Label, Stmt, SwitchStmt, TypeSwitchStmt};
+use go_syntax::{
+    Binding, Block, CaseClause, Expr, IfArm, Label, ListedExpr, Stmt, SwitchStmt, TypeSwitchStmt,
+};
 use std::alloc::Global;
 
-/// What stands in the header of an `if` or a `switch`: a statement and a semicolon, each of which may be left out, and
-/// then the condition, the tag or the front of a guard, where there is one.
+/// A statement and the semicolon behind it, each of which may be left out.
+#[derive(Drop)]
+pub(crate) struct Init {
+    pub stmt: Option<Box<Stmt>>,
+    pub semicolon: Option<Token>,
+}
+
+/// What stands in the header of an `if` or a `switch`: a first statement, and then the condition, the tag or the front
+/// of a guard, where there is one.
 #[derive(Drop)]
 pub(crate) struct HeaderParts {
-    pub init: Option<Box<Stmt>>,
-    pub semicolon: Option<Token>,
-    pub last: Option<Box<Stmt>>,
+    pub init: Init,
+    pub last: Option<Simple>,
+}
+
+/// A simple statement that is not empty. Go specification, "Simple statements".
+#[derive(Drop)]
+pub(crate) enum Simple {
+    Expr(Box<Expr>),
+    Send {
+        channel: Box<Expr>,
+        arrow: Token,
+        value: Box<Expr>,
+    },
+    Step {
+        operand: Box<Expr>,
+        operator: Token,
+    },
+    Assign {
+        targets: Vec<ListedExpr>,
+        operator: Token,
+        values: Vec<ListedExpr>,
+    },
+    Define {
+        targets: Vec<ListedExpr>,
+        operator: Token,
+        values: Vec<ListedExpr>,
+    },
 }
 
 /// `.(type)`
@@ -25,6 +66,13 @@ pub(crate) struct GuardSuffix {
     pub close_paren: Token,
 }
 
+/// The operand of a type switch, with the name that is bound to it.
+#[derive(Drop)]
+pub(crate) struct Guard {
+    pub binding: Option<Binding>,
+    pub operand: Box<Expr>,
+}
+
 /// The clauses of a `switch` in their braces.
 #[derive(Drop)]
 pub(crate) struct SwitchBody {
@@ -34,75 +82,159 @@ pub(crate) struct SwitchBody {
 }
 
 /// Whether the statements of a block or a clause end here.
-pub(crate) fn ends_statements(tokens: &[Token]) -> bool {
+pub(crate) fn ends_statements(tokens: &[Token]) -> bool
+    ensures { result ≡ readings.ends_statements tokens.now }
+{
     begins_with(tokens, Kind::CloseBrace)
         || begins_with(tokens, Kind::CaseWord)
         || begins_with(tokens, Kind::DefaultWord)
 }
 
-/// A statement behind its labels, where it has any.
-pub(crate) fn with_labels(
-    alloc: Global,
-    labels: Vec<Label>,
-    stmt: Option<Box<Stmt>>,
-) -> Result<Option<Box<Stmt>>, Stop> {
-    if labels.is_empty() {
-        return Ok(stmt);
+/// One label. Go specification, "Labeled statements".
+fn label(tokens: &[Token]) -> Result<(Label, &[Token]), Stop>
+    ensures { Gives (λ x. (view_label x.0, x.1.now)) result (label_in tokens.now) }
+{
+    let (name, rest) = skip(tokens, Kind::Name)?;
+    let (colon, rest) = skip(rest, Kind::Colon)?;
+    Ok((Label { name, colon }, rest))
+}
+
+/// One label or more.
+#[tactic(auto, using(crate::proofs::Loops::manies))]
+pub(crate) fn labels(alloc: Global, tokens: &[Token]) -> Result<(Vec<Label>, &[Token]), Stop>
+    ensures { Gives (λ x. (each view_label x.0.items, x.1.now)) result (labels_in tokens.now) }
+{
+    let mut labels = Vec::new(alloc);
+    let (first, mut rest) = label(tokens)?;
+    labels.push(first)?;
+    for _ in 0..rest.len() {
+        if !begins_with_both(rest, Kind::Name, Kind::Colon) {
+            return Ok((labels, rest));
+        }
+        let (next, after) = label(rest)?;
+        labels.push(next)?;
+        rest = after;
     }
-    Ok(Some(Box::new(alloc, Stmt::Labeled { labels, stmt })?))
+    Ok((labels, rest))
+}
+
+/// Whether a declaration begins here.
+pub(crate) fn begins_with_decl(tokens: &[Token]) -> bool
+    ensures { result ≡ begins_decl_at tokens.now }
+{
+    begins_with(tokens, Kind::ConstWord)
+        || begins_with(tokens, Kind::TypeWord)
+        || begins_with(tokens, Kind::VarWord)
+}
+
+/// Whether a `break`, `continue` or `fallthrough` statement begins here.
+pub(crate) fn begins_with_branch(tokens: &[Token]) -> bool
+    ensures { result ≡ begins_branch tokens.now }
+{
+    begins_with(tokens, Kind::BreakWord)
+        || begins_with(tokens, Kind::ContinueWord)
+        || begins_with(tokens, Kind::FallthroughWord)
 }
 
 /// A `break`, `continue` or `fallthrough` statement.
-pub(crate) fn branch(alloc: Global, tokens: &[Token]) -> Result<(Box<Stmt>, &[Token]), Stop> {
-    match tokens {
-        [] => Err(Stop::Unexpected),
-        [first, rest @ ..] => {
-            let word = *first;
-            match word.kind {
-                Kind::BreakWord => {
-                    let (label, rest) = optional(rest, Kind::Name);
-                    Ok((Box::new(alloc, Stmt::Break { word, label })?, rest))
-                }
-                Kind::ContinueWord => {
-                    let (label, rest) = optional(rest, Kind::Name);
-                    Ok((Box::new(alloc, Stmt::Continue { word, label })?, rest))
-                }
-                Kind::FallthroughWord => Ok((Box::new(alloc, Stmt::Fallthrough(word))?, rest)),
-                _ => Err(Stop::Unexpected),
-            }
+#[tactic(auto, using(crate::proofs::Statements::branches))]
+pub(crate) fn branch(alloc: Global, tokens: &[Token]) -> Result<(Box<Stmt>, &[Token]), Stop>
+    ensures { Gives (λ x. (boxed_stmt x.0, x.1.now)) result (branch_in tokens.now) }
+{
+    if begins_with(tokens, Kind::BreakWord) {
+        let (word, rest) = skip(tokens, Kind::BreakWord)?;
+        let (label, rest) = optional(rest, Kind::Name);
+        return Ok((Box::new(alloc, Stmt::Break { word, label })?, rest));
+    }
+    if begins_with(tokens, Kind::ContinueWord) {
+        let (word, rest) = skip(tokens, Kind::ContinueWord)?;
+        let (label, rest) = optional(rest, Kind::Name);
+        return Ok((Box::new(alloc, Stmt::Continue { word, label })?, rest));
+    }
+    let (word, rest) = skip(tokens, Kind::FallthroughWord)?;
+    Ok((Box::new(alloc, Stmt::Fallthrough(word))?, rest))
+}
+
+/// A simple statement, as a statement.
+#[tactic(auto, using(crate::proofs::SimpleStmts::simples))]
+pub(crate) fn stmt_of(alloc: Global, simple: Simple) -> Result<Box<Stmt>, Stop>
+    ensures { Gives boxed_stmt result (Some (view_simple simple)) }
+{
+    let stmt = match simple {
+        Simple::Expr(expr) => Stmt::Expr(expr),
+        Simple::Send {
+            channel,
+            arrow,
+            value,
+        } => Stmt::Send {
+            channel,
+            arrow,
+            value,
+        },
+        Simple::Step { operand, operator } => Stmt::Step { operand, operator },
+        Simple::Assign {
+            targets,
+            operator,
+            values,
+        } => Stmt::Assign {
+            targets,
+            operator,
+            values,
+        },
+        Simple::Define {
+            targets,
+            operator,
+            values,
+        } => Stmt::Define {
+            targets,
+            operator,
+            values,
+        },
+    };
+    Ok(Box::new(alloc, stmt)?)
+}
+
+/// A simple statement, where there is one, as a statement.
+pub(crate) fn optional_stmt_of(
+    alloc: Global,
+    simple: Option<Simple>,
+) -> Result<Option<Box<Stmt>>, Stop>
+    ensures { Gives (λ x. if_some boxed_stmt x) result (Some (if_some view_simple simple)) }
+{
+    match simple {
+        Some(simple) => {
+            let stmt = stmt_of(alloc, simple)?;
+            Ok(Some(stmt))
         }
-    }
-}
-
-/// The expression that is a statement.
-fn expr_of(stmt: Box<Stmt>) -> Result<Box<Expr>, Stop> {
-    match Box::into_inner(stmt) {
-        Stmt::Expr(expr) => Ok(expr),
-        _ => Err(Stop::Unexpected),
-    }
-}
-
-/// A condition that was read as a statement.
-pub(crate) fn condition_of(stmt: Option<Box<Stmt>>) -> Result<Box<Expr>, Stop> {
-    match stmt {
-        Some(stmt) => expr_of(stmt),
-        None => Err(Stop::Unexpected),
-    }
-}
-
-/// A tag that was read as a statement, where there is one.
-fn tag_of(stmt: Option<Box<Stmt>>) -> Result<Option<Box<Expr>>, Stop> {
-    match stmt {
-        Some(stmt) => Ok(Some(expr_of(stmt)?)),
         None => Ok(None),
     }
 }
 
-/// `.(type)`, where the front of a guard stands before it.
-pub(crate) fn guard_suffix(tokens: &[Token]) -> Result<(Option<GuardSuffix>, &[Token]), Stop> {
-    if !begins_with(tokens, Kind::Dot) {
-        return Ok((None, tokens));
+/// A condition that was read as a statement.
+pub(crate) fn condition_of(simple: Option<Simple>) -> Result<Box<Expr>, Stop>
+    ensures { Gives boxed_expr result (readings.expr_of (if_some view_simple simple)) }
+{
+    match simple {
+        Some(Simple::Expr(expr)) => Ok(expr),
+        _ => Err(Stop::Unexpected),
     }
+}
+
+/// A tag that was read as a statement, where there is one.
+pub(crate) fn tag_of(simple: Option<Simple>) -> Result<Option<Box<Expr>>, Stop>
+    ensures { Gives (λ x. if_some boxed_expr x) result (readings.tag_of (if_some view_simple simple)) }
+{
+    match simple {
+        Some(Simple::Expr(expr)) => Ok(Some(expr)),
+        Some(_) => Err(Stop::Unexpected),
+        None => Ok(None),
+    }
+}
+
+/// `.(type)`
+pub(crate) fn guard_suffix(tokens: &[Token]) -> Result<(GuardSuffix, &[Token]), Stop>
+    ensures { Gives (λ x. (view_suffix x.0, x.1.now)) result (suffix_in tokens.now) }
+{
     let (dot, rest) = skip(tokens, Kind::Dot)?;
     let (open_paren, rest) = skip(rest, Kind::OpenParen)?;
     let (type_word, rest) = skip(rest, Kind::TypeWord)?;
@@ -113,56 +245,86 @@ pub(crate) fn guard_suffix(tokens: &[Token]) -> Result<(Option<GuardSuffix>, &[T
         type_word,
         close_paren,
     };
-    Ok((Some(suffix), rest))
+    Ok((suffix, rest))
 }
 
-/// The operand of a guard, with the name that is bound, of what was read as a statement.
-fn guard_of(stmt: Option<Box<Stmt>>) -> Result<(Option<Binding>, Box<Expr>), Stop> {
-    let Some(stmt) = stmt else {
-        return Err(Stop::Unexpected);
-    };
-    match Box::into_inner(stmt) {
-        Stmt::Expr(operand) => Ok((None, primary_of(operand)?)),
-        Stmt::Define {
-            targets,
-            operator,
-            values,
-        } => {
-            let name = name_of(single(targets)?)?;
-            let operand = primary_of(single(values)?)?;
-            let define = operator;
-            Ok((Some(Binding { name, define }), operand))
+/// The front of a guard that was read as a statement.
+pub(crate) fn guard_of(simple: Option<Simple>) -> Result<Guard, Stop>
+    ensures { Gives view_guard result (readings.guard_of (if_some view_simple simple)) }
+{
+    match simple {
+        Some(Simple::Expr(expr)) => {
+            let operand = primary_of(expr)?;
+            let binding = None;
+            Ok(Guard { binding, operand })
         }
+        Some(
+            Simple::Define {
+                targets,
+                operator,
+                values,
+            },
+        ) => bound_of(targets, operator, values),
         _ => Err(Stop::Unexpected),
     }
 }
 
-/// A `switch` over values, or where `.(type)` stands behind its header one over types.
-pub(crate) fn switch_of(
+/// The front of a guard with a name that is bound.
+#[tactic(auto, using(crate::proofs::Guards::bounds))]
+fn bound_of(targets: Vec<ListedExpr>, define: Token, values: Vec<ListedExpr>) -> Result<Guard, Stop>
+    ensures { Gives view_guard result (readings.bound_of (each view_listed_expr targets.items ⊕ one define ⊕ each view_listed_expr values.items)) }
+{
+    let name = name_of(single(targets)?)?;
+    let operand = primary_of(single(values)?)?;
+    let binding = Some(Binding { name, define });
+    Ok(Guard { binding, operand })
+}
+
+/// An `if` without a last `else`.
+#[tactic(auto, using(crate::proofs::Statements::if_alone))]
+pub(crate) fn without_else(alloc: Global, arms: Vec<IfArm>) -> Result<Box<Stmt>, Stop>
+    ensures { Gives boxed_stmt result (Some (node IfForm (each view_if_arm arms.items) empty)) }
+{
+    let stmt = Stmt::If {
+        arms,
+        else_word: None,
+        otherwise: None,
+    };
+    Ok(Box::new(alloc, stmt)?)
+}
+
+/// An `if` with a last `else`.
+pub(crate) fn with_else(
     alloc: Global,
-    word: Token,
-    parts: HeaderParts,
-    guard: Option<GuardSuffix>,
-    body: SwitchBody,
-) -> Result<Box<Stmt>, Stop> {
-    match guard {
-        None => value_switch(alloc, word, parts, body),
-        Some(suffix) => type_switch(alloc, word, parts, suffix, body),
-    }
+    arms: Vec<IfArm>,
+    else_word: Token,
+    otherwise: Block,
+) -> Result<Box<Stmt>, Stop>
+    ensures { Gives boxed_stmt result (Some (node IfForm (each view_if_arm arms.items ⊕ one else_word ⊕ view_block otherwise) empty)) }
+{
+    let stmt = Stmt::If {
+        arms,
+        else_word: Some(else_word),
+        otherwise: Some(Box::new(alloc, otherwise)?),
+    };
+    Ok(Box::new(alloc, stmt)?)
 }
 
 /// Go specification, "Expression switches".
-fn value_switch(
+#[tactic(auto, using(crate::proofs::Statements::switches))]
+pub(crate) fn value_switch(
     alloc: Global,
     word: Token,
-    parts: HeaderParts,
+    init: Init,
+    tag: Option<Box<Expr>>,
     body: SwitchBody,
-) -> Result<Box<Stmt>, Stop> {
-    let tag = tag_of(parts.last)?;
+) -> Result<Box<Stmt>, Stop>
+    ensures { Gives boxed_stmt result (Some (node SwitchForm (one word ⊕ view_init init ⊕ if_some boxed_expr tag ⊕ view_body body) empty)) }
+{
     let stmt = SwitchStmt {
         word,
-        init: parts.init,
-        semicolon: parts.semicolon,
+        init: init.stmt,
+        semicolon: init.semicolon,
         tag,
         open: body.open,
         clauses: body.clauses,
@@ -173,20 +335,23 @@ fn value_switch(
 }
 
 /// Go specification, "Type switches".
-fn type_switch(
+#[tactic(auto, using(crate::proofs::Statements::type_switches))]
+pub(crate) fn type_switch(
     alloc: Global,
     word: Token,
-    parts: HeaderParts,
+    init: Init,
+    guard: Guard,
     suffix: GuardSuffix,
     body: SwitchBody,
-) -> Result<Box<Stmt>, Stop> {
-    let (binding, operand) = guard_of(parts.last)?;
+) -> Result<Box<Stmt>, Stop>
+    ensures { Gives boxed_stmt result (Some (node TypeSwitchForm (one word ⊕ view_init init ⊕ view_guard guard ⊕ view_suffix suffix ⊕ view_body body) empty)) }
+{
     let stmt = TypeSwitchStmt {
         word,
-        init: parts.init,
-        semicolon: parts.semicolon,
-        binding,
-        operand,
+        init: init.stmt,
+        semicolon: init.semicolon,
+        binding: guard.binding,
+        operand: guard.operand,
         dot: suffix.dot,
         open_paren: suffix.open_paren,
         type_word: suffix.type_word,
@@ -199,30 +364,40 @@ fn type_switch(
     Ok(Box::new(alloc, Stmt::TypeSwitch(stmt))?)
 }
 
-/// Whether this may stand behind `case` in a `select`: a send, a receive, or an assignment or definition of what one
-/// expression receives.
-pub(crate) fn is_comm(stmt: &Stmt) -> bool {
-    match stmt {
-        Stmt::Expr(_) | Stmt::Send { .. } => true,
-        Stmt::Assign {
-            operator,
-            values,
-            ..
-        } => operator.kind == Kind::Assign && values.len() == 1,
-        Stmt::Define { values, .. } => values.len() == 1,
+/// Whether this is a list of one.
+fn is_single(list: &Vec<ListedExpr>) -> bool
+    ensures { result ≡ readings.is_single (each view_listed_expr list.now.items) }
+{
+    match list.as_slice() {
+        [item] => item.comma.is_none(),
         _ => false,
     }
 }
 
-/// Whether this is a definition with `:=`.
-fn is_define(stmt: &Stmt) -> bool {
-    matches!(stmt, Stmt::Define { .. })
+/// Whether this may stand behind `case` in a `select`: a send, a receive, or an assignment or definition of what one
+/// expression receives.
+pub(crate) fn is_comm(simple: &Simple) -> bool
+    requires { IsSplit simple.now }
+    ensures { result ≡ readings.is_comm (view_simple simple.now) }
+{
+    match simple {
+        Simple::Expr(_) | Simple::Send { .. } => true,
+        Simple::Step { .. } => false,
+        Simple::Assign {
+            operator,
+            values,
+            ..
+        } => operator.kind == Kind::Assign && is_single(values),
+        Simple::Define { values, .. } => is_single(values),
+    }
 }
 
 /// Whether this may stand behind the second semicolon of a `for`.
-pub(crate) fn is_post(stmt: &Option<Box<Stmt>>) -> bool {
-    match stmt {
-        Some(stmt) => !is_define(stmt),
-        None => true,
+pub(crate) fn is_post(simple: &Option<Simple>) -> bool
+    ensures { result ≡ not (readings.is_define (if_some view_simple simple.now)) }
+{
+    match simple {
+        Some(Simple::Define { .. }) => false,
+        _ => true,
     }
 }

@@ -1,16 +1,27 @@
 //! Statements. Go specification, "Statements".
 
+ghost use Rattle.std.specs.Prelude.{◌≡◌, false, IfOk};
+ghost use Rattle.go_grammar.specs.ExprReading.{block_in, context_of, is_item};
+ghost use Rattle.go_grammar.specs.FileReading.{parsers};
+ghost use Rattle.go_grammar.specs.Grammar.{Plain};
+ghost use Rattle.go_grammar.specs.StmtReading.{simple_rest_in, simple_in, optional_simple_in, header_in, switch_in, for_in, for_clauses_in, range_in, while_in, unlabeled_in, lines_in, decl_in, for_rest_in};
+ghost use Rattle.go_grammar.specs.View.{view_block, view_stmt_line, view_listed_expr, view_if_arm, view_case_clause, view_comm_clause, ◌⊕◌, one, each, if_some, token_if};
+ghost use Rattle.go_readers.specs.Expressions.{view_context};
+ghost use Rattle.go_readers.specs.Giving.{Gives};
+ghost use Rattle.go_readers.specs.Statements.{boxed_stmt, boxed_expr, view_simple, view_header, view_body, statement_in, line_in, return_in, if_in, arm_in, clause_in, clauses_in, clause_list_in, comm_list_in, arms_in, else_arm_in, go_in, defer_in, compound_in, for_condition_in, comm_clause_in, select_in, IsSplit, IsList};
+
 use crate::decls::decl;
 use crate::exprs::{LOOSE, expr, expr_list};
 use crate::operands::{Context, begins_with_braces, single};
 use crate::simples::{
-    HeaderParts, SwitchBody, branch, condition_of, ends_statements, guard_suffix, is_comm, is_post,
-    switch_of, with_labels,
+    HeaderParts, Init, Simple, SwitchBody, begins_with_branch, begins_with_decl, branch,
+    condition_of, ends_statements, guard_of, guard_suffix, is_comm, is_post, labels,
+    optional_stmt_of, stmt_of, tag_of, type_switch, value_switch, with_else, without_else,
 };
 use crate::stop::Stop;
 use crate::tokens::{
-    assignment, begins_with, begins_with_both, begins_with_semicolon, ends_statement, labels,
-    line_end, optional, range_assignment, semicolon, skip, step,
+    assignment, begins_with, begins_with_both, begins_with_semicolon, ends_statement, line_end,
+    range_assignment, semicolon, skip, step,
 };
 use go_ast::{Kind, Token};
 use go_syntax::{
@@ -20,11 +31,14 @@ use std::alloc::Global;
 
 /// Statements in braces. Go specification, "Blocks".
 #[cycle(parser)]
+#[tactic(auto, using(go_grammar::proofs::Views::view_block_made))]
 pub(crate) fn block(
     alloc: Global,
     depth: usize,
     tokens: &[Token],
-) -> Result<(Block, &[Token]), Stop> {
+) -> Result<(Block, &[Token]), Stop>
+    ensures { Gives (λ x. (view_block x.0, x.1.now)) result (block_in (parsers depth) tokens.now) }
+{
     let (open, rest) = skip(tokens, Kind::OpenBrace)?;
     let (statements, rest) = statements(alloc, depth, rest)?;
     let (close, rest) = skip(rest, Kind::CloseBrace)?;
@@ -38,11 +52,14 @@ pub(crate) fn block(
 
 /// Statements up to a closing brace, `case` or `default`.
 #[cycle(parser)]
+#[tactic(auto, using(crate::proofs::Depth::by_depth))]
 fn statements(
     alloc: Global,
     depth: usize,
     tokens: &[Token],
-) -> Result<(Vec<StmtLine>, &[Token]), Stop> {
+) -> Result<(Vec<StmtLine>, &[Token]), Stop>
+    ensures { Gives (λ x. (each view_stmt_line x.0.items, x.1.now)) result ((parsers depth).statements tokens.now) }
+{
     if depth == 0 {
         return Err(Stop::Unexpected);
     }
@@ -51,11 +68,14 @@ fn statements(
 
 /// Statements with the semicolons behind them.
 #[cycle(parser)]
+#[tactic(auto, using(crate::proofs::Loops::manies))]
 fn statement_lines(
     alloc: Global,
     depth: usize,
     tokens: &[Token],
-) -> Result<(Vec<StmtLine>, &[Token]), Stop> {
+) -> Result<(Vec<StmtLine>, &[Token]), Stop>
+    ensures { Gives (λ x. (each view_stmt_line x.0.items, x.1.now)) result (lines_in (parsers depth) tokens.now) }
+{
     let mut lines = Vec::new(alloc);
     let mut rest = tokens;
     for _ in 0..tokens.len() {
@@ -69,88 +89,188 @@ fn statement_lines(
     Ok((lines, rest))
 }
 
-/// A statement with its labels, or the empty one, and the semicolon behind it. Go specification, "Labeled statements".
+/// A statement, or the empty one, and the semicolon behind it.
 #[cycle(parser)]
 fn statement_line(
     alloc: Global,
     depth: usize,
     tokens: &[Token],
-) -> Result<(StmtLine, &[Token]), Stop> {
+) -> Result<(StmtLine, &[Token]), Stop>
+    ensures { Gives (λ x. (view_stmt_line x.0, x.1.now)) result (line_in (parsers depth) tokens.now) }
+{
+    if begins_with_semicolon(tokens) {
+        let (semicolon, rest) = semicolon(tokens)?;
+        let line = StmtLine {
+            stmt: None,
+            semicolon: Some(semicolon),
+        };
+        return Ok((line, rest));
+    }
+    let (stmt, rest) = statement(alloc, depth, tokens)?;
+    let (semicolon, rest) = line_end(rest, Kind::CloseBrace)?;
+    let line = StmtLine {
+        stmt: Some(stmt),
+        semicolon,
+    };
+    Ok((line, rest))
+}
+
+/// A statement with its labels. Go specification, "Labeled statements".
+#[cycle(parser)]
+fn statement(alloc: Global, depth: usize, tokens: &[Token]) -> Result<(Box<Stmt>, &[Token]), Stop>
+    ensures { Gives (λ x. (boxed_stmt x.0, x.1.now)) result (statement_in (parsers depth) tokens.now) }
+{
+    if !begins_with_both(tokens, Kind::Name, Kind::Colon) {
+        return stmt(alloc, depth, tokens);
+    }
     let (labels, rest) = labels(alloc, tokens)?;
     if ends_statement(rest) {
-        let stmt = with_labels(alloc, labels, None)?;
-        let (semicolon, rest) = line_end(rest, Kind::CloseBrace)?;
-        return Ok((StmtLine { stmt, semicolon }, rest));
+        let stmt = None;
+        return Ok((Box::new(alloc, Stmt::Labeled { labels, stmt })?, rest));
     }
     let (stmt, rest) = stmt(alloc, depth, rest)?;
-    let stmt = with_labels(alloc, labels, Some(stmt))?;
-    let (semicolon, rest) = line_end(rest, Kind::CloseBrace)?;
-    Ok((StmtLine { stmt, semicolon }, rest))
+    let stmt = Some(stmt);
+    Ok((Box::new(alloc, Stmt::Labeled { labels, stmt })?, rest))
 }
 
 /// A statement without labels that is not empty.
 #[cycle(parser)]
-fn stmt(alloc: Global, depth: usize, tokens: &[Token]) -> Result<(Box<Stmt>, &[Token]), Stop> {
-    match tokens {
-        [] => Err(Stop::Unexpected),
-        [first, ..] => match first.kind {
-            Kind::ConstWord | Kind::TypeWord | Kind::VarWord => {
-                let (decl, rest) = decl(alloc, depth, tokens)?;
-                let decl = Box::new(alloc, decl)?;
-                Ok((Box::new(alloc, Stmt::Decl(decl))?, rest))
-            }
-            Kind::GoWord | Kind::DeferWord | Kind::ReturnWord => word_stmt(alloc, depth, tokens),
-            Kind::BreakWord | Kind::ContinueWord | Kind::FallthroughWord => branch(alloc, tokens),
-            Kind::OpenBrace => {
-                let (block, rest) = block(alloc, depth, tokens)?;
-                Ok((Box::new(alloc, Stmt::Block(block))?, rest))
-            }
-            Kind::IfWord => if_stmt(alloc, depth, tokens),
-            Kind::SwitchWord => switch_stmt(alloc, depth, tokens),
-            Kind::SelectWord => select_stmt(alloc, depth, tokens),
-            Kind::ForWord => for_stmt(alloc, depth, tokens),
-            _ => simple(alloc, depth, Context::Plain, tokens),
-        },
+fn stmt(alloc: Global, depth: usize, tokens: &[Token]) -> Result<(Box<Stmt>, &[Token]), Stop>
+    ensures { Gives (λ x. (boxed_stmt x.0, x.1.now)) result (unlabeled_in (parsers depth) tokens.now) }
+{
+    if begins_with_decl(tokens) {
+        return decl_stmt(alloc, depth, tokens);
     }
+    let is_go = begins_with(tokens, Kind::GoWord);
+    if is_go {
+        return go_stmt(alloc, depth, tokens);
+    }
+    let is_defer = begins_with(tokens, Kind::DeferWord);
+    if is_defer {
+        return defer_stmt(alloc, depth, tokens);
+    }
+    let is_return = begins_with(tokens, Kind::ReturnWord);
+    if is_return {
+        return return_stmt(alloc, depth, tokens);
+    }
+    if begins_with_branch(tokens) {
+        return branch(alloc, tokens);
+    }
+    compound_stmt(alloc, depth, tokens)
 }
 
-/// A `go`, `defer` or `return` statement. Go specification, "Go statements", "Defer statements", "Return statements".
+/// A declaration in a function's body.
 #[cycle(parser)]
-fn word_stmt(alloc: Global, depth: usize, tokens: &[Token]) -> Result<(Box<Stmt>, &[Token]), Stop> {
-    match tokens {
-        [] => Err(Stop::Unexpected),
-        [first, rest @ ..] => {
-            let word = *first;
-            match word.kind {
-                Kind::GoWord => {
-                    let (call, rest) = expr(alloc, depth, Context::Plain, LOOSE, rest)?;
-                    Ok((Box::new(alloc, Stmt::Go { word, call })?, rest))
-                }
-                Kind::DeferWord => {
-                    let (call, rest) = expr(alloc, depth, Context::Plain, LOOSE, rest)?;
-                    Ok((Box::new(alloc, Stmt::Defer { word, call })?, rest))
-                }
-                _ if ends_statement(rest) => {
-                    let results = Vec::new(alloc);
-                    Ok((Box::new(alloc, Stmt::Return { word, results })?, rest))
-                }
-                _ => {
-                    let (results, rest) = expr_list(alloc, depth, Context::Plain, rest)?;
-                    Ok((Box::new(alloc, Stmt::Return { word, results })?, rest))
-                }
-            }
-        }
+#[tactic(auto, using(go_grammar::proofs::Views::view_stmt_decl))]
+fn decl_stmt(alloc: Global, depth: usize, tokens: &[Token]) -> Result<(Box<Stmt>, &[Token]), Stop>
+    ensures { Gives (λ x. (boxed_stmt x.0, x.1.now)) result (decl_in (parsers depth) tokens.now) }
+{
+    let (decl, rest) = decl(alloc, depth, tokens)?;
+    let decl = Box::new(alloc, decl)?;
+    Ok((Box::new(alloc, Stmt::Decl(decl))?, rest))
+}
+
+/// A statement with statements in it, or a simple one.
+#[cycle(parser)]
+fn compound_stmt(
+    alloc: Global,
+    depth: usize,
+    tokens: &[Token],
+) -> Result<(Box<Stmt>, &[Token]), Stop>
+    ensures { Gives (λ x. (boxed_stmt x.0, x.1.now)) result (compound_in (parsers depth) tokens.now) }
+{
+    let is_block = begins_with(tokens, Kind::OpenBrace);
+    if is_block {
+        return block_stmt(alloc, depth, tokens);
     }
+    let is_if = begins_with(tokens, Kind::IfWord);
+    if is_if {
+        return if_stmt(alloc, depth, tokens);
+    }
+    let is_switch = begins_with(tokens, Kind::SwitchWord);
+    if is_switch {
+        return switch_stmt(alloc, depth, tokens);
+    }
+    let is_select = begins_with(tokens, Kind::SelectWord);
+    if is_select {
+        return select_stmt(alloc, depth, tokens);
+    }
+    let is_for = begins_with(tokens, Kind::ForWord);
+    if is_for {
+        return for_stmt(alloc, depth, tokens);
+    }
+    simple_stmt(alloc, depth, tokens)
+}
+
+/// A block that is a statement.
+#[cycle(parser)]
+#[tactic(auto, using(go_grammar::proofs::Views::view_stmt_block))]
+fn block_stmt(alloc: Global, depth: usize, tokens: &[Token]) -> Result<(Box<Stmt>, &[Token]), Stop>
+    ensures { Gives (λ x. (boxed_stmt x.0, x.1.now)) result (block_in (parsers depth) tokens.now) }
+{
+    let (block, rest) = block(alloc, depth, tokens)?;
+    Ok((Box::new(alloc, Stmt::Block(block))?, rest))
+}
+
+/// A simple statement that is not empty, as a statement.
+#[cycle(parser)]
+fn simple_stmt(alloc: Global, depth: usize, tokens: &[Token]) -> Result<(Box<Stmt>, &[Token]), Stop>
+    ensures { Gives (λ x. (boxed_stmt x.0, x.1.now)) result (simple_in (parsers depth) Plain tokens.now) }
+{
+    let (simple, rest) = simple(alloc, depth, Context::Plain, tokens)?;
+    Ok((stmt_of(alloc, simple)?, rest))
+}
+
+/// Go specification, "Go statements".
+#[cycle(parser)]
+#[tactic(auto, using(go_grammar::proofs::Views::view_stmt_go))]
+fn go_stmt(alloc: Global, depth: usize, tokens: &[Token]) -> Result<(Box<Stmt>, &[Token]), Stop>
+    ensures { Gives (λ x. (boxed_stmt x.0, x.1.now)) result (go_in (parsers depth) tokens.now) }
+{
+    let (word, rest) = skip(tokens, Kind::GoWord)?;
+    let (call, rest) = expr(alloc, depth, Context::Plain, LOOSE, rest)?;
+    Ok((Box::new(alloc, Stmt::Go { word, call })?, rest))
+}
+
+/// Go specification, "Defer statements".
+#[cycle(parser)]
+#[tactic(auto, using(go_grammar::proofs::Views::view_stmt_defer))]
+fn defer_stmt(alloc: Global, depth: usize, tokens: &[Token]) -> Result<(Box<Stmt>, &[Token]), Stop>
+    ensures { Gives (λ x. (boxed_stmt x.0, x.1.now)) result (defer_in (parsers depth) tokens.now) }
+{
+    let (word, rest) = skip(tokens, Kind::DeferWord)?;
+    let (call, rest) = expr(alloc, depth, Context::Plain, LOOSE, rest)?;
+    Ok((Box::new(alloc, Stmt::Defer { word, call })?, rest))
+}
+
+/// Go specification, "Return statements".
+#[cycle(parser)]
+#[tactic(auto, using(crate::proofs::Statements::returned))]
+fn return_stmt(alloc: Global, depth: usize, tokens: &[Token]) -> Result<(Box<Stmt>, &[Token]), Stop>
+    ensures { Gives (λ x. (boxed_stmt x.0, x.1.now)) result (return_in (parsers depth) tokens.now) }
+{
+    let (word, rest) = skip(tokens, Kind::ReturnWord)?;
+    if ends_statement(rest) {
+        let results = Vec::new(alloc);
+        return Ok((Box::new(alloc, Stmt::Return { word, results })?, rest));
+    }
+    let (results, rest) = expr_list(alloc, depth, Context::Plain, rest)?;
+    Ok((Box::new(alloc, Stmt::Return { word, results })?, rest))
 }
 
 /// A simple statement that is not empty.
 #[cycle(parser)]
+#[tactic(auto, using(crate::proofs::Statements::listed))]
 fn simple(
     alloc: Global,
     depth: usize,
     context: Context,
     tokens: &[Token],
-) -> Result<(Box<Stmt>, &[Token]), Stop> {
+) -> Result<(Simple, &[Token]), Stop>
+    requires { is_item (view_context context) ≡ false }
+    ensures read { Gives (λ x. (view_simple x.0, x.1.now)) result (simple_in (parsers depth) (context_of (view_context context)) tokens.now) }
+    ensures split { IfOk result (λ x. IsSplit x.0) }
+{
     let (targets, rest) = expr_list(alloc, depth, context, tokens)?;
     simple_rest(alloc, depth, context, targets, rest)
 }
@@ -158,49 +278,54 @@ fn simple(
 /// What follows the first expressions of a simple statement. Go specification, "Expression statements", "Send
 /// statements", "IncDec statements", "Assignment statements", "Short variable declarations".
 #[cycle(parser)]
+#[tactic(auto, using(crate::proofs::SimpleStmts::rests))]
 fn simple_rest(
     alloc: Global,
     depth: usize,
     context: Context,
     targets: Vec<ListedExpr>,
     tokens: &[Token],
-) -> Result<(Box<Stmt>, &[Token]), Stop> {
+) -> Result<(Simple, &[Token]), Stop>
+    requires { is_item (view_context context) ≡ false }
+    ensures read { Gives (λ x. (view_simple x.0, x.1.now)) result (simple_rest_in (parsers depth) (context_of (view_context context)) (each view_listed_expr targets.items) tokens.now) }
+    ensures split { IsList (each view_listed_expr targets.items) → IfOk result (λ x. IsSplit x.0) }
+{
     if let Some((operator, rest)) = assignment(tokens) {
         let (values, rest) = expr_list(alloc, depth, context, rest)?;
-        let stmt = Stmt::Assign {
+        let simple = Simple::Assign {
             targets,
             operator,
             values,
         };
-        return Ok((Box::new(alloc, stmt)?, rest));
+        return Ok((simple, rest));
     }
     if begins_with(tokens, Kind::Define) {
         let (operator, rest) = skip(tokens, Kind::Define)?;
         let (values, rest) = expr_list(alloc, depth, context, rest)?;
-        let stmt = Stmt::Define {
+        let simple = Simple::Define {
             targets,
             operator,
             values,
         };
-        return Ok((Box::new(alloc, stmt)?, rest));
+        return Ok((simple, rest));
     }
     let first = single(targets)?;
     if begins_with(tokens, Kind::Arrow) {
         let channel = first;
         let (arrow, rest) = skip(tokens, Kind::Arrow)?;
         let (value, rest) = expr(alloc, depth, context, LOOSE, rest)?;
-        let stmt = Stmt::Send {
+        let simple = Simple::Send {
             channel,
             arrow,
             value,
         };
-        return Ok((Box::new(alloc, stmt)?, rest));
+        return Ok((simple, rest));
     }
     if let Some((operator, rest)) = step(tokens) {
         let operand = first;
-        return Ok((Box::new(alloc, Stmt::Step { operand, operator })?, rest));
+        return Ok((Simple::Step { operand, operator }, rest));
     }
-    Ok((Box::new(alloc, Stmt::Expr(first))?, tokens))
+    Ok((Simple::Expr(first), tokens))
 }
 
 /// A simple statement of a header, or nothing before a semicolon or a brace.
@@ -209,87 +334,103 @@ fn optional_simple(
     alloc: Global,
     depth: usize,
     tokens: &[Token],
-) -> Result<(Option<Box<Stmt>>, &[Token]), Stop> {
+) -> Result<(Option<Simple>, &[Token]), Stop>
+    ensures { Gives (λ x. (if_some view_simple x.0, x.1.now)) result (optional_simple_in (parsers depth) tokens.now) }
+{
     if begins_with_semicolon(tokens) || begins_with_braces(tokens) {
         return Ok((None, tokens));
     }
-    let (stmt, rest) = simple(alloc, depth, Context::Header, tokens)?;
-    Ok((Some(stmt), rest))
+    let (simple, rest) = simple(alloc, depth, Context::Header, tokens)?;
+    Ok((Some(simple), rest))
 }
 
 /// The header of an `if` or a `switch`.
 #[cycle(parser)]
-fn header(alloc: Global, depth: usize, tokens: &[Token]) -> Result<(HeaderParts, &[Token]), Stop> {
+fn header(alloc: Global, depth: usize, tokens: &[Token]) -> Result<(HeaderParts, &[Token]), Stop>
+    ensures { Gives (λ x. (view_header x.0, x.1.now)) result (header_in (parsers depth) tokens.now) }
+{
     let (first, rest) = optional_simple(alloc, depth, tokens)?;
     if !begins_with_semicolon(rest) {
-        let parts = HeaderParts {
-            init: None,
+        let init = Init {
+            stmt: None,
             semicolon: None,
-            last: first,
         };
-        return Ok((parts, rest));
+        return Ok((HeaderParts { init, last: first }, rest));
     }
     let (semicolon, rest) = semicolon(rest)?;
     let (last, rest) = optional_simple(alloc, depth, rest)?;
-    let parts = HeaderParts {
-        init: first,
+    let init = Init {
+        stmt: optional_stmt_of(alloc, first)?,
         semicolon: Some(semicolon),
-        last,
     };
-    Ok((parts, rest))
+    Ok((HeaderParts { init, last }, rest))
 }
 
 /// Go specification, "If statements".
 #[cycle(parser)]
-fn if_stmt(alloc: Global, depth: usize, tokens: &[Token]) -> Result<(Box<Stmt>, &[Token]), Stop> {
+#[tactic(auto, using(crate::proofs::Statements::if_by_arms))]
+fn if_stmt(alloc: Global, depth: usize, tokens: &[Token]) -> Result<(Box<Stmt>, &[Token]), Stop>
+    ensures { Gives (λ x. (boxed_stmt x.0, x.1.now)) result (if_in (parsers depth) tokens.now) }
+{
     let (arms, rest) = if_arms(alloc, depth, tokens)?;
     if !begins_with(rest, Kind::ElseWord) {
-        let stmt = Stmt::If {
-            arms,
-            else_word: None,
-            otherwise: None,
-        };
-        return Ok((Box::new(alloc, stmt)?, rest));
+        return Ok((without_else(alloc, arms)?, rest));
     }
     let (else_word, rest) = skip(rest, Kind::ElseWord)?;
     let (otherwise, rest) = block(alloc, depth, rest)?;
-    let stmt = Stmt::If {
-        arms,
-        else_word: Some(else_word),
-        otherwise: Some(Box::new(alloc, otherwise)?),
-    };
-    Ok((Box::new(alloc, stmt)?, rest))
+    Ok((with_else(alloc, arms, else_word, otherwise)?, rest))
 }
 
 /// The first arm of an `if`, and each `else if`.
 #[cycle(parser)]
-fn if_arms(alloc: Global, depth: usize, tokens: &[Token]) -> Result<(Vec<IfArm>, &[Token]), Stop> {
+#[tactic(auto, using(crate::proofs::Loops::manies))]
+fn if_arms(alloc: Global, depth: usize, tokens: &[Token]) -> Result<(Vec<IfArm>, &[Token]), Stop>
+    ensures { Gives (λ x. (each view_if_arm x.0.items, x.1.now)) result (arms_in (parsers depth) tokens.now) }
+{
     let mut arms = Vec::new(alloc);
-    let mut rest = tokens;
-    for _ in 0..tokens.len() {
-        let (arm, after) = if_arm(alloc, depth, rest)?;
-        arms.push(arm)?;
-        rest = after;
+    let (first, mut rest) = if_arm(alloc, depth, None, tokens)?;
+    arms.push(first)?;
+    for _ in 0..rest.len() {
         if !begins_with_both(rest, Kind::ElseWord, Kind::IfWord) {
             return Ok((arms, rest));
         }
+        let (arm, after) = else_arm(alloc, depth, rest)?;
+        arms.push(arm)?;
+        rest = after;
     }
-    Err(Stop::Unexpected)
+    Ok((arms, rest))
 }
 
-/// An arm of an `if`, and the `else` before it.
+/// An `else` and the arm behind it.
 #[cycle(parser)]
-fn if_arm(alloc: Global, depth: usize, tokens: &[Token]) -> Result<(IfArm, &[Token]), Stop> {
-    let (else_word, rest) = optional(tokens, Kind::ElseWord);
-    let (word, rest) = skip(rest, Kind::IfWord)?;
+#[tactic(auto, using(crate::proofs::Statements::else_arm_by))]
+fn else_arm(alloc: Global, depth: usize, tokens: &[Token]) -> Result<(IfArm, &[Token]), Stop>
+    ensures { Gives (λ x. (view_if_arm x.0, x.1.now)) result (else_arm_in (parsers depth) tokens.now) }
+{
+    let (else_word, rest) = skip(tokens, Kind::ElseWord)?;
+    if_arm(alloc, depth, Some(else_word), rest)
+}
+
+/// An arm of an `if`, behind the `else` before it.
+#[cycle(parser)]
+#[tactic(auto, using(crate::proofs::Statements::arms))]
+fn if_arm(
+    alloc: Global,
+    depth: usize,
+    else_word: Option<Token>,
+    tokens: &[Token],
+) -> Result<(IfArm, &[Token]), Stop>
+    ensures { Gives (λ x. (view_if_arm x.0, x.1.now)) result (arm_in (parsers depth) (token_if else_word) tokens.now) }
+{
+    let (word, rest) = skip(tokens, Kind::IfWord)?;
     let (parts, rest) = header(alloc, depth, rest)?;
     let condition = condition_of(parts.last)?;
     let (body, rest) = block(alloc, depth, rest)?;
     let arm = IfArm {
         else_word,
         word,
-        init: parts.init,
-        semicolon: parts.semicolon,
+        init: parts.init.stmt,
+        semicolon: parts.init.semicolon,
         condition,
         body,
     };
@@ -298,15 +439,33 @@ fn if_arm(alloc: Global, depth: usize, tokens: &[Token]) -> Result<(IfArm, &[Tok
 
 /// Go specification, "Switch statements".
 #[cycle(parser)]
-fn switch_stmt(
+fn switch_stmt(alloc: Global, depth: usize, tokens: &[Token]) -> Result<(Box<Stmt>, &[Token]), Stop>
+    ensures { Gives (λ x. (boxed_stmt x.0, x.1.now)) result (switch_in (parsers depth) tokens.now) }
+{
+    let (word, rest) = skip(tokens, Kind::SwitchWord)?;
+    let (parts, rest) = header(alloc, depth, rest)?;
+    if begins_with(rest, Kind::Dot) {
+        let guard = guard_of(parts.last)?;
+        let (suffix, rest) = guard_suffix(rest)?;
+        let (body, rest) = switch_body(alloc, depth, rest)?;
+        let stmt = type_switch(alloc, word, parts.init, guard, suffix, body)?;
+        return Ok((stmt, rest));
+    }
+    let tag = tag_of(parts.last)?;
+    let (body, rest) = switch_body(alloc, depth, rest)?;
+    Ok((value_switch(alloc, word, parts.init, tag, body)?, rest))
+}
+
+/// The clauses of a `switch` in their braces.
+#[cycle(parser)]
+fn switch_body(
     alloc: Global,
     depth: usize,
     tokens: &[Token],
-) -> Result<(Box<Stmt>, &[Token]), Stop> {
-    let (word, rest) = skip(tokens, Kind::SwitchWord)?;
-    let (parts, rest) = header(alloc, depth, rest)?;
-    let (guard, rest) = guard_suffix(rest)?;
-    let (open, rest) = skip(rest, Kind::OpenBrace)?;
+) -> Result<(SwitchBody, &[Token]), Stop>
+    ensures { Gives (λ x. (view_body x.0, x.1.now)) result (clauses_in (parsers depth) tokens.now) }
+{
+    let (open, rest) = skip(tokens, Kind::OpenBrace)?;
     let (clauses, rest) = clauses(alloc, depth, rest)?;
     let (close, rest) = skip(rest, Kind::CloseBrace)?;
     let body = SwitchBody {
@@ -314,16 +473,19 @@ fn switch_stmt(
         clauses,
         close,
     };
-    Ok((switch_of(alloc, word, parts, guard, body)?, rest))
+    Ok((body, rest))
 }
 
 /// Clauses of a `switch` up to a closing brace.
 #[cycle(parser)]
+#[tactic(auto, using(crate::proofs::Loops::manies))]
 fn clauses(
     alloc: Global,
     depth: usize,
     tokens: &[Token],
-) -> Result<(Vec<CaseClause>, &[Token]), Stop> {
+) -> Result<(Vec<CaseClause>, &[Token]), Stop>
+    ensures { Gives (λ x. (each view_case_clause x.0.items, x.1.now)) result (clause_list_in (parsers depth) tokens.now) }
+{
     let mut clauses = Vec::new(alloc);
     let mut rest = tokens;
     for _ in 0..tokens.len() {
@@ -339,7 +501,10 @@ fn clauses(
 
 /// A clause of a `switch`.
 #[cycle(parser)]
-fn clause(alloc: Global, depth: usize, tokens: &[Token]) -> Result<(CaseClause, &[Token]), Stop> {
+#[tactic(auto, using(crate::proofs::Statements::cases))]
+fn clause(alloc: Global, depth: usize, tokens: &[Token]) -> Result<(CaseClause, &[Token]), Stop>
+    ensures { Gives (λ x. (view_case_clause x.0, x.1.now)) result (clause_in (parsers depth) tokens.now) }
+{
     if begins_with(tokens, Kind::DefaultWord) {
         let (word, rest) = skip(tokens, Kind::DefaultWord)?;
         let (colon, rest) = skip(rest, Kind::Colon)?;
@@ -367,11 +532,10 @@ fn clause(alloc: Global, depth: usize, tokens: &[Token]) -> Result<(CaseClause, 
 
 /// Go specification, "Select statements".
 #[cycle(parser)]
-fn select_stmt(
-    alloc: Global,
-    depth: usize,
-    tokens: &[Token],
-) -> Result<(Box<Stmt>, &[Token]), Stop> {
+#[tactic(auto, using(go_grammar::proofs::Views::view_stmt_select))]
+fn select_stmt(alloc: Global, depth: usize, tokens: &[Token]) -> Result<(Box<Stmt>, &[Token]), Stop>
+    ensures { Gives (λ x. (boxed_stmt x.0, x.1.now)) result (select_in (parsers depth) tokens.now) }
+{
     let (word, rest) = skip(tokens, Kind::SelectWord)?;
     let (open, rest) = skip(rest, Kind::OpenBrace)?;
     let (clauses, rest) = comm_clauses(alloc, depth, rest)?;
@@ -387,11 +551,14 @@ fn select_stmt(
 
 /// Clauses of a `select` up to a closing brace.
 #[cycle(parser)]
+#[tactic(auto, using(crate::proofs::Loops::manies))]
 fn comm_clauses(
     alloc: Global,
     depth: usize,
     tokens: &[Token],
-) -> Result<(Vec<CommClause>, &[Token]), Stop> {
+) -> Result<(Vec<CommClause>, &[Token]), Stop>
+    ensures { Gives (λ x. (each view_comm_clause x.0.items, x.1.now)) result (comm_list_in (parsers depth) tokens.now) }
+{
     let mut clauses = Vec::new(alloc);
     let mut rest = tokens;
     for _ in 0..tokens.len() {
@@ -407,11 +574,14 @@ fn comm_clauses(
 
 /// A clause of a `select`.
 #[cycle(parser)]
+#[tactic(auto, using(go_grammar::proofs::Views::view_comm_clause_made))]
 fn comm_clause(
     alloc: Global,
     depth: usize,
     tokens: &[Token],
-) -> Result<(CommClause, &[Token]), Stop> {
+) -> Result<(CommClause, &[Token]), Stop>
+    ensures { Gives (λ x. (view_comm_clause x.0, x.1.now)) result (comm_clause_in (parsers depth) tokens.now) }
+{
     if begins_with(tokens, Kind::DefaultWord) {
         let (word, rest) = skip(tokens, Kind::DefaultWord)?;
         let (colon, rest) = skip(rest, Kind::Colon)?;
@@ -425,15 +595,16 @@ fn comm_clause(
         return Ok((clause, rest));
     }
     let (word, rest) = skip(tokens, Kind::CaseWord)?;
-    let (comm, rest) = simple(alloc, depth, Context::Plain, rest)?;
-    if !is_comm(&comm) {
+    let (simple, rest) = simple(alloc, depth, Context::Plain, rest)?;
+    if !is_comm(&simple) {
         return Err(Stop::Unexpected);
     }
+    let comm = Some(stmt_of(alloc, simple)?);
     let (colon, rest) = skip(rest, Kind::Colon)?;
     let (statements, rest) = statements(alloc, depth, rest)?;
     let clause = CommClause {
         word,
-        comm: Some(comm),
+        comm,
         colon,
         statements,
     };
@@ -442,9 +613,12 @@ fn comm_clause(
 
 /// Go specification, "For statements".
 #[cycle(parser)]
-fn for_stmt(alloc: Global, depth: usize, tokens: &[Token]) -> Result<(Box<Stmt>, &[Token]), Stop> {
+fn for_stmt(alloc: Global, depth: usize, tokens: &[Token]) -> Result<(Box<Stmt>, &[Token]), Stop>
+    ensures { Gives (λ x. (boxed_stmt x.0, x.1.now)) result (for_in (parsers depth) tokens.now) }
+{
     let (word, rest) = skip(tokens, Kind::ForWord)?;
-    if begins_with(rest, Kind::RangeWord) {
+    let is_range = begins_with(rest, Kind::RangeWord);
+    if is_range {
         return range_stmt(alloc, depth, word, Vec::new(alloc), None, rest);
     }
     if begins_with_semicolon(rest) {
@@ -454,26 +628,44 @@ fn for_stmt(alloc: Global, depth: usize, tokens: &[Token]) -> Result<(Box<Stmt>,
         return while_stmt(alloc, depth, word, None, rest);
     }
     let (targets, rest) = expr_list(alloc, depth, Context::Header, rest)?;
-    if let Some((operator, rest)) = range_assignment(rest) {
+    for_rest(alloc, depth, word, targets, rest)
+}
+
+/// The rest of a `for` whose first statement begins with these expressions.
+#[cycle(parser)]
+fn for_rest(
+    alloc: Global,
+    depth: usize,
+    word: Token,
+    targets: Vec<ListedExpr>,
+    tokens: &[Token],
+) -> Result<(Box<Stmt>, &[Token]), Stop>
+    ensures { Gives (λ x. (boxed_stmt x.0, x.1.now)) result (for_rest_in (parsers depth) (one word) (each view_listed_expr targets.items) tokens.now) }
+{
+    if let Some((operator, rest)) = range_assignment(tokens) {
         return range_stmt(alloc, depth, word, targets, Some(operator), rest);
     }
-    let (stmt, rest) = simple_rest(alloc, depth, Context::Header, targets, rest)?;
+    let (simple, rest) = simple_rest(alloc, depth, Context::Header, targets, tokens)?;
     if begins_with_semicolon(rest) {
-        return for_clauses(alloc, depth, word, Some(stmt), rest);
+        let init = stmt_of(alloc, simple)?;
+        return for_clauses(alloc, depth, word, Some(init), rest);
     }
-    let condition = condition_of(Some(stmt))?;
+    let condition = condition_of(Some(simple))?;
     while_stmt(alloc, depth, word, Some(condition), rest)
 }
 
 /// The body of a `for` with at most a condition. Go specification, "For statements with single condition".
 #[cycle(parser)]
+#[tactic(auto, using(go_grammar::proofs::Views::view_stmt_while))]
 fn while_stmt(
     alloc: Global,
     depth: usize,
     word: Token,
     condition: Option<Box<Expr>>,
     tokens: &[Token],
-) -> Result<(Box<Stmt>, &[Token]), Stop> {
+) -> Result<(Box<Stmt>, &[Token]), Stop>
+    ensures { Gives (λ x. (boxed_stmt x.0, x.1.now)) result (while_in (parsers depth) (one word) (if_some boxed_expr condition) tokens.now) }
+{
     let (body, rest) = block(alloc, depth, tokens)?;
     let body = Box::new(alloc, body)?;
     let stmt = Stmt::While {
@@ -486,13 +678,16 @@ fn while_stmt(
 
 /// The clauses of a `for` from the first semicolon on, and its body. Go specification, "For statements with for clause".
 #[cycle(parser)]
+#[tactic(auto, using(crate::proofs::Statements::fors))]
 fn for_clauses(
     alloc: Global,
     depth: usize,
     word: Token,
     init: Option<Box<Stmt>>,
     tokens: &[Token],
-) -> Result<(Box<Stmt>, &[Token]), Stop> {
+) -> Result<(Box<Stmt>, &[Token]), Stop>
+    ensures { Gives (λ x. (boxed_stmt x.0, x.1.now)) result (for_clauses_in (parsers depth) (one word) (if_some boxed_stmt init) tokens.now) }
+{
     let (first, rest) = semicolon(tokens)?;
     let (condition, rest) = for_condition(alloc, depth, rest)?;
     let (second, rest) = semicolon(rest)?;
@@ -500,6 +695,7 @@ fn for_clauses(
     if !is_post(&post) {
         return Err(Stop::Unexpected);
     }
+    let post = optional_stmt_of(alloc, post)?;
     let (body, rest) = block(alloc, depth, rest)?;
     let stmt = ForStmt {
         word,
@@ -520,7 +716,9 @@ fn for_condition(
     alloc: Global,
     depth: usize,
     tokens: &[Token],
-) -> Result<(Option<Box<Expr>>, &[Token]), Stop> {
+) -> Result<(Option<Box<Expr>>, &[Token]), Stop>
+    ensures { Gives (λ x. (if_some boxed_expr x.0, x.1.now)) result (for_condition_in (parsers depth) tokens.now) }
+{
     if begins_with_semicolon(tokens) {
         return Ok((None, tokens));
     }
@@ -530,6 +728,7 @@ fn for_condition(
 
 /// The rest of a `for` from `range` on. Go specification, "For statements with range clause".
 #[cycle(parser)]
+#[tactic(auto, using(crate::proofs::Statements::ranges))]
 fn range_stmt(
     alloc: Global,
     depth: usize,
@@ -537,7 +736,9 @@ fn range_stmt(
     targets: Vec<ListedExpr>,
     operator: Option<Token>,
     tokens: &[Token],
-) -> Result<(Box<Stmt>, &[Token]), Stop> {
+) -> Result<(Box<Stmt>, &[Token]), Stop>
+    ensures { Gives (λ x. (boxed_stmt x.0, x.1.now)) result (range_in (parsers depth) (one word) (each view_listed_expr targets.items ⊕ token_if operator) tokens.now) }
+{
     let (range, rest) = skip(tokens, Kind::RangeWord)?;
     let (operand, rest) = expr(alloc, depth, Context::Header, LOOSE, rest)?;
     let (body, rest) = block(alloc, depth, rest)?;

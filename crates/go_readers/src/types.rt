@@ -1,7 +1,24 @@
 //! Types. Go specification, "Types".
 
+ghost use Rattle.std.specs.Prelude.{◌≡◌, ◌∷◌, Option, Some, length};
+ghost use Rattle.std.specs.Global.{Box};
+ghost use Rattle.go_syntax.specs.declared.type_exprs.TypeExpr.{TypeExpr};
+ghost use Rattle.go_grammar.specs.Forests as forms;
+ghost use Rattle.go_ast.specs.declared.token.Kind.TheVariants as kinds;
+ghost use Rattle.go_grammar.specs.Forests.{empty, leaf, append};
+ghost use Rattle.go_grammar.specs.Reading.{either_in, Reader};
+ghost use Rattle.go_grammar.specs.Tests.{begins_type_at};
+ghost use Rattle.go_grammar.specs.TypeReading.{type_in, long_in, bare_in, type_name_in, begins_bare, signature_in, params_in, entry_in, entries_in, at_type, Parsers};
+ghost use Rattle.go_grammar.specs.View.{view_type_expr, view_params, view_param, view_signature, view_result_form, view_field_line, view_element_line, each, tree, if_some};
+ghost use Rattle.go_grammar.specs.FileReading.{parsers};
+ghost use Rattle.go_readers.specs.Giving.{Gives};
+ghost use Rattle.go_readers.specs.Entries.{view_entry, entries};
+ghost use Rattle.go_readers.specs.Lines.{field_line_in, field_lines_in, element_line_in, element_lines_in, paren_type_in, pointer_type_in, function_type_in};
+ghost use Rattle.go_grammar.specs.TypeReading.{chan_plan};
+ghost use Rattle.go_grammar.specs.Reading.{run, is_next};
+
 use crate::exprs::{LOOSE, expr};
-use crate::groups::{begins_with_embedded_field, embedded_field, grouped, param_front};
+use crate::groups::{Entry, begins_with_embedded_field, embedded_field, grouped, param_name};
 use crate::operands::Context;
 use crate::stop::Stop;
 use crate::tokens::{
@@ -14,57 +31,150 @@ use std::alloc::Global;
 
 /// A type.
 #[cycle(parser)]
+#[tactic(auto, using(crate::proofs::Depth::by_depth))]
 pub(crate) fn type_expr(
     alloc: Global,
     depth: usize,
     tokens: &[Token],
-) -> Result<(Box<TypeExpr>, &[Token]), Stop> {
+) -> Result<(Box<TypeExpr>, &[Token]), Stop>
+    ensures { Gives (λ x. (view_type_expr x.0.value, x.1.now)) result ((parsers depth).type_expr tokens.now) }
+{
     if depth == 0 {
         return Err(Stop::Unexpected);
     }
     type_form(alloc, depth - 1, tokens)
 }
 
-/// A type, by its first token.
+/// A type.
 #[cycle(parser)]
 pub(crate) fn type_form(
     alloc: Global,
     depth: usize,
     tokens: &[Token],
-) -> Result<(Box<TypeExpr>, &[Token]), Stop> {
+) -> Result<(Box<TypeExpr>, &[Token]), Stop>
+    ensures { Gives (λ x. (view_type_expr x.0.value, x.1.now)) result (type_in (parsers depth) tokens.now) }
+{
+    if begins_with(tokens, Kind::OpenParen) {
+        return paren_type(alloc, depth, tokens);
+    }
+    long_type(alloc, depth, tokens)
+}
+
+/// A type in parentheses.
+#[cycle(parser)]
+#[tactic(auto, using(go_grammar::proofs::Views::view_type_expr_paren))]
+fn paren_type(
+    alloc: Global,
+    depth: usize,
+    tokens: &[Token],
+) -> Result<(Box<TypeExpr>, &[Token]), Stop>
+    ensures { Gives (λ x. (view_type_expr x.0.value, x.1.now)) result (paren_type_in (parsers depth) tokens.now) }
+{
+    let (open, rest) = skip(tokens, Kind::OpenParen)?;
+    let (inner, rest) = type_expr(alloc, depth, rest)?;
+    let (close, rest) = skip(rest, Kind::CloseParen)?;
+    let form = TypeExpr::Paren { open, inner, close };
+    Ok((Box::new(alloc, form)?, rest))
+}
+
+/// A type without parentheses around it.
+#[cycle(parser)]
+fn long_type(
+    alloc: Global,
+    depth: usize,
+    tokens: &[Token],
+) -> Result<(Box<TypeExpr>, &[Token]), Stop>
+    ensures { Gives (λ x. (view_type_expr x.0.value, x.1.now)) result (long_in (parsers depth) tokens.now) }
+{
+    let is_name = begins_with(tokens, Kind::Name);
+    if is_name {
+        return named_type(alloc, tokens);
+    }
+    let is_pointer = begins_with(tokens, Kind::Star);
+    if is_pointer {
+        return pointer_type(alloc, depth, tokens);
+    }
+    let is_bare = begins_with_bare_type(tokens);
+    if is_bare {
+        return bare_type(alloc, depth, tokens);
+    }
+    let is_function = begins_with(tokens, Kind::FuncWord);
+    if is_function {
+        return function_type(alloc, depth, tokens);
+    }
+    chan_type(alloc, depth, tokens)
+}
+
+/// A name of a type.
+#[tactic(auto, using(go_grammar::proofs::Views::view_type_expr_name))]
+fn named_type(alloc: Global, tokens: &[Token]) -> Result<(Box<TypeExpr>, &[Token]), Stop>
+    ensures { Gives (λ x. (view_type_expr x.0.value, x.1.now)) result (type_name_in tokens.now) }
+{
+    let (name, rest) = type_name(tokens)?;
+    Ok((Box::new(alloc, TypeExpr::Name(name))?, rest))
+}
+
+/// A pointer type. Go specification, "Pointer types".
+#[cycle(parser)]
+#[tactic(auto, using(go_grammar::proofs::Views::view_type_expr_pointer))]
+fn pointer_type(
+    alloc: Global,
+    depth: usize,
+    tokens: &[Token],
+) -> Result<(Box<TypeExpr>, &[Token]), Stop>
+    ensures { Gives (λ x. (view_type_expr x.0.value, x.1.now)) result (pointer_type_in (parsers depth) tokens.now) }
+{
+    let (star, rest) = skip(tokens, Kind::Star)?;
+    let (base, rest) = type_expr(alloc, depth, rest)?;
+    Ok((Box::new(alloc, TypeExpr::Pointer { star, base })?, rest))
+}
+
+/// A function type. Go specification, "Function types".
+#[cycle(parser)]
+#[tactic(auto, using(go_grammar::proofs::Views::view_type_expr_function))]
+fn function_type(
+    alloc: Global,
+    depth: usize,
+    tokens: &[Token],
+) -> Result<(Box<TypeExpr>, &[Token]), Stop>
+    ensures { Gives (λ x. (view_type_expr x.0.value, x.1.now)) result (function_type_in (parsers depth) tokens.now) }
+{
+    let (word, rest) = skip(tokens, Kind::FuncWord)?;
+    let (signature, rest) = signature(alloc, depth, rest)?;
+    let signature = Box::new(alloc, signature)?;
+    let form = TypeExpr::Function { word, signature };
+    Ok((Box::new(alloc, form)?, rest))
+}
+
+/// Whether a slice, array, map, struct or interface type begins here.
+pub(crate) fn begins_with_bare_type(tokens: &[Token]) -> bool
+    ensures { result ≡ is_next begins_bare tokens.now }
+{
+    match tokens {
+        [] => false,
+        [first, ..] => matches!(
+            first.kind,
+            Kind::OpenBracket | Kind::MapWord | Kind::StructWord | Kind::InterfaceWord
+        ),
+    }
+}
+
+/// A slice, array, map, struct or interface type.
+#[cycle(parser)]
+fn bare_type(
+    alloc: Global,
+    depth: usize,
+    tokens: &[Token],
+) -> Result<(Box<TypeExpr>, &[Token]), Stop>
+    ensures { Gives (λ x. (view_type_expr x.0.value, x.1.now)) result (bare_in (parsers depth) tokens.now) }
+{
     match tokens {
         [] => Err(Stop::Unexpected),
         [first, rest @ ..] => match first.kind {
-            Kind::Name => {
-                let (name, rest) = type_name(tokens)?;
-                Ok((Box::new(alloc, TypeExpr::Name(name))?, rest))
-            }
-            Kind::OpenParen => {
-                let open = *first;
-                let (inner, rest) = type_expr(alloc, depth, rest)?;
-                let (close, rest) = skip(rest, Kind::CloseParen)?;
-                let form = TypeExpr::Paren { open, inner, close };
-                Ok((Box::new(alloc, form)?, rest))
-            }
-            Kind::Star => {
-                let star = *first;
-                let (base, rest) = type_expr(alloc, depth, rest)?;
-                Ok((Box::new(alloc, TypeExpr::Pointer { star, base })?, rest))
-            }
-            Kind::OpenBracket => bracket_type(alloc, depth, tokens),
-            Kind::MapWord => map_type(alloc, depth, tokens),
-            Kind::ChanWord | Kind::Arrow => chan_type(alloc, depth, tokens),
-            Kind::FuncWord => {
-                let word = *first;
-                let (signature, rest) = signature(alloc, depth, rest)?;
-                let signature = Box::new(alloc, signature)?;
-                Ok((
-                    Box::new(alloc, TypeExpr::Function { word, signature })?,
-                    rest,
-                ))
-            }
-            Kind::StructWord => struct_type(alloc, depth, tokens),
-            Kind::InterfaceWord => interface_type(alloc, depth, tokens),
+            Kind::OpenBracket => bracket_type(alloc, depth, *first, rest),
+            Kind::MapWord => map_type(alloc, depth, *first, rest),
+            Kind::StructWord => struct_type(alloc, depth, *first, rest),
+            Kind::InterfaceWord => interface_type(alloc, depth, *first, rest),
             _ => Err(Stop::Unexpected),
         },
     }
@@ -72,27 +182,31 @@ pub(crate) fn type_form(
 
 /// A slice type, or an array type. Go specification, "Slice types", "Array types".
 #[cycle(parser)]
+#[tactic(auto, using(go_grammar::proofs::Views::view_type_expr_slice, go_grammar::proofs::Views::view_type_expr_array))]
 fn bracket_type(
     alloc: Global,
     depth: usize,
+    bracket: Token,
     tokens: &[Token],
-) -> Result<(Box<TypeExpr>, &[Token]), Stop> {
-    let (open, rest) = skip(tokens, Kind::OpenBracket)?;
-    if begins_with(rest, Kind::CloseBracket) {
-        let (close, rest) = skip(rest, Kind::CloseBracket)?;
+) -> Result<(Box<TypeExpr>, &[Token]), Stop>
+    requires { bracket.kind ≡ kinds.OpenBracket }
+    ensures { Gives (λ x. (view_type_expr x.0.value, x.1.now)) result (bare_in (parsers depth) (bracket ∷ tokens.now)) }
+{
+    if begins_with(tokens, Kind::CloseBracket) {
+        let (close, rest) = skip(tokens, Kind::CloseBracket)?;
         let (element, rest) = type_expr(alloc, depth, rest)?;
         let form = TypeExpr::Slice {
-            open,
+            open: bracket,
             close,
             element,
         };
         return Ok((Box::new(alloc, form)?, rest));
     }
-    let (length, rest) = expr(alloc, depth, Context::Plain, LOOSE, rest)?;
+    let (length, rest) = expr(alloc, depth, Context::Plain, LOOSE, tokens)?;
     let (close, rest) = skip(rest, Kind::CloseBracket)?;
     let (element, rest) = type_expr(alloc, depth, rest)?;
     let form = TypeExpr::Array {
-        open,
+        open: bracket,
         length,
         close,
         element,
@@ -102,13 +216,17 @@ fn bracket_type(
 
 /// A map type. Go specification, "Map types".
 #[cycle(parser)]
+#[tactic(auto, using(go_grammar::proofs::Views::view_type_expr_map))]
 fn map_type(
     alloc: Global,
     depth: usize,
+    word: Token,
     tokens: &[Token],
-) -> Result<(Box<TypeExpr>, &[Token]), Stop> {
-    let (word, rest) = skip(tokens, Kind::MapWord)?;
-    let (open, rest) = skip(rest, Kind::OpenBracket)?;
+) -> Result<(Box<TypeExpr>, &[Token]), Stop>
+    requires { word.kind ≡ kinds.MapWord }
+    ensures { Gives (λ x. (view_type_expr x.0.value, x.1.now)) result (bare_in (parsers depth) (word ∷ tokens.now)) }
+{
+    let (open, rest) = skip(tokens, Kind::OpenBracket)?;
     let (key, rest) = type_expr(alloc, depth, rest)?;
     let (close, rest) = skip(rest, Kind::CloseBracket)?;
     let (element, rest) = type_expr(alloc, depth, rest)?;
@@ -124,28 +242,31 @@ fn map_type(
 
 /// A channel type. Go specification, "Channel types".
 #[cycle(parser)]
+#[tactic(auto, using(go_grammar::proofs::Views::view_type_expr_chan, go_grammar::proofs::Views::view_type_expr_receive_chan, crate::proofs::Lines::maybe_arrow))]
 fn chan_type(
     alloc: Global,
     depth: usize,
     tokens: &[Token],
-) -> Result<(Box<TypeExpr>, &[Token]), Stop> {
-    if begins_with(tokens, Kind::Arrow) {
-        let (arrow, rest) = skip(tokens, Kind::Arrow)?;
-        let (word, rest) = skip(rest, Kind::ChanWord)?;
+) -> Result<(Box<TypeExpr>, &[Token]), Stop>
+    ensures { Gives (λ x. (view_type_expr x.0.value, x.1.now)) result (run (at_type (parsers depth)) chan_plan tokens.now) }
+{
+    if begins_with(tokens, Kind::ChanWord) {
+        let (word, rest) = skip(tokens, Kind::ChanWord)?;
+        let (arrow, rest) = optional(rest, Kind::Arrow);
         let (element, rest) = type_expr(alloc, depth, rest)?;
-        let form = TypeExpr::ReceiveChan {
-            arrow,
+        let form = TypeExpr::Chan {
             word,
+            arrow,
             element,
         };
         return Ok((Box::new(alloc, form)?, rest));
     }
-    let (word, rest) = skip(tokens, Kind::ChanWord)?;
-    let (arrow, rest) = optional(rest, Kind::Arrow);
+    let (arrow, rest) = skip(tokens, Kind::Arrow)?;
+    let (word, rest) = skip(rest, Kind::ChanWord)?;
     let (element, rest) = type_expr(alloc, depth, rest)?;
-    let form = TypeExpr::Chan {
-        word,
+    let form = TypeExpr::ReceiveChan {
         arrow,
+        word,
         element,
     };
     Ok((Box::new(alloc, form)?, rest))
@@ -153,11 +274,14 @@ fn chan_type(
 
 /// Parameters and results. Go specification, "Function types".
 #[cycle(parser)]
+#[tactic(auto, using(go_grammar::proofs::Views::view_result_form_none, go_grammar::proofs::Views::view_result_form_params, go_grammar::proofs::Views::view_result_form_type_form))]
 pub(crate) fn signature(
     alloc: Global,
     depth: usize,
     tokens: &[Token],
-) -> Result<(Signature, &[Token]), Stop> {
+) -> Result<(Signature, &[Token]), Stop>
+    ensures { Gives (λ x. (view_signature x.0, x.1.now)) result (signature_in (parsers depth) tokens.now) }
+{
     let (inputs, rest) = params(alloc, depth, true, tokens)?;
     if begins_with(rest, Kind::OpenParen) {
         let (results, rest) = params(alloc, depth, false, rest)?;
@@ -173,7 +297,10 @@ pub(crate) fn signature(
 }
 
 /// A signature of its parts.
-fn signature_of(params: Params, results: ResultForm) -> Signature {
+#[tactic(auto, using(go_grammar::proofs::Views::view_signature_made))]
+fn signature_of(params: Params, results: ResultForm) -> Signature
+    ensures { view_signature result ≡ tree forms.SignatureForm (append (view_params params) (view_result_form results)) }
+{
     Signature {
         params,
         result: results,
@@ -186,7 +313,9 @@ pub(crate) fn optional_type(
     alloc: Global,
     depth: usize,
     tokens: &[Token],
-) -> Result<(Option<Box<TypeExpr>>, &[Token]), Stop> {
+) -> Result<(Option<Box<TypeExpr>>, &[Token]), Stop>
+    ensures { Gives (λ x. (if_some (λ (y : Box TypeExpr). view_type_expr y.value) x.0, x.1.now)) result (either_in begins_type_at (parsers depth).type_expr (λ tokens. Some (empty, tokens)) tokens.now) }
+{
     if !begins_with_type(tokens) {
         return Ok((None, tokens));
     }
@@ -201,58 +330,41 @@ pub(crate) fn params(
     depth: usize,
     variadic: bool,
     tokens: &[Token],
-) -> Result<(Params, &[Token]), Stop> {
+) -> Result<(Params, &[Token]), Stop>
+    ensures { Gives (λ x. (view_params x.0, x.1.now)) result (params_in (parsers depth) variadic tokens.now) }
+{
     let (open, rest) = skip(tokens, Kind::OpenParen)?;
-    let (entries, rest) = param_entries(alloc, depth, rest)?;
+    let (list, rest) = param_entries(alloc, depth, rest)?;
     let (close, rest) = skip(rest, Kind::CloseParen)?;
-    let params = grouped(alloc, variadic, entries)?;
-    Ok((
-        Params {
-            open,
-            params,
-            close,
-        },
-        rest,
-    ))
+    let params = grouped(alloc, variadic, list)?;
+    Ok((params_of(open, params, close), rest))
 }
 
-/// Types up to a closing parenthesis, each with at most the last of its names. A name that has its type further behind
-/// is read as a type.
-#[cycle(parser)]
-fn param_entries(
-    alloc: Global,
-    depth: usize,
-    tokens: &[Token],
-) -> Result<(Vec<Param>, &[Token]), Stop> {
-    let mut entries = Vec::new(alloc);
-    let mut rest = tokens;
-    for _ in 0..tokens.len() {
-        if begins_with(rest, Kind::CloseParen) {
-            return Ok((entries, rest));
-        }
-        let (names, ellipsis, after) = param_front(alloc, rest)?;
-        let (form, after) = type_expr(alloc, depth, after)?;
-        let (comma, after) = separator(after, Kind::CloseParen)?;
-        entries.push(Param {
-            names,
-            ellipsis,
-            form,
-            comma,
-        })?;
-        rest = after;
+/// Parameters in their parentheses.
+#[tactic(auto, using(go_grammar::proofs::Views::view_params_made))]
+fn params_of(bracket: Token, params: Vec<Param>, close: Token) -> Params
+    ensures { view_params result ≡ tree forms.ParamsForm (append (leaf bracket empty) (append (each view_param params.items) (leaf close empty))) }
+{
+    Params {
+        open: bracket,
+        params,
+        close,
     }
-    Ok((entries, rest))
 }
 
 /// A struct type. Go specification, "Struct types".
 #[cycle(parser)]
+#[tactic(auto, using(go_grammar::proofs::Views::view_type_expr_struct))]
 fn struct_type(
     alloc: Global,
     depth: usize,
+    word: Token,
     tokens: &[Token],
-) -> Result<(Box<TypeExpr>, &[Token]), Stop> {
-    let (word, rest) = skip(tokens, Kind::StructWord)?;
-    let (open, rest) = skip(rest, Kind::OpenBrace)?;
+) -> Result<(Box<TypeExpr>, &[Token]), Stop>
+    requires { word.kind ≡ kinds.StructWord }
+    ensures { Gives (λ x. (view_type_expr x.0.value, x.1.now)) result (bare_in (parsers depth) (word ∷ tokens.now)) }
+{
+    let (open, rest) = skip(tokens, Kind::OpenBrace)?;
     let (fields, rest) = field_lines(alloc, depth, rest)?;
     let (close, rest) = skip(rest, Kind::CloseBrace)?;
     let form = TypeExpr::Struct {
@@ -270,7 +382,9 @@ fn field_lines(
     alloc: Global,
     depth: usize,
     tokens: &[Token],
-) -> Result<(Vec<FieldLine>, &[Token]), Stop> {
+) -> Result<(Vec<FieldLine>, &[Token]), Stop>
+    ensures { Gives (λ x. (each view_field_line x.0.items, x.1.now)) result (field_lines_in (parsers depth) tokens.now) }
+{
     let mut lines = Vec::new(alloc);
     let mut rest = tokens;
     for _ in 0..tokens.len() {
@@ -286,11 +400,10 @@ fn field_lines(
 
 /// A field declaration, or nothing, and the semicolon behind it.
 #[cycle(parser)]
-fn field_line(
-    alloc: Global,
-    depth: usize,
-    tokens: &[Token],
-) -> Result<(FieldLine, &[Token]), Stop> {
+#[tactic(auto, using(go_grammar::proofs::Views::view_field_line_empty, go_grammar::proofs::Views::view_field_line_named, crate::proofs::Lines::braces_end))]
+fn field_line(alloc: Global, depth: usize, tokens: &[Token]) -> Result<(FieldLine, &[Token]), Stop>
+    ensures { Gives (λ x. (view_field_line x.0, x.1.now)) result (field_line_in (parsers depth) tokens.now) }
+{
     if begins_with_semicolon(tokens) {
         let (semicolon, rest) = semicolon(tokens)?;
         return Ok((FieldLine::Empty(semicolon), rest));
@@ -313,13 +426,17 @@ fn field_line(
 
 /// An interface type. Go specification, "Interface types".
 #[cycle(parser)]
+#[tactic(auto, using(go_grammar::proofs::Views::view_type_expr_interface))]
 fn interface_type(
     alloc: Global,
     depth: usize,
+    word: Token,
     tokens: &[Token],
-) -> Result<(Box<TypeExpr>, &[Token]), Stop> {
-    let (word, rest) = skip(tokens, Kind::InterfaceWord)?;
-    let (open, rest) = skip(rest, Kind::OpenBrace)?;
+) -> Result<(Box<TypeExpr>, &[Token]), Stop>
+    requires { word.kind ≡ kinds.InterfaceWord }
+    ensures { Gives (λ x. (view_type_expr x.0.value, x.1.now)) result (bare_in (parsers depth) (word ∷ tokens.now)) }
+{
+    let (open, rest) = skip(tokens, Kind::OpenBrace)?;
     let (elements, rest) = element_lines(alloc, depth, rest)?;
     let (close, rest) = skip(rest, Kind::CloseBrace)?;
     let form = TypeExpr::Interface {
@@ -337,7 +454,9 @@ fn element_lines(
     alloc: Global,
     depth: usize,
     tokens: &[Token],
-) -> Result<(Vec<ElementLine>, &[Token]), Stop> {
+) -> Result<(Vec<ElementLine>, &[Token]), Stop>
+    ensures { Gives (λ x. (each view_element_line x.0.items, x.1.now)) result (element_lines_in (parsers depth) tokens.now) }
+{
     let mut lines = Vec::new(alloc);
     let mut rest = tokens;
     for _ in 0..tokens.len() {
@@ -353,11 +472,14 @@ fn element_lines(
 
 /// A method or an embedded interface, or nothing, and the semicolon behind it.
 #[cycle(parser)]
+#[tactic(auto, using(go_grammar::proofs::Views::view_element_line_empty, go_grammar::proofs::Views::view_element_line_method, go_grammar::proofs::Views::view_element_line_embedded, crate::proofs::Lines::braces_end))]
 fn element_line(
     alloc: Global,
     depth: usize,
     tokens: &[Token],
-) -> Result<(ElementLine, &[Token]), Stop> {
+) -> Result<(ElementLine, &[Token]), Stop>
+    ensures { Gives (λ x. (view_element_line x.0, x.1.now)) result (element_line_in (parsers depth) tokens.now) }
+{
     if begins_with_semicolon(tokens) {
         let (semicolon, rest) = semicolon(tokens)?;
         return Ok((ElementLine::Empty(semicolon), rest));
@@ -377,4 +499,44 @@ fn element_line(
     let (name, rest) = type_name(tokens)?;
     let (semicolon, rest) = line_end(rest, Kind::CloseBrace)?;
     Ok((ElementLine::Embedded { name, semicolon }, rest))
+}
+
+/// Parameters as they are read, up to a closing parenthesis.
+#[cycle(parser)]
+fn param_entries(
+    alloc: Global,
+    depth: usize,
+    tokens: &[Token],
+) -> Result<(Vec<Entry>, &[Token]), Stop>
+    ensures { Gives (λ x. (entries x.0.items, x.1.now)) result (entries_in (parsers depth) (length tokens.now) tokens.now) }
+{
+    let mut list = Vec::new(alloc);
+    let mut rest = tokens;
+    for _ in 0..tokens.len() {
+        if begins_with(rest, Kind::CloseParen) {
+            return Ok((list, rest));
+        }
+        let (entry, after) = param_entry(alloc, depth, rest)?;
+        list.push(entry)?;
+        rest = after;
+    }
+    Ok((list, rest))
+}
+
+/// A parameter as it is read: its type, a name that stands before it, and the comma behind it.
+#[cycle(parser)]
+fn param_entry(alloc: Global, depth: usize, tokens: &[Token]) -> Result<(Entry, &[Token]), Stop>
+    ensures { Gives (λ x. (view_entry x.0, x.1.now)) result (entry_in (parsers depth) tokens.now) }
+{
+    let (name, rest) = param_name(tokens);
+    let (ellipsis, rest) = optional(rest, Kind::Ellipsis);
+    let (form, rest) = type_expr(alloc, depth, rest)?;
+    let (comma, rest) = separator(rest, Kind::CloseParen)?;
+    let entry = Entry {
+        name,
+        ellipsis,
+        form,
+        comma,
+    };
+    Ok((entry, rest))
 }

@@ -1,0 +1,223 @@
+-- What readers of statements read, in the order of their steps.
+use Rattle.std.proofs.Common.{◌≡◌, ℕ, ◌-◌, ◌++◌, Bool, true, false, List, [], ◌∷◌, length, Option, Some, None, refl, sym, ap, ◌∙◌, arith}
+use Rattle.std.specs.Prelude.{◌||◌, not, if◌then◌else◌}
+use Rattle.std.specs.Global.{Box, Vec}
+use Rattle.go_ast.specs.declared.token.Token.{Token}
+use Rattle.go_ast.specs.declared.token.Kind.TheVariants as kinds
+use Rattle.go_syntax.specs.declared.decls.Decl.{Decl}
+use Rattle.go_syntax.specs.declared.exprs.Expr.{Expr}
+use Rattle.go_syntax.specs.declared.stmts.Stmt.{Stmt}
+use Rattle.go_syntax.specs.declared.type_exprs.ElementLine.{ElementLine}
+use Rattle.go_syntax.specs.declared.type_exprs.FieldLine.{FieldLine}
+use Rattle.go_syntax.specs.declared.type_exprs.ResultForm.{ResultForm}
+use Rattle.go_syntax.specs.declared.type_exprs.TypeExpr.{TypeExpr}
+use Rattle.go_syntax.specs.declared.decls.FuncDecl.{FuncDecl}
+use Rattle.go_syntax.specs.declared.decls.TypeSpec.{TypeSpec}
+use Rattle.go_syntax.specs.declared.decls.ValueSpec.{ValueSpec}
+use Rattle.go_syntax.specs.declared.exprs.Element.{Element}
+use Rattle.go_syntax.specs.declared.exprs.ListedExpr.{ListedExpr}
+use Rattle.go_syntax.specs.declared.stmts.Block.{Block}
+use Rattle.go_syntax.specs.declared.stmts.CaseClause.{CaseClause}
+use Rattle.go_syntax.specs.declared.stmts.CommClause.{CommClause}
+use Rattle.go_syntax.specs.declared.stmts.ForStmt.{ForStmt}
+use Rattle.go_syntax.specs.declared.stmts.IfArm.{IfArm}
+use Rattle.go_syntax.specs.declared.stmts.RangeStmt.{RangeStmt}
+use Rattle.go_syntax.specs.declared.stmts.StmtLine.{StmtLine}
+use Rattle.go_syntax.specs.declared.stmts.SwitchStmt.{SwitchStmt}
+use Rattle.go_syntax.specs.declared.stmts.TypeSwitchStmt.{TypeSwitchStmt}
+use Rattle.go_syntax.specs.declared.type_exprs.Param.{Param}
+use Rattle.go_syntax.specs.declared.type_exprs.Params.{Params}
+use Rattle.go_syntax.specs.declared.type_exprs.Signature.{Signature}
+use Rattle.go_syntax.specs.declared.stmts.Binding.{Binding}
+use Rattle.go_syntax.specs.declared.stmts.Label.{Label}
+use Rattle.go_syntax.specs.declared.type_exprs.ListedName.{ListedName}
+use Rattle.go_syntax.specs.declared.type_exprs.NamedType.{NamedType}
+use Rattle.go_syntax.specs.declared.decls.Decl.TheOpen.{SwitchStmt-F, TypeSwitchStmt-F, IfArm-F, ForStmt-F, RangeStmt-F}
+use Rattle.go_syntax.specs.declared.decls.Decl.TheViews.{roll-SwitchStmt, roll-TypeSwitchStmt, roll-IfArm, roll-ForStmt, roll-RangeStmt}
+use Rattle.go_syntax.specs.declared.stmts.Stmt.TheVariants as stmts
+use Rattle.go_grammar.specs.Forests as forms
+use Rattle.go_grammar.specs.Forests.{Form, Forest, empty, leaf, node, append}
+use Rattle.go_grammar.specs.Grammar.{is_assign, is_step}
+use Rattle.go_grammar.specs.Shapes.{is}
+use Rattle.go_ast.specs.declared.token.Kind.{Kind}
+use Rattle.go_grammar.specs.Reading.{Reader, ◌>>=◌, many_in, then_in, either_in, node_in, sign_in, is_next, run}
+use Rattle.go_grammar.specs.Tests.{begins, begins_both, word_in}
+use Rattle.go_grammar.specs.TypeReading.{Parsers, Place, Plain, Header, Item}
+use Rattle.go_grammar.specs.ExprReading.{Left, block_in, context_of, is_item}
+use Rattle.go_grammar.specs.StmtReading.{HeaderParts, at_clauses, at_part, bound_of, guard_of, guard_plan, is_primary, primary_of, switch_rest_in, begins_decl, expr, items, if_rest_in, behind_list, is_single, simple_rest_in, unlabeled_in, decl_in, exprs_in, goes_on}
+use Rattle.go_grammar.specs.View.{one, tree, ◌⊕◌, if_some, each, token_if, view_expr, view_stmt, view_block, view_listed_expr, view_binding, view_case_clause, view_if_arm, view_switch_stmt, view_type_switch_stmt, view_for_stmt, view_range_stmt}
+use Rattle.go_grammar.proofs.Forests.{append-empty, append-assoc}
+use Rattle.go_grammar.proofs.Views.{view_stmt_switch, view_stmt_type_switch, view_switch_stmt_made, view_type_switch_stmt_made, view_if_arm_made, view_stmt_break, view_stmt_continue, view_stmt_fallthrough, view_stmt_decl, view_stmt_labeled, view_stmt_line_made, view_stmt_return, view_stmt_if, view_stmt_send, view_stmt_step, view_stmt_assign, view_stmt_define, view_stmt_expr, view_case_clause_made, view_stmt_for, view_for_stmt_made, view_stmt_range, view_range_stmt_made}
+use Rattle.go_grammar.specs.FileReading.{parsers}
+use Rattle.go_grammar.proofs.Nodes.{behind_exprs, primary_single}
+use Rattle.go_grammar.proofs.ParamTakes.{params_takes, results_takes}
+use Rattle.go_grammar.proofs.SoundReading.{all_sound}
+use Rattle.go_grammar.proofs.StmtTakes.{exprs_takes}
+use Rattle.go_readers.specs.Expressions.{list_in}
+use Rattle.go_readers.specs.Statements.{boxed_expr, boxed_stmt, label_in, labels_in, statement_in, arm_in, arms_in, else_arm_in, if_in, branch_in, suffix_in, clauses_in, begins_branch, begins_decl_at, IsList, IsSplitAt, compound_in, go_in, defer_in, return_in}
+use Rattle.go_readers.proofs.Loops.{behind, behind_both}
+use Rattle.go_readers.proofs.Words.{before_braces}
+
+-- ---- pieces that are read one after the other, or together
+
+-- three pieces, of which two are read together
+pub then_assoc : (a b c : Reader) (tokens : List Token) → then_in a (then_in b c) tokens ≡ then_in (then_in a b) c tokens
+then_assoc a b c tokens = first (a tokens)
+  where
+    second : (x : Left) (o : Option Left) → behind x.0 (o >>= (λ y. behind y.0 (c y.1))) ≡ (behind x.0 o >>= (λ r. behind r.0 (c r.1)))
+    second x None = refl
+    second x (Some y) = behind_both x.0 y.0 (c y.1)
+
+    first : (o : Option Left) → (o >>= (λ x. behind x.0 (then_in b c x.1))) ≡ ((o >>= (λ x. behind x.0 (b x.1))) >>= (λ r. behind r.0 (c r.1)))
+    first None = refl
+    first (Some x) = second x (b x.1)
+
+-- what is read, below a node behind this
+abbrev pub below_node : Form → Forest → Option Left → Option Left
+below_node form front read = read >>= λ x. Some (node form (append front x.0) empty, x.1)
+
+pub below_both : (form : Form) (front next : Forest) (read : Option Left) → below_node form front (behind next read) ≡ below_node form (append front next) read
+below_both form front next None = refl
+below_both form front next (Some x) = ap (λ (tree : Forest). Some (node form tree empty, x.1)) (sym (append-assoc front next x.0))
+
+-- a list whose first item stands alone
+pub first_start : (test : List Token → Bool) (first item : Reader) (front x : Forest) (tokens rest : List Token) (n i : ℕ) → first tokens ≡ Some (x, rest) → front ≡ x → n ≡ length rest → i ≡ 0
+    → behind front (many_in test item (n - i) rest) ≡ then_in first (λ behind. many_in test item (length behind) behind) tokens
+first_start test first item front x tokens rest n i h f e z =
+    let k : n - i ≡ length rest = omega arith in
+    rw (h, f, k) refl
+
+pub first_push : {A : Type 0} (view : A → Forest) (none items : List A) (x : A) → items ≡ none ++ x ∷ [] → none ≡ [] → each view items ≡ view x
+first_push view none items x e n =
+    let one_item : items ≡ x ∷ [] = rw (e, n) refl in
+    ap (each view) one_item ∙ append-empty (view x)
+
+-- ---- views
+
+pub switch_made : (x : SwitchStmt-F Decl Expr Stmt ElementLine FieldLine ResultForm TypeExpr FuncDecl TypeSpec ValueSpec Element ListedExpr Block CaseClause CommClause ForStmt IfArm RangeStmt StmtLine SwitchStmt TypeSwitchStmt Param Params Signature) → view_switch_stmt (roll-SwitchStmt x) ≡ tree forms.SwitchForm (one x.word ⊕ (if_some boxed_stmt x.init ⊕ token_if x.semicolon) ⊕ if_some boxed_expr x.tag ⊕ one x.«open» ⊕ each view_case_clause x.clauses.items ⊕ one x.close)
+switch_made x = view_switch_stmt_made x ∙ ap (λ (seen : Forest). tree forms.SwitchForm (one x.word ⊕ seen)) (sym (append-assoc (if_some boxed_stmt x.init) (token_if x.semicolon) (if_some boxed_expr x.tag ⊕ one x.«open» ⊕ each view_case_clause x.clauses.items ⊕ one x.close)))
+
+pub ruleset switches = (view_stmt_switch, switch_made)
+
+pub type_switch_made : (x : TypeSwitchStmt-F Decl Expr Stmt ElementLine FieldLine ResultForm TypeExpr FuncDecl TypeSpec ValueSpec Element ListedExpr Block CaseClause CommClause ForStmt IfArm RangeStmt StmtLine SwitchStmt TypeSwitchStmt Param Params Signature) → view_type_switch_stmt (roll-TypeSwitchStmt x) ≡ tree forms.TypeSwitchForm (one x.word ⊕ (if_some boxed_stmt x.init ⊕ token_if x.semicolon) ⊕ (if_some view_binding x.binding ⊕ boxed_expr x.operand) ⊕ one x.dot ⊕ one x.open_paren ⊕ one x.type_word ⊕ one x.close_paren ⊕ one x.«open» ⊕ each view_case_clause x.clauses.items ⊕ one x.close)
+type_switch_made x =
+    let behind : Forest = one x.dot ⊕ one x.open_paren ⊕ one x.type_word ⊕ one x.close_paren ⊕ one x.«open» ⊕ each view_case_clause x.clauses.items ⊕ one x.close in
+    view_type_switch_stmt_made x
+    ∙ ap (λ (seen : Forest). tree forms.TypeSwitchForm (one x.word ⊕ seen)) (sym (append-assoc (if_some boxed_stmt x.init) (token_if x.semicolon) (if_some view_binding x.binding ⊕ boxed_expr x.operand ⊕ behind)))
+    ∙ ap (λ (seen : Forest). tree forms.TypeSwitchForm (one x.word ⊕ (if_some boxed_stmt x.init ⊕ token_if x.semicolon) ⊕ seen)) (sym (append-assoc (if_some view_binding x.binding) (boxed_expr x.operand) behind))
+
+pub ruleset type_switches = (view_stmt_type_switch, type_switch_made)
+
+pub arm_made : (x : IfArm-F Decl Expr Stmt ElementLine FieldLine ResultForm TypeExpr FuncDecl TypeSpec ValueSpec Element ListedExpr Block CaseClause CommClause ForStmt IfArm RangeStmt StmtLine SwitchStmt TypeSwitchStmt Param Params Signature) → view_if_arm (roll-IfArm x) ≡ tree forms.ArmForm (token_if x.else_word ⊕ one x.word ⊕ (if_some boxed_stmt x.init ⊕ token_if x.semicolon) ⊕ boxed_expr x.condition ⊕ view_block x.body)
+arm_made x = view_if_arm_made x ∙ ap (λ (seen : Forest). tree forms.ArmForm (token_if x.else_word ⊕ one x.word ⊕ seen)) (sym (append-assoc (if_some boxed_stmt x.init) (token_if x.semicolon) (boxed_expr x.condition ⊕ view_block x.body)))
+
+pub ruleset arms = (arm_made)
+
+pub for_made : (x : ForStmt-F Decl Expr Stmt ElementLine FieldLine ResultForm TypeExpr FuncDecl TypeSpec ValueSpec Element ListedExpr Block CaseClause CommClause ForStmt IfArm RangeStmt StmtLine SwitchStmt TypeSwitchStmt Param Params Signature) → view_for_stmt (roll-ForStmt x) ≡ tree forms.ForForm (one x.word ⊕ if_some boxed_stmt x.init ⊕ one x.first ⊕ (if_some boxed_expr x.condition ⊕ one x.second) ⊕ if_some boxed_stmt x.post ⊕ view_block x.body)
+for_made x = view_for_stmt_made x ∙ ap (λ (seen : Forest). tree forms.ForForm (one x.word ⊕ if_some boxed_stmt x.init ⊕ one x.first ⊕ seen)) (sym (append-assoc (if_some boxed_expr x.condition) (one x.second) (if_some boxed_stmt x.post ⊕ view_block x.body)))
+
+pub range_made : (x : RangeStmt-F Decl Expr Stmt ElementLine FieldLine ResultForm TypeExpr FuncDecl TypeSpec ValueSpec Element ListedExpr Block CaseClause CommClause ForStmt IfArm RangeStmt StmtLine SwitchStmt TypeSwitchStmt Param Params Signature) → view_range_stmt (roll-RangeStmt x) ≡ tree forms.RangeForm (one x.word ⊕ (each view_listed_expr x.targets.items ⊕ token_if x.operator) ⊕ one x.range ⊕ boxed_expr x.operand ⊕ view_block x.body)
+range_made x = view_range_stmt_made x ∙ ap (λ (seen : Forest). tree forms.RangeForm (one x.word ⊕ seen)) (sym (append-assoc (each view_listed_expr x.targets.items) (token_if x.operator) (one x.range ⊕ boxed_expr x.operand ⊕ view_block x.body)))
+
+pub ruleset fors = (view_stmt_for, for_made)
+
+pub ruleset ranges = (view_stmt_range, range_made)
+
+pub ruleset branches = (view_stmt_break, view_stmt_continue, view_stmt_fallthrough)
+
+-- an `if` without a last `else`
+pub if_alone : (arms : Vec IfArm) → view_stmt (stmts.If arms None None) ≡ tree forms.IfForm (each view_if_arm arms.items)
+if_alone arms = view_stmt_if arms None None ∙ ap (tree forms.IfForm) (append-empty (each view_if_arm arms.items))
+
+-- an `if` with a last `else`
+pub else_seen : (stmt : Stmt) (arms : Vec IfArm) (else_word : Token) (held : Box Block) (block : Block) → stmt ≡ stmts.If arms (Some else_word) (Some held) → held.value ≡ block → Some (tree forms.IfForm (each view_if_arm arms.items ⊕ one else_word ⊕ view_block block)) ≡ Some (view_stmt stmt)
+else_seen stmt arms else_word held block e h =
+    let seen : view_stmt stmt ≡ tree forms.IfForm (each view_if_arm arms.items ⊕ one else_word ⊕ view_block held.value) = ap view_stmt e ∙ view_stmt_if arms (Some else_word) (Some held) in
+    ap (λ (body : Block). Some (tree forms.IfForm (each view_if_arm arms.items ⊕ one else_word ⊕ view_block body))) (sym h) ∙ ap (λ (seen : Forest). Some seen) (sym seen)
+
+-- ---- statements
+
+decl_kind : (kind : Kind) → begins_decl kind ≡ (is kind kinds.ConstWord || is kind kinds.TypeWord || is kind kinds.VarWord)
+decl_kind kinds.ConstWord = refl
+decl_kind kinds.TypeWord = refl
+decl_kind kinds.VarWord = refl
+decl_kind _ = refl
+
+next_decl : (tokens : List Token) → is_next begins_decl tokens ≡ begins_decl_at tokens
+next_decl [] = refl
+next_decl (token ∷ tokens) = decl_kind token.kind
+
+one_of_three : {A : Type 0} (a b c : Bool) (x y z other : A) → (a || b || c) ≡ true → (if a then x else (if b then y else (if c then z else other))) ≡ (if a then x else (if b then y else z))
+one_of_three true b c x y z other h = refl
+one_of_three false true c x y z other h = refl
+one_of_three false false true x y z other h = refl
+one_of_three false false false x y z other h = absurd cc
+
+none_of_three : {A : Type 0} (a b c : Bool) (x y z other : A) → (a || b || c) ≡ false → (if a then x else (if b then y else (if c then z else other))) ≡ other
+none_of_three true b c x y z other h = absurd cc
+none_of_three false true c x y z other h = absurd cc
+none_of_three false false true x y z other h = absurd cc
+none_of_three false false false x y z other h = refl
+
+module _ (p : Parsers) (tokens : List Token) where
+  pub decl_first : begins_decl_at tokens ≡ true → unlabeled_in p tokens ≡ decl_in p tokens
+  decl_first h = let d : is_next begins_decl tokens ≡ true = next_decl tokens ∙ h in rw d refl
+
+  pub go_first : begins_decl_at tokens ≡ false → begins kinds.GoWord tokens ≡ true → unlabeled_in p tokens ≡ go_in p tokens
+  go_first h g = let d : is_next begins_decl tokens ≡ false = next_decl tokens ∙ h in rw (d, g) refl
+
+  pub defer_first : begins_decl_at tokens ≡ false → begins kinds.GoWord tokens ≡ false → begins kinds.DeferWord tokens ≡ true → unlabeled_in p tokens ≡ defer_in p tokens
+  defer_first h g f = let d : is_next begins_decl tokens ≡ false = next_decl tokens ∙ h in rw (d, g, f) refl
+
+  pub return_first : begins_decl_at tokens ≡ false → begins kinds.GoWord tokens ≡ false → begins kinds.DeferWord tokens ≡ false → begins kinds.ReturnWord tokens ≡ true → unlabeled_in p tokens ≡ return_in p tokens
+  return_first h g f r = let d : is_next begins_decl tokens ≡ false = next_decl tokens ∙ h in rw (d, g, f, r) refl
+
+  pub branch_first : begins_decl_at tokens ≡ false → begins kinds.GoWord tokens ≡ false → begins kinds.DeferWord tokens ≡ false → begins kinds.ReturnWord tokens ≡ false → begins_branch tokens ≡ true → unlabeled_in p tokens ≡ branch_in tokens
+  branch_first h g f r b = let d : is_next begins_decl tokens ≡ false = next_decl tokens ∙ h in rw (d, g, f, r) (one_of_three (begins kinds.BreakWord tokens) (begins kinds.ContinueWord tokens) (begins kinds.FallthroughWord tokens) _ _ _ (compound_in p tokens) b)
+
+  pub compound_last : begins_decl_at tokens ≡ false → begins kinds.GoWord tokens ≡ false → begins kinds.DeferWord tokens ≡ false → begins kinds.ReturnWord tokens ≡ false → begins_branch tokens ≡ false → unlabeled_in p tokens ≡ compound_in p tokens
+  compound_last h g f r b = let d : is_next begins_decl tokens ≡ false = next_decl tokens ∙ h in rw (d, g, f, r) (none_of_three (begins kinds.BreakWord tokens) (begins kinds.ContinueWord tokens) (begins kinds.FallthroughWord tokens) _ _ _ (compound_in p tokens) b)
+
+pub ruleset unlabeled = (view_stmt_decl, decl_first, go_first, defer_first, return_first, branch_first, compound_last)
+
+pub else_arm_by : (p : Parsers) (tokens rest : List Token) (else_word : Token) → word_in kinds.ElseWord tokens ≡ Some (one else_word, rest) → else_arm_in p tokens ≡ arm_in p (one else_word) rest
+else_arm_by p tokens rest else_word h = rw h (below_both forms.ArmForm empty (one else_word) (if_rest_in p rest))
+
+pub labeled_by : (p : Parsers) (tokens : List Token) → begins_both kinds.Name kinds.Colon tokens ≡ true → statement_in p tokens ≡ node_in forms.LabeledForm (then_in labels_in (either_in goes_on (unlabeled_in p) (λ rest. Some (empty, rest)))) tokens
+labeled_by p tokens h =
+    let inner : Reader = either_in goes_on (unlabeled_in p) (λ rest. Some (empty, rest)) in
+    rw h (ap (below_node forms.LabeledForm empty)
+    (then_assoc label_in (λ behind. many_in (begins_both kinds.Name kinds.Colon) label_in (length behind) behind) inner tokens))
+
+pub ruleset labeled = (labeled_by, view_stmt_labeled)
+
+pub if_by_arms : (p : Parsers) (tokens : List Token) → if_in p tokens ≡ node_in forms.IfForm (then_in (arms_in p) (either_in (begins kinds.ElseWord) (then_in (word_in kinds.ElseWord) (block_in p)) (λ rest. Some (empty, rest)))) tokens
+if_by_arms p tokens =
+    ap (below_node forms.IfForm empty)
+    (then_assoc (arm_in p empty) (λ behind. many_in (begins_both kinds.ElseWord kinds.IfWord) (else_arm_in p) (length behind) behind) (either_in (begins kinds.ElseWord) (then_in (word_in kinds.ElseWord) (block_in p)) (λ rest. Some (empty, rest))) tokens)
+
+pub ruleset lines = (view_stmt_line_made, before_braces)
+
+-- ---- lists of expressions
+
+-- the items of a `case`
+pub items_listed : (p : Parsers) (tokens : List Token) → run (at_part p) items tokens ≡ list_in p Item tokens
+items_listed p tokens = refl
+
+pub exprs_listed : (p : Parsers) (place : Place) (tokens : List Token) → is_item place ≡ false → exprs_in p (context_of place) tokens ≡ list_in p place tokens
+exprs_listed p Plain tokens h = refl
+exprs_listed p Header tokens h = refl
+exprs_listed p Item tokens h = absurd cc
+
+-- what is read as a list of expressions holds no token but commas, and trees
+pub exprs_list : (depth : ℕ) (place : Place) (tokens rest : List Token) (trees : Forest) → is_item place ≡ false → list_in (parsers depth) place tokens ≡ Some (trees, rest) → IsList trees
+exprs_list depth place tokens rest trees i e =
+    let s = all_sound depth in
+    let g = (exprs_takes (parsers depth) s (params_takes (parsers depth) s) (results_takes (parsers depth) s) (context_of place) tokens).given (trees, rest) (exprs_listed (parsers depth) place tokens i ∙ e) in
+    behind_exprs (context_of place) g.fine
+
+pub ruleset listed = (exprs_listed)
+
+pub ruleset cases = (items_listed, view_case_clause_made)
+
+pub ruleset returned = (view_stmt_return)

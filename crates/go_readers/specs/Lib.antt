@@ -1,0 +1,9 @@
+pub mod Giving
+pub mod Words
+pub mod Lines
+pub mod Entries
+pub mod Specs
+pub mod Funcs
+pub mod Expressions
+pub mod Operands
+pub mod Statements
