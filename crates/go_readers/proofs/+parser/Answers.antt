@@ -158,6 +158,25 @@ exprs::elements-loop-preserved t c =
     c.loop-test.true (ap not (sym c.begins_with.ensures ∙ c.if-begins_with.false)) c.in_ok-element.ensures
     (ap (each view_element) c.in_ok-push.ensures.items ∙ each_push view_element c.loop.elements.items c.in_ok-element.element) c.loop.invariant
 
+pub exprs::elements-returns-then-begins_with : goal.exprs::elements-returns-then-begins_with
+exprs::elements-returns-then-begins_with t c =
+    many_done (not_closed CloseBrace) (separated_in (element_in (parsers c.args.depth))) (length c.args.tokens.now - c.loop.counter) (each view_element c.loop.elements.items) c.loop.rest.now
+    (many_in (not_closed CloseBrace) (separated_in (element_in (parsers c.args.depth))) (length c.args.tokens.now) c.args.tokens.now)
+    (ap not (sym c.begins_with.ensures ∙ c.if-begins_with.true)) c.loop.invariant
+
+pub exprs::elements-returns : goal.exprs::elements-returns
+exprs::elements-returns t c =
+    many_over (not_closed CloseBrace) (separated_in (element_in (parsers c.args.depth))) (length c.args.tokens.now) c.loop.counter (each view_element c.loop.elements.items) c.loop.rest.now
+    (many_in (not_closed CloseBrace) (separated_in (element_in (parsers c.args.depth))) (length c.args.tokens.now) c.args.tokens.now) c.loop-test.false c.loop.invariant
+
+pub exprs::elements-returns-in_err-element : goal.exprs::elements-returns-in_err-element
+exprs::elements-returns-in_err-element t c =
+    let fails : Fails c.in_err-element.field-0.0 (many_in (not_closed CloseBrace) (separated_in (element_in (parsers c.args.depth))) (length c.args.tokens.now) c.args.tokens.now) =
+    many_fails (not_closed CloseBrace) (separated_in (element_in (parsers c.args.depth))) c.in_err-element.field-0.0 (length c.args.tokens.now) c.loop.counter (each view_element c.loop.elements.items) c.loop.rest.now
+    (many_in (not_closed CloseBrace) (separated_in (element_in (parsers c.args.depth))) (length c.args.tokens.now) c.args.tokens.now)
+    c.loop-test.true (ap not (sym c.begins_with.ensures ∙ c.if-begins_with.false)) c.in_err-element.ensures c.loop.invariant in
+    search rules
+
 pub exprs::expr_list-loop-preserved : goal.exprs::expr_list-loop-preserved
 exprs::expr_list-loop-preserved t c =
     many_on goes_on (then_in (word_in Comma) ((parsers c.args.depth).expr (view_context c.args.context) 1)) (length c.in_ok-expr.rest.now) c.loop.counter
