@@ -12,3 +12,9 @@ pub mod Sources
 pub mod Refusals
 pub mod Reading
 pub mod Packages
+pub mod Imports
+pub mod Projects
+pub mod Programs
+pub mod Finding
+pub mod FileReading
+pub mod Loading

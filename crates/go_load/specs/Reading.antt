@@ -7,7 +7,7 @@ use Rattle.go_ast.specs.declared.token.Token.{Token}
 use Rattle.go_ast.specs.Lexical.{IsTokenList, IsFault}
 use Rattle.go_syntax.specs.declared.decls.FileTree.{FileTree}
 use Rattle.go_syntax.specs.Reach.{reach_index}
-use Rattle.go_parse.specs.Refusal.{DecidesReach, IsWithin}
+use Rattle.go_parse.specs.Refusal.{DecidesReach, IsParsed}
 use Rattle.go_parse.specs.declared.stop.ParseError.{ParseError}
 use Rattle.go_parse.specs.declared.stop.ParseError.TheVariants as parses
 use Rattle.go_load.specs.declared.error.LoadError.{LoadError}
@@ -18,10 +18,10 @@ use Rattle.go_load.specs.Places.{place_in, start_in}
 abbrev pub max_file_bytes : ℕ
 max_file_bytes = 4194304
 
--- What the syntax of a file's tokens is: its tree, or the first token that reaches too far, or the first part that
--- cannot be read. This is as much as the parser promises.
+-- What the syntax of a file's tokens is: the first token that reaches too far, else its one well-formed tree, or the first
+-- part that cannot be read.
 abbrev pub IsVerdict : List Token → Result FileTree ParseError → Type 0
-IsVerdict tokens verdict = DecidesReach verdict (reach_index tokens) × IsWithin (length tokens) verdict
+IsVerdict tokens verdict = DecidesReach verdict (reach_index tokens) × IsParsed tokens verdict
 
 -- a text has this tree
 pub record HasTree (bytes : List ℕ) (tree : FileTree) : Type 0 where

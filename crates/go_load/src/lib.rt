@@ -6,20 +6,20 @@
 #![tactic(auto)]
 
 mod built_in;
-mod cycles;
 mod error;
 mod find_module;
+mod found;
 mod go_mod;
 mod import_paths;
 mod imports;
+mod links;
 mod listing;
 mod loader;
 mod loading;
 mod one_file;
+mod package_files;
 mod paths;
-mod queue;
 mod read;
-mod resolve;
 mod sources;
 mod target;
 #[cfg(test)]

@@ -1,21 +1,26 @@
 //! The loading of packages, one after another.
 
-ghost use Rattle.std.specs.Prelude.{◌≡◌, ◌≢◌, ◌≤◌, [], length, Option, IfErr, OnOk, IsErrOf};
+ghost use Rattle.std.specs.Prelude.{◌≡◌, ◌≢◌, ◌≤◌, ◌<◌, [], length, map, min, Option, IfOk, IfErr, IfSome, OnOk, IsErrOf};
+ghost use Rattle.std.specs.List.{sum_by};
 ghost use Rattle.go_base.specs.Devices.{HasFaulted, Tree};
 ghost use Rattle.go_base.specs.declared.place.Place.{Place};
+ghost use Rattle.go_load.specs.Loading.{LoadsFiles, LoadsPackage, LoadsQueue, AddsPackage, Checks, ChecksFiles, IfEntry, told_package};
+ghost use Rattle.go_load.specs.FileReading.{AreOf};
+ghost use Rattle.go_load.specs.Finding.{view_file, view_origin};
+ghost use Rattle.go_load.specs.Programs.{are_program, name_of, other_name};
+ghost use Rattle.go_load.specs.Projects.{is_built_in};
 ghost use Rattle.go_load.specs.Sources.{files_of, AreTold, IsText};
 ghost use Rattle.go_load.specs.Refusals.{Justifies, Stops};
 
-use crate::built_in::BuiltIn;
 use crate::error::LoadError;
-use crate::find_module::Module;
-use crate::queue::{Entry, Origin};
-use crate::read::{read_tree, read_whole, refuse_first};
+use crate::found::{Entry, Found, Origin, number_after};
+use crate::links::{Link, push_links};
+use crate::package_files::{Slot, read_built_in, read_paths};
+use crate::read::refuse_first;
 use crate::sources::{Import, SourceFile, SourcePackage, Sources};
 use crate::versions::NEWEST_MINOR;
-use go_base::{Bytes, Files, NoMemory, Pos, Rule, Text};
+use go_base::{Files, NoMemory, Pos, Rule, Text};
 use std::alloc::Global;
-use std::collections::{BTreeMap, VecDeque};
 
 /// The most bytes that all Go files together may have.
 pub const MAX_PROGRAM_BYTES: usize = 67108864;
@@ -27,47 +32,35 @@ const MAX_PACKAGES: usize = 67108868;
 #[derive(Drop)]
 pub struct Loader {
     pub alloc: Global,
-    pub module: Option<Module>,
     /// The path of the target.
     pub target: Text,
+    pub found: Found,
     pub files: Vec<SourceFile>,
     pub packages: Vec<SourcePackage>,
     /// For each file its imports, in order.
     pub imports: Vec<Vec<Import>>,
-    /// The number of each package that an import has found or can find.
-    pub numbers: BTreeMap<String, u32>,
-    /// Packages that are to be loaded.
-    queue: VecDeque<Entry>,
-    /// How many packages were found.
-    found: u32,
+    /// All imports, in order.
+    pub links: Vec<Link>,
+    /// For each package whether it is named main.
+    pub programs: Vec<bool>,
     /// How many bytes more the Go files may have.
-    left: usize,
-}
-
-/// The number of what comes behind `count` others. A program has fewer files and packages than bytes, so they have
-/// numbers.
-pub fn number_after(count: usize) -> Result<u32, NoMemory> {
-    match u32::try_from(count) {
-        Ok(number) => Ok(number),
-        Err(_) => Err(NoMemory),
-    }
+    pub left: usize,
 }
 
 impl Loader {
-    /// Nothing is found yet. All Go files together may have `limit` bytes.
-    pub fn new(alloc: Global, module: Option<Module>, target: Text, limit: usize) -> Loader
+    /// Nothing is loaded yet. All Go files together may have `limit` bytes.
+    pub fn new(alloc: Global, target: Text, found: Found, limit: usize) -> Loader
         ensures { result.files.items ≡ [] }
     {
         Loader {
             alloc,
-            module,
             target,
+            found,
             files: Vec::new(alloc),
             packages: Vec::new(alloc),
             imports: Vec::new(alloc),
-            numbers: BTreeMap::new(alloc),
-            queue: VecDeque::new(alloc),
-            found: 0,
+            links: Vec::new(alloc),
+            programs: Vec::new(alloc),
             left: limit,
         }
     }
@@ -76,7 +69,7 @@ impl Loader {
     pub fn into_sources(self) -> Sources
         ensures { files_of result ≡ self.files.items }
     {
-        let minor = match &self.module {
+        let minor = match &self.found.root {
             Some(module) => module.minor,
             None => NEWEST_MINOR,
         };
@@ -88,165 +81,70 @@ impl Loader {
         }
     }
 
-    /// Puts a package at the end of the queue, and gives its number.
-    pub fn push(
-        &mut self,
-        path: String,
-        origin: Origin,
-        asker: Option<Pos>,
-    ) -> Result<u32, NoMemory>
-        ensures { self.new.files ≡ self.old.files }
-    {
-        let number = self.found;
-        if number == u32::MAX {
-            return Err(NoMemory);
-        }
-        self.queue.push_back(Entry {
-            number,
-            path,
-            origin,
-            asker,
-        })?;
-        self.found = number + 1;
-        Ok(number)
-    }
-
-    /// Loads the packages of the queue, and those that they import.
+    /// Loads the packages that were found, and those that they import.
     pub fn load_queue<F: Files>(&mut self, files: &mut F) -> Result<(), LoadError>
         ensures fault { IsErrOf result LoadError.ReadFault → HasFaulted (F.faults files.old) (F.faults files.new) }
         ensures later { F.faults files.old ≤ F.faults files.new }
         ensures why { IfErr result (Stops (F.tree files.old)) }
         ensures told { OnOk result (AreTold (F.tree files.old) self.old.files.items → AreTold (F.tree files.old) self.new.files.items) }
         ensures same { F.tree files.new ≡ F.tree files.old }
+        ensures exact { IfSome (F.tree files.old) (λ tree. LoadsQueue tree self.old self.new result) }
     {
         'packages: for _ in 0..MAX_PACKAGES {
-            let Some(entry) = self.queue.pop_front() else {
+            let number = self.packages.len();
+            if number >= self.found.entries.len() {
                 return Ok(());
-            };
-            self.load_package(files, entry)?;
+            }
+            self.load_package(files, number)?;
         }
-        Ok(())
+        Err(LoadError::OutOfMemory)
     }
 
-    /// Loads a package, and finds those that it imports.
-    fn load_package<F: Files>(&mut self, files: &mut F, entry: Entry) -> Result<(), LoadError>
+    /// Loads the package with this number, and finds those that it imports.
+    pub fn load_package<F: Files>(&mut self, files: &mut F, number: usize) -> Result<(), LoadError>
+        requires { number < length self.old.found.entries.items }
         ensures fault { IsErrOf result LoadError.ReadFault → HasFaulted (F.faults files.old) (F.faults files.new) }
         ensures later { F.faults files.old ≤ F.faults files.new }
         ensures why { IfErr result (Stops (F.tree files.old)) }
         ensures told { OnOk result (AreTold (F.tree files.old) self.old.files.items → AreTold (F.tree files.old) self.new.files.items) }
         ensures same { F.tree files.new ≡ F.tree files.old }
+        ensures exact { IfSome (F.tree files.old) (λ tree. LoadsPackage tree number self.old self.new result) }
     {
-        let Entry {
-            number,
-            path,
-            origin,
-            asker,
-        } = entry;
+        let sources = self.read_package(files, number)?;
+        self.check_files(number, sources.as_slice())?;
         let first = self.files.len();
-        let built_in = matches!(&origin, Origin::BuiltIn(_));
-        self.add_files(files, origin, number)?;
-        self.add_package(path.as_str(), built_in, first, asker)?;
-        self.resolve_files(files, first)
-    }
-
-    /// Adds the files of a package.
-    fn add_files<F: Files>(
-        &mut self,
-        files: &mut F,
-        origin: Origin,
-        package: u32,
-    ) -> Result<(), LoadError>
-        ensures fault { IsErrOf result LoadError.ReadFault → HasFaulted (F.faults files.old) (F.faults files.new) }
-        ensures later { F.faults files.old ≤ F.faults files.new }
-        ensures why { IfErr result (Stops (F.tree files.old)) }
-        ensures told { OnOk result (AreTold (F.tree files.old) self.old.files.items → AreTold (F.tree files.old) self.new.files.items) }
-        ensures same { F.tree files.new ≡ F.tree files.old }
-    {
-        match origin {
-            Origin::Paths(paths) => self.read_files(files, paths.as_slice(), package),
-            Origin::BuiltIn(built_in) => self.add_built_in(built_in, package),
-        }
-    }
-
-    /// Reads the files at these paths. One that is absent is passed over.
-    fn read_files<F: Files>(
-        &mut self,
-        files: &mut F,
-        paths: &[String],
-        package: u32,
-    ) -> Result<(), LoadError>
-        ensures fault { IsErrOf result LoadError.ReadFault → HasFaulted (F.faults files.old) (F.faults files.new) }
-        ensures later { F.faults files.old ≤ F.faults files.new }
-        ensures why { IfErr result (Stops (F.tree files.old)) }
-        ensures told { OnOk result (AreTold (F.tree files.old) self.old.files.items → AreTold (F.tree files.old) self.new.files.items) }
-        ensures same { F.tree files.new ≡ F.tree files.old }
-    {
-        'paths: for path in paths {
-            self.read_file(files, path.as_str(), package)?;
-        }
+        let imports = self
+            .found
+            .find_imports_of(files, number, sources.as_slice(), first)?;
+        self.add_package(number, sources, imports)?;
         Ok(())
     }
 
-    /// Reads the file at a path, unless it is absent.
-    fn read_file<F: Files>(
-        &mut self,
+    /// The files of a package.
+    fn read_package<F: Files>(
+        &self,
         files: &mut F,
-        path: &str,
-        package: u32,
-    ) -> Result<(), LoadError>
+        number: usize,
+    ) -> Result<Vec<SourceFile>, LoadError>
+        requires { number < length self.now.found.entries.items }
+        ensures of { IfOk result (λ sources. AreOf number sources.items) }
         ensures fault { IsErrOf result LoadError.ReadFault → HasFaulted (F.faults files.old) (F.faults files.new) }
         ensures later { F.faults files.old ≤ F.faults files.new }
         ensures why { IfErr result (Stops (F.tree files.old)) }
-        ensures told { OnOk result (AreTold (F.tree files.old) self.old.files.items → AreTold (F.tree files.old) self.new.files.items) }
+        ensures told { IfOk result (λ sources. AreTold (F.tree files.old) sources.items) }
         ensures same { F.tree files.new ≡ F.tree files.old }
+        ensures exact { IfSome (F.tree files.old) (λ tree. LoadsFiles tree number self.now result) }
     {
-        match read_whole(self.alloc, files, path)? {
-            Some(bytes) => self.add_file(path, bytes, package),
-            None => Ok(()),
+        let slot = Slot {
+            package: number_after(number)?,
+            first: self.files.len(),
+        };
+        match &self.found.entries[number].origin {
+            Origin::Paths(paths) => {
+                read_paths(self.alloc, files, paths.as_slice(), slot, self.left)
+            }
+            Origin::BuiltIn(built_in) => read_built_in(self.alloc, *built_in, slot),
         }
-    }
-
-    /// Adds a Go file that was read.
-    fn add_file(&mut self, path: &str, bytes: Vec<u8>, package: u32) -> Result<(), LoadError>
-        requires { length bytes.items ≤ 4194304 }
-        ensures no_fault { IsErrOf result LoadError.ReadFault → ⊥ }
-        ensures why { IfErr result (λ error. (files : Option Tree) → IsText files path.now bytes.items → Stops files error) }
-        ensures told { OnOk result ((files : Option Tree) → IsText files path.now bytes.items → AreTold files self.old.files.items → AreTold files self.new.files.items) }
-    {
-        if bytes.len() > self.left {
-            return Err(refuse_first(self.alloc, path, Rule::ProgramTooLarge));
-        }
-        self.left -= bytes.len();
-        self.add_source(path, bytes, package)
-    }
-
-    /// Adds the file of a built-in package, which the limit does not count.
-    fn add_built_in(&mut self, built_in: BuiltIn, package: u32) -> Result<(), LoadError>
-        ensures no_fault { IsErrOf result LoadError.ReadFault → ⊥ }
-        ensures why { IfErr result (λ error. (files : Option Tree) → Stops files error) }
-        ensures told { OnOk result ((files : Option Tree) → AreTold files self.old.files.items → AreTold files self.new.files.items) }
-    {
-        let bytes = Vec::from_slice(self.alloc, built_in.text().as_bytes())?;
-        self.add_source(built_in.path(), bytes, package)
-    }
-
-    /// Adds a file, with its tree.
-    fn add_source(&mut self, path: &str, bytes: Vec<u8>, package: u32) -> Result<(), LoadError>
-        requires { length bytes.items ≤ 4194304 }
-        ensures no_fault { IsErrOf result LoadError.ReadFault → ⊥ }
-        ensures why { IfErr result (λ error. (files : Option Tree) → IsText files path.now bytes.items → Stops files error) }
-        ensures told { OnOk result ((files : Option Tree) → IsText files path.now bytes.items → AreTold files self.old.files.items → AreTold files self.new.files.items) }
-    {
-        let number = number_after(self.files.len())?;
-        let tree = read_tree(self.alloc, path, number, bytes.as_slice())?;
-        let path = Text::new(self.alloc, path)?;
-        self.files.push(SourceFile {
-            path,
-            bytes: Bytes::new(bytes),
-            tree,
-            package,
-        })?;
-        Ok(())
     }
 
     /// That a rule is broken at a place in a file that was loaded.
@@ -260,70 +158,109 @@ impl Loader {
         }
     }
 
+    /// That a package has files, all of one package name.
+    fn check_files(&self, number: usize, sources: &[SourceFile]) -> Result<(), LoadError>
+        requires { number < length self.now.found.entries.items }
+        ensures no_fault { IsErrOf result LoadError.ReadFault → ⊥ }
+        ensures why { IfErr result (λ error. (files : Option Tree) → Stops files error) }
+        ensures exact { ChecksFiles number self.now sources.now result }
+    {
+        match sources {
+            [] => Err(self.refuse_empty(number)),
+            [head, others @ ..] => check_names(self.alloc, head, others),
+        }
+    }
+
     /// That a package has no files.
-    fn refuse_empty(&self, asker: Option<Pos>) -> LoadError
+    fn refuse_empty(&self, number: usize) -> LoadError
+        requires { number < length self.now.found.entries.items }
         ensures no_fault { result ≢ LoadError.ReadFault }
         ensures why { (files : Option Tree) → Stops files result }
     {
-        match asker {
+        match self.found.entries[number].asker {
             Some(pos) => self.refuse(pos, Rule::NoSuchPackage),
             None => refuse_first(self.alloc, self.target.as_str(), Rule::NoGoFiles),
         }
     }
 
-    /// Adds a package, whose files from one on were added.
+    /// Adds a package, with its files and their imports.
     fn add_package(
         &mut self,
-        path: &str,
-        built_in: bool,
-        first: usize,
-        asker: Option<Pos>,
-    ) -> Result<(), LoadError>
-        ensures no_fault { IsErrOf result LoadError.ReadFault → ⊥ }
-        ensures why { IfErr result (λ error. (files : Option Tree) → Stops files error) }
-        ensures kept { self.new.files ≡ self.old.files }
+        number: usize,
+        sources: Vec<SourceFile>,
+        imports: Vec<Vec<Import>>,
+    ) -> Result<(), NoMemory>
+        requires { number < length self.old.found.entries.items }
+        ensures { OnOk result (AddsPackage number self.old self.new sources.items imports.items) }
     {
-        let Some([head, others @ ..]) = self.files.get(first..) else {
-            return Err(self.refuse_empty(asker));
-        };
-        check_names(self.alloc, head, others)?;
-        let is_main = head.package_name() == b"main".as_slice();
-        let label = if self.packages.is_empty() && is_main {
+        let package = self.package_of(number, sources.as_slice())?;
+        let first = self.files.len();
+        push_links(
+            &mut self.links,
+            number_after(number)?,
+            first,
+            imports.as_slice(),
+        )?;
+        self.programs.push(is_program(sources.as_slice()))?;
+        if !package.built_in {
+            self.left = self.left.saturating_sub(total_size(sources.as_slice()));
+        }
+        self.packages.push(package)?;
+        let (mut sources, mut imports) = (sources, imports);
+        self.files.append(&mut sources)?;
+        self.imports.append(&mut imports)?;
+        Ok(())
+    }
+
+    /// A package with these files, which are added next.
+    fn package_of(&self, number: usize, sources: &[SourceFile]) -> Result<SourcePackage, NoMemory>
+        requires { number < length self.now.found.entries.items }
+        ensures { IfOk result (λ told. IfEntry self.now.found number (λ entry. told ≡ told_package number (length self.now.files.items) entry (map view_file sources.now))) }
+    {
+        let entry = &self.found.entries[number];
+        let path = entry.path.as_str();
+        let label = if number == 0 && is_program(sources) {
             "main"
         } else {
             path
         };
-        let first_file = number_after(first)?;
-        let path = Text::new(self.alloc, path)?;
-        let label = Text::new(self.alloc, label)?;
-        self.packages.push(SourcePackage {
-            path,
-            label,
-            built_in,
-            first_file,
-        })?;
-        Ok(())
+        Ok(SourcePackage {
+            path: Text::new(self.alloc, path)?,
+            label: Text::new(self.alloc, label)?,
+            built_in: entry.is_built_in(),
+            first_file: number_after(self.files.len())?,
+        })
     }
+}
 
-    /// Puts the package `runtime` into the queue, unless it was loaded.
-    pub fn push_runtime(&mut self) -> Result<(), NoMemory>
-        ensures { self.new.files ≡ self.old.files }
-    {
-        if self.numbers.contains_key("runtime") {
-            return Ok(());
-        }
-        let path = String::from_str(self.alloc, "runtime")?;
-        self.push(path, Origin::BuiltIn(BuiltIn::Runtime), None)?;
-        Ok(())
+/// Whether files are those of a package named main.
+fn is_program(sources: &[SourceFile]) -> bool
+    ensures { result ≡ are_program (map view_file sources.now) }
+{
+    match sources {
+        [] => false,
+        [first, ..] => first.package_name() == b"main".as_slice(),
     }
+}
+
+/// How many bytes files have together.
+fn total_size(sources: &[SourceFile]) -> usize
+    ensures { min (sum_by (λ file. length file.bytes) (map view_file sources.now)) usize.MAX ≡ result }
+{
+    let mut total = 0usize;
+    'files: for source in sources {
+        total = total.saturating_add(source.bytes.as_slice().len());
+    }
+    total
 }
 
 /// That the other files of a package have the package name of the first.
 fn check_names(alloc: Global, head: &SourceFile, others: &[SourceFile]) -> Result<(), LoadError>
     ensures no_fault { IsErrOf result LoadError.ReadFault → ⊥ }
     ensures why { IfErr result (λ error. (files : Option Tree) → Stops files error) }
+    ensures exact { Checks (other_name (name_of (view_file head.now)) (map view_file others.now)) result }
 {
-    for file in others {
+    'files: for file in others {
         if file.package_name() != head.package_name() {
             let at = file.tree.name.start;
             return Err(file.refuse(alloc, at, Rule::SecondPackageName));

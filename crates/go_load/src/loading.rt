@@ -1,17 +1,17 @@
 //! Loading of a program.
 
-ghost use Rattle.std.specs.Prelude.{◌≡◌, ◌≤◌, IfOk, IfErr, IfSome, IsErrOf};
+ghost use Rattle.std.specs.Prelude.{◌≡◌, ◌≤◌, IfOk, IfErr, IfSome, IsErrOf, OnOk};
 ghost use Rattle.go_base.specs.Devices.{HasFaulted};
 ghost use Rattle.go_load.specs.Modules.{MindsTarget};
 ghost use Rattle.go_load.specs.Sources.{files_of, AreTold, IsLoaded};
 ghost use Rattle.go_load.specs.Refusals.{HasStopped, Stops};
 
 use crate::error::LoadError;
-use crate::find_module::find_module;
+use crate::find_module::{Module, find_module};
+use crate::found::Found;
 use crate::listing::list_go_files;
 use crate::loader::{Loader, MAX_PROGRAM_BYTES};
 use crate::one_file::OneFile;
-use crate::queue::Origin;
 use crate::sources::Sources;
 use crate::target::{target_dir, target_path};
 use go_base::{Files, NoMemory, Target, Text};
@@ -47,13 +47,9 @@ pub(crate) fn load_within<F: Files>(
     ensures go_mod { IfSome (F.tree files.old) (λ tree. MindsTarget tree target.now result) }
 {
     let module = find_module(alloc, files, target_dir(target))?;
+    let found = find_target(alloc, files, module, target)?;
     let path = Text::new(alloc, target_path(target))?;
-    let mut loader = Loader::new(alloc, module, path, limit);
-    match target {
-        Target::File(file) => push_file(&mut loader, file.as_str())?,
-        Target::Dir(dir) => push_dir(files, &mut loader, dir.as_str())?,
-    }
-    finish(files, loader)
+    finish(files, Loader::new(alloc, path, found, limit))
 }
 
 /// Loads a program of one file, which lies in no module, from its bytes. `name` is the path of the file.
@@ -64,39 +60,57 @@ pub fn from_text(alloc: Global, name: &str, bytes: &[u8]) -> Result<Sources, Loa
     load(alloc, &mut OneFile { path: name, bytes }, &target)
 }
 
-/// Puts the file of a target into the queue.
-fn push_file(loader: &mut Loader, file: &str) -> Result<(), NoMemory>
-    ensures { loader.new.files ≡ loader.old.files }
-{
-    let path = String::from_str(loader.alloc, NO_IMPORT_PATH)?;
-    let mut paths = Vec::new(loader.alloc);
-    paths.push(String::from_str(loader.alloc, file)?)?;
-    loader.push(path, Origin::Paths(paths), None)?;
-    Ok(())
-}
-
-/// Puts the directory of a target into the queue.
-fn push_dir<F: Files>(files: &mut F, loader: &mut Loader, dir: &str) -> Result<(), LoadError>
+/// The package of the target, which is found first.
+fn find_target<F: Files>(
+    alloc: Global,
+    files: &mut F,
+    module: Option<Module>,
+    target: &Target,
+) -> Result<Found, LoadError>
     ensures why { IfErr result (Stops (F.tree files.old)) }
-    ensures kept { loader.new.files ≡ loader.old.files }
     ensures fault { IsErrOf result LoadError.ReadFault → HasFaulted (F.faults files.old) (F.faults files.new) }
     ensures later { F.faults files.old ≤ F.faults files.new }
     ensures same { F.tree files.new ≡ F.tree files.old }
 {
-    let paths = list_go_files(loader.alloc, files, dir)?;
-    let path = match &loader.module {
-        None => String::from_str(loader.alloc, NO_IMPORT_PATH)?,
-        Some(module) => {
-            let path = module.path_of(loader.alloc, dir)?;
-            loader.numbers.insert(path.clone()?, 0)?;
-            path
-        }
-    };
-    loader.push(path, Origin::Paths(paths), None)?;
-    Ok(())
+    let paths = target_files(alloc, files, target)?;
+    let path = package_path(alloc, module.as_ref(), target)?;
+    Ok(Found::new(alloc, module, path.as_str(), paths)?)
 }
 
-/// Loads the packages of the queue, and `runtime`.
+/// The paths of the files of the target.
+fn target_files<F: Files>(
+    alloc: Global,
+    files: &mut F,
+    target: &Target,
+) -> Result<Vec<String>, LoadError>
+    ensures why { IfErr result (Stops (F.tree files.old)) }
+    ensures fault { IsErrOf result LoadError.ReadFault → HasFaulted (F.faults files.old) (F.faults files.new) }
+    ensures later { F.faults files.old ≤ F.faults files.new }
+    ensures same { F.tree files.new ≡ F.tree files.old }
+{
+    match target {
+        Target::Dir(dir) => list_go_files(alloc, files, dir.as_str()),
+        Target::File(file) => {
+            let mut paths = Vec::new(alloc);
+            paths.push(String::from_str(alloc, file.as_str())?)?;
+            Ok(paths)
+        }
+    }
+}
+
+/// The path of the package of the target.
+fn package_path(
+    alloc: Global,
+    module: Option<&Module>,
+    target: &Target,
+) -> Result<String, NoMemory> {
+    match (module, target) {
+        (Some(module), Target::Dir(dir)) => module.path_of(alloc, dir.as_str()),
+        _ => Ok(String::from_str(alloc, NO_IMPORT_PATH)?),
+    }
+}
+
+/// Loads the packages that are found, and `runtime`.
 fn finish<F: Files>(files: &mut F, loader: Loader) -> Result<Sources, LoadError>
     ensures told { IfOk result (λ sources. AreTold (F.tree files.old) loader.files.items → AreTold (F.tree files.old) (files_of sources)) }
     ensures why { IfErr result (Stops (F.tree files.old)) }
@@ -107,7 +121,21 @@ fn finish<F: Files>(files: &mut F, loader: Loader) -> Result<Sources, LoadError>
     let mut loader = loader;
     loader.load_queue(files)?;
     loader.check_imports()?;
-    loader.push_runtime()?;
-    loader.load_queue(files)?;
+    load_runtime(files, &mut loader)?;
     Ok(loader.into_sources())
+}
+
+/// Loads the package `runtime`, unless it was imported.
+fn load_runtime<F: Files>(files: &mut F, loader: &mut Loader) -> Result<(), LoadError>
+    ensures told { OnOk result (AreTold (F.tree files.old) loader.old.files.items → AreTold (F.tree files.old) loader.new.files.items) }
+    ensures why { IfErr result (Stops (F.tree files.old)) }
+    ensures fault { IsErrOf result LoadError.ReadFault → HasFaulted (F.faults files.old) (F.faults files.new) }
+    ensures later { F.faults files.old ≤ F.faults files.new }
+    ensures same { F.tree files.new ≡ F.tree files.old }
+{
+    if loader.found.add_runtime()? {
+        let last = loader.found.entries.len() - 1;
+        loader.load_package(files, last)?;
+    }
+    Ok(())
 }

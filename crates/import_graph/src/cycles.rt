@@ -3,22 +3,12 @@
 
 ghost use Rattle.std.specs.Prelude.{◌≤◌, length};
 
+use crate::Edge;
 use go_base::NoMemory;
 use std::alloc::Global;
 
-/// An import of the package `to` by the package `from`.
-#[derive(Clone, Copy, Debug, PartialEq, Eq, PartialOrd, Ord)]
-pub struct Edge {
-    pub from: u32,
-    pub to: u32,
-}
-
 /// The first edge whose end reaches its start, among edges of `count` nodes that ascend by their starts.
-pub fn first_on_cycle(
-    alloc: Global,
-    count: usize,
-    edges: &[Edge],
-) -> Result<Option<usize>, NoMemory> {
+pub fn first_among(alloc: Global, count: usize, edges: &[Edge]) -> Result<Option<usize>, NoMemory> {
     let roots = numbers_below(alloc, count)?;
     let mut order = walk_from(alloc, count, edges, roots.as_slice())?.done;
     order.as_mut_slice().reverse();
