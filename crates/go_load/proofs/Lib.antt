@@ -5,3 +5,6 @@ pub mod Stopping
 pub mod Modules
 pub mod Governing
 pub mod TextReading
+pub mod Growth
+pub mod Fronts
+pub mod Holding

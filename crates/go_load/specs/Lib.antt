@@ -18,3 +18,4 @@ pub mod Programs
 pub mod Finding
 pub mod FileReading
 pub mod Loading
+pub mod Answers

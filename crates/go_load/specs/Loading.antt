@@ -1,6 +1,6 @@
 -- What the loading of packages answers.
 use Rattle.std.specs.Prelude.{◌≡◌, ◌⊎◌, ℕ, ◌+◌, ◌-◌, ◌<◌, ◌≤◌, min, Bool, true, false, if◌then◌else◌, List, [], ◌∷◌, ◌++◌, length, map, Option, Some, None, IfSome, Result, Ok, Err, Vec, slice_get, bytes_eq, ◌&&◌, ◌==◌, codes, string_bytes}
-use Rattle.std.specs.List.{All, AllZip, flat_map, fold, list_any, sum_by}
+use Rattle.std.specs.List.{AllByRecursion, AllZip, flat_map, fold, list_any, sum_by}
 use Rattle.std.specs.declared.alloc.Global.{Global}
 use Rattle.go_ast.specs.declared.token.Token.{Token}
 use Rattle.go_base.specs.Devices.{Tree}
@@ -67,6 +67,10 @@ pub record IsLink (files : List SourceFile) (kept : code.Link) (link : Link) : T
   pub file_is : slice_get files kept.at.file ≡ Some file
   pub place : link.place ≡ place_in file.path file.bytes (min kept.at.offset (length file.bytes))
 
+-- the paths of imports are among these
+abbrev pub AreKnown : List (List ℕ) → List Import → Type 0
+AreKnown paths imports = AllByRecursion (λ import. list_any (bytes_eq (import_path import)) paths ≡ true) imports
+
 -- The loader holds these packages, and the paths that are known.
 pub record Holds (project : Project) (loader : Loader) (packages : List Package) : Type 0 where
   pub right : AreRight project loader.found
@@ -77,7 +81,7 @@ pub record Holds (project : Project) (loader : Loader) (packages : List Package)
   pub links : AllZip (IsLink loader.files.items) loader.links.items (links_from loader.found.paths 0 packages)
   pub programs : loader.programs.items ≡ map (λ one. are_program one.files) packages
   pub left : loader.left ≡ room_for project packages false
-  pub met : All (λ import. list_any (bytes_eq (import_path import)) loader.found.paths ≡ true) (flat_map imports_of_package packages)
+  pub met : AreKnown loader.found.paths (flat_map imports_of_package packages)
 
 -- The loader holds the packages that are loaded first, and the paths that they make known.
 pub record IsAt (project : Project) (loader : Loader) (packages : List Package) : Type 0 where
@@ -150,15 +154,15 @@ told_package number first entry files =
     record { path = string_bytes entry.path; label = if (number == 0) && are_program files then codes "main" else string_bytes entry.path; built_in = is_built_in (view_origin entry.origin); first_file = first }
 
 -- a package is added, with its files and their imports
-pub record AddsPackage (number : ℕ) (old new : Loader) (sources : List SourceFile) (imports : List (Vec numbers.Import Global)) : Type 0 where
+pub record AddsPackage (number : ℕ) (told : SourcePackage) (old new : Loader) (sources : List SourceFile) (imports : List (Vec numbers.Import Global)) : Type 0 where
   pub found : new.found ≡ old.found
   pub target : new.target ≡ old.target
   pub files : new.files.items ≡ old.files.items ++ sources
   pub imports_are : new.imports.items ≡ old.imports.items ++ imports
   pub links_are : new.links.items ≡ old.links.items ++ kept_links number (length old.files.items) (listed imports)
   pub programs : new.programs.items ≡ old.programs.items ++ are_program (map view_file sources) ∷ []
-  pub headers : IfEntry old.found number (λ entry. new.packages.items ≡ old.packages.items ++ told_package number (length old.files.items) entry (map view_file sources) ∷ [])
-  pub left : IfEntry old.found number (λ entry. new.left ≡ (if is_built_in (view_origin entry.origin) then old.left else old.left - sum_by (λ file. length file.bytes) (map view_file sources)))
+  pub headers : new.packages.items ≡ old.packages.items ++ told ∷ []
+  pub left : new.left ≡ (if told.built_in then old.left else old.left - sum_by (λ file. length file.bytes) (map view_file sources))
 
 -- the answer for a package: it is sound, and is held behind the others, or it breaks a rule
 abbrev pub PackageLoaded : Project → List Package → Loader → Loader → Result (Unit {0}) LoadError → Type 0

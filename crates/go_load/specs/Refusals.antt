@@ -81,11 +81,3 @@ abbrev pub Stops : Option Tree → LoadError → Type 0
 Stops files (Refused place rule) = Justifies files place rule
 Stops files ReadFault = Unit {0}
 Stops files OutOfMemory = Unit {0}
-
-abbrev pub Breaks : Option Tree → Target → Place → Rule → Type 0
-Breaks files target place rule = Justifies files place rule
-
-abbrev pub HasStopped : Option Tree → Target → LoadError → Type 0
-HasStopped files target (Refused place rule) = Breaks files target place rule
-HasStopped files target ReadFault = Unit {0}
-HasStopped files target OutOfMemory = Unit {0}

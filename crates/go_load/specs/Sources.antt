@@ -25,7 +25,3 @@ HasBytes files path (Some bytes) = IsText files path bytes.items
 
 abbrev pub AreTold : Option Tree → List SourceFile → Type 0
 AreTold files sources = All (λ (file : SourceFile). IsText files file.path file.bytes) sources
-
--- what a program that was loaded is
-pub record IsLoaded (files : Option Tree) (target : Target) (sources : List SourceFile) : Type 0 where
-  pub told : AreTold files sources

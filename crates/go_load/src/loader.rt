@@ -112,11 +112,12 @@ impl Loader {
     {
         let sources = self.read_package(files, number)?;
         self.check_files(number, sources.as_slice())?;
+        let package = self.package_of(number, sources.as_slice())?;
         let first = self.files.len();
         let imports = self
             .found
             .find_imports_of(files, number, sources.as_slice(), first)?;
-        self.add_package(number, sources, imports)?;
+        self.add_package(number, package, sources, imports)?;
         Ok(())
     }
 
@@ -187,13 +188,12 @@ impl Loader {
     fn add_package(
         &mut self,
         number: usize,
+        package: SourcePackage,
         sources: Vec<SourceFile>,
         imports: Vec<Vec<Import>>,
     ) -> Result<(), NoMemory>
-        requires { number < length self.old.found.entries.items }
-        ensures { OnOk result (AddsPackage number self.old self.new sources.items imports.items) }
+        ensures { OnOk result (AddsPackage number «package» self.old self.new sources.items imports.items) }
     {
-        let package = self.package_of(number, sources.as_slice())?;
         let first = self.files.len();
         push_links(
             &mut self.links,

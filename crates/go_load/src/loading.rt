@@ -3,8 +3,9 @@
 ghost use Rattle.std.specs.Prelude.{◌≡◌, ◌≤◌, IfOk, IfErr, IfSome, IsErrOf, OnOk};
 ghost use Rattle.go_base.specs.Devices.{HasFaulted};
 ghost use Rattle.go_load.specs.Modules.{MindsTarget};
-ghost use Rattle.go_load.specs.Sources.{files_of, AreTold, IsLoaded};
-ghost use Rattle.go_load.specs.Refusals.{HasStopped, Stops};
+ghost use Rattle.go_load.specs.Answers.{HasStopped, IsAnswer, IsLoaded};
+ghost use Rattle.go_load.specs.Sources.{files_of, AreTold};
+ghost use Rattle.go_load.specs.Refusals.{Stops};
 
 use crate::error::LoadError;
 use crate::find_module::{Module, find_module};
