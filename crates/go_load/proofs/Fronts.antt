@@ -8,7 +8,7 @@ use Rattle.go_load.specs.Imports.{Import, import_path}
 use Rattle.go_load.specs.Programs.{Package, known, imports_of_package, with_import, IsFront, Nothing, More, IsNext}
 use Rattle.go_load.specs.Projects.{Project, target_path}
 
-fold_append : {A B : Type 0} (f : B → A → B) (a : B) (xs ys : List A) → fold f a (xs ++ ys) ≡ fold f (fold f a xs) ys
+pub fold_append : {A B : Type 0} (f : B → A → B) (a : B) (xs ys : List A) → fold f a (xs ++ ys) ≡ fold f (fold f a xs) ys
 fold_append f a [] ys = refl
 fold_append f a (x ∷ xs) ys = fold_append f (f a x) xs ys
 

@@ -1,7 +1,7 @@
 -- Paths that are known stay known, and keep their numbers.
 use Rattle.std.proofs.Common.{◌≡◌, ℕ, ◌+◌, ◌≤◌, Bool, true, false, not, cond, ◌||◌, List, [], ◌∷◌, ◌++◌, length, map, if◌then◌else◌, bytes_eq, refl, sym, ap, ◌∙◌, subst, arith}
 use Rattle.std.specs.List.{AllByRecursion, flat_map, fold, list_any, position_or_len}
-use Rattle.std.proofs.lemmas.Bool.Decides.{nat_tests}
+use Rattle.std.specs.Cmp.Lexicographic.{nat_list_eq_equiv}
 use Rattle.go_base.specs.NameTable.{place_of, with_text}
 use Rattle.go_load.specs.declared.sources.Import as numbers
 use Rattle.go_load.specs.Finding.{numbered, numbered_files}
@@ -11,19 +11,20 @@ use Rattle.go_load.specs.Programs.{File, Package, Link, import_files, imports_in
 
 any_push : (p q : List ℕ) (paths : List (List ℕ)) → list_any (bytes_eq p) paths ≡ true → list_any (bytes_eq p) (paths ++ q ∷ []) ≡ true
 any_push p q [] h = cc
-any_push p q (path ∷ paths) h = go (bytes_eq p path) h
+any_push p q (path ∷ paths) h = go (bytes_eq p path) (any_push p q paths) h
   where
-    go : (b : Bool) → (b || list_any (bytes_eq p) paths) ≡ true → (b || list_any (bytes_eq p) (paths ++ q ∷ [])) ≡ true
-    go true h = refl
-    go false h = any_push p q paths h
+    go : (b : Bool) → (list_any (bytes_eq p) paths ≡ true → list_any (bytes_eq p) (paths ++ q ∷ []) ≡ true) → (b || list_any (bytes_eq p) paths) ≡ true → (b || list_any (bytes_eq p) (paths ++ q ∷ [])) ≡ true
+    go true more h = refl
+    go false more h = more h
 
 place_push : (p q : List ℕ) (paths : List (List ℕ)) → list_any (bytes_eq p) paths ≡ true → place_of p (paths ++ q ∷ []) ≡ place_of p paths
 place_push p q [] h = cc
-place_push p q (path ∷ paths) h = go (bytes_eq p path) h
+place_push p q (path ∷ paths) h = go (bytes_eq p path) (place_push p q paths) h
   where
-    go : (b : Bool) → (b || list_any (bytes_eq p) paths) ≡ true → cond (not b) (1 + place_of p (paths ++ q ∷ [])) 0 ≡ cond (not b) (1 + place_of p paths) 0
-    go true h = refl
-    go false h = ap (λ n. 1 + n) (place_push p q paths h)
+    go : (b : Bool) → (list_any (bytes_eq p) paths ≡ true → place_of p (paths ++ q ∷ []) ≡ place_of p paths) → (b || list_any (bytes_eq p) paths) ≡ true
+        → cond (not b) (1 + place_of p (paths ++ q ∷ [])) 0 ≡ cond (not b) (1 + place_of p paths) 0
+    go true same h = refl
+    go false same h = ap (λ n. 1 + n) (same h)
 
 -- ---- one path more
 
@@ -136,14 +137,14 @@ same_links paths more g number (one ∷ packages) h =
 
 any_self : (p : List ℕ) (paths : List (List ℕ)) → bytes_eq p p ≡ true → list_any (bytes_eq p) (paths ++ p ∷ []) ≡ true
 any_self p [] e = ap (λ b. b || false) e
-any_self p (path ∷ paths) e = go (bytes_eq p path)
+any_self p (path ∷ paths) e = go (bytes_eq p path) (any_self p paths e)
   where
-    go : (b : Bool) → (b || list_any (bytes_eq p) (paths ++ p ∷ [])) ≡ true
-    go true = refl
-    go false = any_self p paths e
+    go : (b : Bool) → list_any (bytes_eq p) (paths ++ p ∷ []) ≡ true → (b || list_any (bytes_eq p) (paths ++ p ∷ [])) ≡ true
+    go true more = refl
+    go false more = more
 
 same_bytes : (p : List ℕ) → bytes_eq p p ≡ true
-same_bytes p = grind (arith, nat_tests)
+same_bytes p = nat_list_eq_equiv.refl p
 
 joined : (p : List ℕ) (paths : List (List ℕ)) → list_any (bytes_eq p) (with_text p paths) ≡ true
 joined p paths = go (list_any (bytes_eq p) paths) refl

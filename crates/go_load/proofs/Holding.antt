@@ -1,5 +1,5 @@
 -- What a loader holds once a package is added.
-use Rattle.std.proofs.Common.{◌≡◌, ℕ, suc, ◌+◌, ◌-◌, ◌<◌, ◌≤◌, min, Bool, true, false, List, [], ◌∷◌, ◌++◌, length, map, if◌then◌else◌, Option, Some, None, option_map, IfSome, Vec, string_bytes, slice_get, refl, sym, ap, ◌∙◌, subst, arith}
+use Rattle.std.proofs.Common.{◌≡◌, ℕ, zero, suc, ◌+◌, ◌-◌, ◌<◌, ◌≤◌, min, Bool, true, false, List, [], ◌∷◌, ◌++◌, length, map, if◌then◌else◌, Option, Some, None, option_map, IfSome, Vec, string_bytes, slice_get, refl, sym, ap, ◌∙◌, subst, arith}
 use Rattle.std.proofs.lemmas.List.{append-nil, length-append, length-map, map-append}
 use Rattle.std.proofs.lemmas.List.Elements.{recursion_from_All}
 use Rattle.std.specs.List.{AllByRecursion, AllZip, flat_map, fold, sum_by}
@@ -17,7 +17,7 @@ use Rattle.go_load.specs.Imports.{Import, import_path}
 use Rattle.go_load.specs.Loading.{view_source, files_from, header, headers_from, all_imports, imports_of_each, imports_of_all, IsLink, AreKnown, Holds, kept_in_file, kept_links, told_package, AddsPackage}
 use Rattle.go_load.specs.Programs.{File, Package, Link, import_files, imports_in, imports_of_files, imports_of_package, with_import, link_of, links_of_file, links_from, room_for, size, are_program}
 use Rattle.go_load.specs.Projects.{Project, is_built_in}
-use Rattle.go_load.proofs.Fronts.{imports_more, flat_more}
+use Rattle.go_load.proofs.Fronts.{fold_append, imports_more, flat_more}
 use Rattle.go_load.proofs.Growth.{Grows, grows_by_imports, all_known, known_both, known_now, same_imports, same_links}
 
 assoc : {A : Type 0} (a b c : List A) → (a ++ b) ++ c ≡ a ++ (b ++ c)
@@ -42,7 +42,8 @@ sources_of number (source ∷ sources) h = λ i. (view_file source, h.0 i) ∷ s
 -- ---- packages as they are told
 
 abbrev total : List Package → ℕ
-total packages = sum_by (λ (one : Package). length one.files) packages
+total [] = 0
+total (one ∷ packages) = length one.files + total packages
 
 headers_more : (number first : ℕ) (packages : List Package) (one : Package) (n m : ℕ) → number + length packages ≡ n → first + total packages ≡ m → headers_from number first (packages ++ one ∷ []) ≡ headers_from number first packages ++ header n m one ∷ []
 headers_more number first [] one n m e f =
@@ -58,7 +59,7 @@ length_files : (number : ℕ) (packages : List Package) → length (files_from n
 length_files number [] = refl
 length_files number (one ∷ packages) =
     length-append (map (λ (file : File). (file, number)) one.files) (files_from (number + 1) packages)
-    ∙ (λ i. length-map one.files (λ (file : File). (file, number)) i + length_files (number + 1) packages i)
+    ∙ (λ i. length-map {B = File × ℕ} one.files (λ (file : File). (file, number)) i + length_files (number + 1) packages i)
 
 -- ---- links
 
@@ -129,8 +130,7 @@ links_more paths number (first ∷ packages) one n e =
 -- ---- bytes
 
 sum_more : (packages : List Package) (one : Package) → sum_by size (packages ++ one ∷ []) ≡ sum_by size packages + size one
-sum_more [] one = omega arith
-sum_more (first ∷ packages) one = let h : sum_by size (packages ++ one ∷ []) ≡ sum_by size packages + size one = sum_more packages one in omega arith
+sum_more packages one = fold_append (λ n (one : Package). n + size one) 0 packages (one ∷ [])
 
 room_less : (limit sum : ℕ) (built_in : Bool) (bytes more left : ℕ) → more ≡ sum + (if built_in then 0 else bytes) → left ≡ limit - sum → (if built_in then left else left - bytes) ≡ limit - more
 room_less limit sum true bytes more left e f = omega arith

@@ -8,3 +8,6 @@ pub mod TextReading
 pub mod Growth
 pub mod Fronts
 pub mod Holding
+pub mod PackageLoading
+pub mod QueueLoading
+pub mod ImportChecks

@@ -1,5 +1,5 @@
 -- What the loading of packages answers.
-use Rattle.std.specs.Prelude.{◌≡◌, ◌⊎◌, ℕ, ◌+◌, ◌-◌, ◌<◌, ◌≤◌, min, Bool, true, false, if◌then◌else◌, List, [], ◌∷◌, ◌++◌, length, map, Option, Some, None, IfSome, Result, Ok, Err, Vec, slice_get, bytes_eq, ◌&&◌, ◌==◌, codes, string_bytes}
+use Rattle.std.specs.Prelude.{◌≡◌, ◌⊎◌, ℕ, ◌+◌, ◌-◌, ◌<◌, ◌≤◌, min, Bool, true, false, if◌then◌else◌, List, [], ◌∷◌, ◌++◌, length, map, Option, Some, None, IfSome, unwrap_or, Result, Ok, Err, Vec, slice_get, bytes_eq, ◌&&◌, ◌==◌, codes, string_bytes}
 use Rattle.std.specs.List.{AllByRecursion, AllZip, flat_map, fold, list_any, sum_by}
 use Rattle.std.specs.declared.alloc.Global.{Global}
 use Rattle.go_ast.specs.declared.token.Token.{Token}
@@ -9,7 +9,7 @@ use Rattle.go_base.specs.declared.place.Place.{Place}
 use Rattle.go_base.specs.declared.rule.Rule.{Rule}
 use Rattle.go_base.specs.declared.rule.Rule.TheVariants as rules
 use Rattle.go_base.specs.declared.target.Target.{Target}
-use Rattle.import_graph.specs.declared.Edge.{Edge}
+use Rattle.import_graph.specs.declared.edges.Edge.{Edge}
 use Rattle.go_load.specs.declared.error.LoadError.{LoadError}
 use Rattle.go_load.specs.declared.error.LoadError.TheVariants.{Refused, ReadFault, OutOfMemory}
 use Rattle.go_load.specs.declared.found.Entry.{Entry}
@@ -203,6 +203,13 @@ QueueLoaded project new (Err OutOfMemory) = Unit {0}
 abbrev pub LoadsQueue : Tree → Loader → Loader → Result (Unit {0}) LoadError → Type 0
 LoadsQueue files old new result =
     (project : Project) (packages : List Package) → project.files ≡ files → IsAt project old packages → QueueLoaded project new result
+
+-- whether the package with a number is a program, by a list for all packages
+abbrev pub is_program_number : List Bool → ℕ → Bool
+is_program_number programs number = unwrap_or (slice_get programs number) false
+
+abbrev pub is_of_program : List Bool → code.Link → Bool
+is_of_program programs link = is_program_number programs link.edge.to
 
 -- an import is the first of a program
 pub record IsFirstOfProgram (project : Project) (packages : List Package) (place : Place) : Type 0 where

@@ -10,7 +10,7 @@ use Rattle.go_base.specs.declared.target.Target.{Target}
 use Rattle.go_base.specs.declared.target.Target.TheVariants as targets
 use Rattle.go_syntax.specs.declared.decls.FileTree.{FileTree}
 use Rattle.import_graph.specs.Cycles.{IsFirstOnCycle}
-use Rattle.import_graph.specs.declared.Edge.{Edge}
+use Rattle.import_graph.specs.declared.edges.Edge.{Edge}
 use Rattle.go_load.specs.Imports.{Import, imports_of, import_path}
 use Rattle.go_load.specs.Modules.{Broken}
 use Rattle.go_load.specs.Packages.{text_in}

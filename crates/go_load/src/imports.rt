@@ -1,8 +1,9 @@
 //! What is asked of all imports together.
 
-ghost use Rattle.std.specs.Prelude.{Option, IfErr, IsErrOf};
+ghost use Rattle.std.specs.Prelude.{◌≡◌, map, Option, IfErr, IfOk, IsErrOf};
+ghost use Rattle.std.specs.List.{find};
 ghost use Rattle.go_base.specs.Devices.{Tree};
-ghost use Rattle.go_load.specs.Loading.{ChecksImports};
+ghost use Rattle.go_load.specs.Loading.{is_of_program, is_program_number, ChecksImports};
 ghost use Rattle.go_load.specs.Refusals.{Stops};
 
 use crate::error::LoadError;
@@ -32,7 +33,9 @@ impl Loader {
 }
 
 /// The first import of a package named main.
-fn first_of_program(programs: &[bool], links: &[Link]) -> Option<Link> {
+fn first_of_program(programs: &[bool], links: &[Link]) -> Option<Link>
+    ensures { result ≡ find (is_of_program programs.now) links.now }
+{
     'links: for link in links {
         if is_program_at(programs, link.edge.to) {
             return Some(*link);
@@ -42,14 +45,18 @@ fn first_of_program(programs: &[bool], links: &[Link]) -> Option<Link> {
 }
 
 /// Whether a package is named main.
-fn is_program_at(programs: &[bool], package: u32) -> bool {
-    match programs.get(package as usize) {
+fn is_program_at(programs: &[bool], number: u32) -> bool
+    ensures { result ≡ is_program_number programs.now number }
+{
+    match programs.get(number as usize) {
         Some(is_program) => *is_program,
         None => false,
     }
 }
 
-fn edges_of(alloc: Global, links: &[Link]) -> Result<Vec<Edge>, NoMemory> {
+fn edges_of(alloc: Global, links: &[Link]) -> Result<Vec<Edge>, NoMemory>
+    ensures { IfOk result (λ edges. edges.items ≡ map (λ link. link.edge) links.now) }
+{
     let mut edges = Vec::new(alloc);
     'links: for link in links {
         edges.push(link.edge)?;

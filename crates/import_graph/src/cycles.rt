@@ -1,170 +1,77 @@
-//! Cycles of imports: two walks over the packages, the second along the imports backwards, give those that reach one
-//! another. Each walk takes every import once.
+//! The first import on a cycle.
 
-ghost use Rattle.std.specs.Prelude.{◌≤◌, length};
+ghost use Rattle.std.specs.Prelude.{◌≡◌, ◌↔◌, ℕ, Contains, IfOk, OnOk, IsTrue, map, nat_eq};
+ghost use Rattle.indexmap.specs.IndexSet.{insert_all};
+ghost use Rattle.import_graph.specs.Cycles.{Reaches, IsOnCycle, IsFirstOnCycle};
+ghost use Rattle.import_graph.specs.Edges.{AscendByStart};
+ghost use Rattle.import_graph.specs.Ranks.{AreOrdered};
 
-use crate::Edge;
+use crate::edges::{Edge, by_start, edges_from};
+use crate::ranks::{Ranks, rank_of, ranks};
 use go_base::NoMemory;
+use indexmap::IndexSet;
 use std::alloc::Global;
 
-/// The first edge whose end reaches its start, among edges of `count` nodes that ascend by their starts.
-pub fn first_among(alloc: Global, count: usize, edges: &[Edge]) -> Result<Option<usize>, NoMemory> {
-    let roots = numbers_below(alloc, count)?;
-    let mut order = walk_from(alloc, count, edges, roots.as_slice())?.done;
-    order.as_mut_slice().reverse();
-    let back = turned(alloc, edges)?;
-    let walk = walk_from(alloc, count, back.as_slice(), order.as_slice())?;
+/// The index of the first edge whose end reaches its start: the first import on a cycle. None exactly where no edge is
+/// on a cycle.
+///
+/// Go specification, "Import declarations": no package imports itself, directly or not.
+pub fn first_on_cycle(alloc: Global, edges: &[Edge]) -> Result<Option<usize>, NoMemory>
+    ensures { IfOk result (IsFirstOnCycle edges.now) }
+{
+    let sorted = by_start(alloc, edges)?;
+    let ranks = ranks(alloc, sorted.as_slice())?;
     for (index, edge) in edges.iter().enumerate() {
-        if walk.root_of(edge.from) == walk.root_of(edge.to) {
+        if is_on_cycle(alloc, sorted.as_slice(), &ranks, *edge)? {
             return Ok(Some(index));
         }
     }
     Ok(None)
 }
 
-fn numbers_below(alloc: Global, count: usize) -> Result<Vec<u32>, NoMemory> {
-    let mut numbers = Vec::new(alloc);
-    let mut number = 0u32;
-    for _ in 0..count {
-        numbers.push(number)?;
-        number = number.saturating_add(1);
-    }
-    Ok(numbers)
-}
-
-/// The edges the other way round, by their starts.
-fn turned(alloc: Global, edges: &[Edge]) -> Result<Vec<Edge>, NoMemory> {
-    let mut turned = Vec::new(alloc);
-    for edge in edges {
-        turned.push(Edge {
-            from: edge.to,
-            to: edge.from,
-        })?;
-    }
-    turned.sort()?;
-    Ok(turned)
-}
-
-/// A walk over a graph in depth.
-#[derive(Drop)]
-struct Walk<'a> {
-    edges: &'a [Edge],
-    /// For each node the place of the edge that is followed next.
-    next: Vec<usize>,
-    /// For each node that was met, the root from which it was met.
-    roots: Vec<Option<u32>>,
-    /// The nodes on the way to the present one.
-    path: Vec<u32>,
-    /// The nodes whose edges were followed, in order.
-    done: Vec<u32>,
-}
-
-/// Walks from each root in turn.
-fn walk_from<'a>(
-    alloc: Global,
-    count: usize,
-    edges: &'a [Edge],
-    roots: &[u32],
-) -> Result<Walk<'a>, NoMemory> {
-    let mut walk = Walk {
-        edges,
-        next: first_edges(alloc, count, edges)?,
-        roots: unmet(alloc, count)?,
-        path: Vec::new(alloc),
-        done: Vec::new(alloc),
-    };
-    for root in roots {
-        walk.meet(*root, *root)?;
-        walk.follow(*root)?;
-    }
-    Ok(walk)
-}
-
-/// For each node the place of its first edge.
-fn first_edges(alloc: Global, count: usize, edges: &[Edge]) -> Result<Vec<usize>, NoMemory> {
-    let mut firsts = Vec::new(alloc);
-    let mut at = 0;
-    'nodes: for node in 0..count {
-        at += edges_before(node, &edges[at..]);
-        firsts.push(at)?;
-    }
-    Ok(firsts)
-}
-
-/// How many edges at the head start below a node.
-fn edges_before(node: usize, edges: &[Edge]) -> usize
-    ensures { result ≤ length edges.now }
+/// Whether the end of an edge reaches its start. Ranks rule out most edges that are on no cycle.
+fn is_on_cycle(alloc: Global, edges: &[Edge], ranks: &Ranks, edge: Edge) -> Result<bool, NoMemory>
+    requires ascend { AscendByStart edges.now }
+    requires ordered { AreOrdered ranks.now edges.now }
+    ensures { IfOk result (λ is. IsTrue is ↔ IsOnCycle edges.now edge) }
 {
-    for (index, edge) in edges.iter().enumerate() {
-        if edge.from as usize >= node {
-            return index;
-        }
+    if rank_of(ranks, edge.from) < rank_of(ranks, edge.to) {
+        return Ok(false);
     }
-    edges.len()
+    reaches(alloc, edges, edge.to, edge.from)
 }
 
-fn unmet(alloc: Global, count: usize) -> Result<Vec<Option<u32>>, NoMemory> {
-    let mut roots = Vec::new(alloc);
-    for _ in 0..count {
-        roots.push(None)?;
-    }
-    Ok(roots)
+/// Whether edges by their starts lead from a node to another.
+fn reaches(alloc: Global, edges: &[Edge], start: u32, end: u32) -> Result<bool, NoMemory>
+    requires { AscendByStart edges.now }
+    ensures { IfOk result (λ is. IsTrue is ↔ Reaches edges.now start end) }
+{
+    let nodes = nodes_from(alloc, edges, start)?;
+    Ok(nodes.contains(&end))
 }
 
-impl Walk<'_> {
-    /// The root from which a node was met.
-    fn root_of(&self, node: u32) -> Option<u32> {
-        match self.roots.as_slice().get(node as usize) {
-            Some(root) => *root,
-            None => None,
-        }
+/// The nodes that edges by their starts lead to from a node.
+fn nodes_from(alloc: Global, edges: &[Edge], start: u32) -> Result<IndexSet<u32>, NoMemory>
+    requires { AscendByStart edges.now }
+    ensures { IfOk result (λ nodes. (node : ℕ) → Contains nodes.keys node ↔ Reaches edges.now start node) }
+{
+    let mut met = IndexSet::new(alloc);
+    met.insert(start)?;
+    let mut place = 0;
+    'places: while place < met.len() {
+        let node = met.as_slice()[place];
+        add_ends(edges_from(edges, node), &mut met)?;
+        place += 1;
     }
+    Ok(met)
+}
 
-    /// Goes to a node, unless it was met before.
-    fn meet(&mut self, node: u32, root: u32) -> Result<(), NoMemory> {
-        if let Some(slot) = self.roots.get_mut(node as usize) {
-            if slot.is_none() {
-                *slot = Some(root);
-                self.path.push(node)?;
-            }
-        }
-        Ok(())
+/// Adds the ends of edges.
+fn add_ends(edges: &[Edge], nodes: &mut IndexSet<u32>) -> Result<(), NoMemory>
+    ensures { OnOk result (nodes.new.keys ≡ insert_all nat_eq nodes.old.keys (map (λ edge. edge.to) edges.now)) }
+{
+    for edge in edges {
+        nodes.insert(edge.to)?;
     }
-
-    /// Follows all edges from the present node, and from those that it leads to. Each turn takes an edge, or is the last
-    /// one at a node.
-    fn follow(&mut self, root: u32) -> Result<(), NoMemory> {
-        for _ in 0..self.edges.len().saturating_add(self.next.len()) {
-            let Some(node) = self.path.pop() else {
-                return Ok(());
-            };
-            self.leave(node, root)?;
-        }
-        Ok(())
-    }
-
-    /// Follows an edge from a node, or ends with it.
-    fn leave(&mut self, node: u32, root: u32) -> Result<(), NoMemory> {
-        match self.take_edge(node) {
-            Some(to) => {
-                self.path.push(node)?;
-                self.meet(to, root)
-            }
-            None => {
-                self.done.push(node)?;
-                Ok(())
-            }
-        }
-    }
-
-    /// The end of the next edge of a node.
-    fn take_edge(&mut self, node: u32) -> Option<u32> {
-        let next = self.next.get_mut(node as usize)?;
-        let edge = self.edges.get(*next)?;
-        if edge.from != node {
-            return None;
-        }
-        *next += 1;
-        Some(edge.to)
-    }
+    Ok(())
 }

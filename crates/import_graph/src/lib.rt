@@ -1,28 +1,12 @@
-//! Cycles of imports.
+//! The graph of imports: which import is the first on a cycle.
 #![tactic(auto)]
 
-ghost use Rattle.std.specs.Prelude.{IfOk};
-ghost use Rattle.import_graph.specs.Cycles.{IsFirstOnCycle};
-
 mod cycles;
+mod edges;
+mod ranks;
+#[cfg(test)]
+mod tests;
+mod walk;
 
-use go_base::NoMemory;
-use std::alloc::Global;
-
-/// An import of the package `to` by the package `from`; packages are numbered from 0.
-#[derive(Clone, Copy, Debug, PartialEq, Eq, PartialOrd, Ord)]
-pub struct Edge {
-    pub from: u32,
-    pub to: u32,
-}
-
-/// The index of the first edge whose end reaches its start.
-pub fn first_on_cycle(alloc: Global, edges: &[Edge]) -> Result<Option<usize>, NoMemory>
-    ensures { IfOk result (IsFirstOnCycle edges.now) }
-{
-    let mut count = 0usize;
-    for edge in edges {
-        count = count.max(edge.from as usize + 1).max(edge.to as usize + 1);
-    }
-    cycles::first_among(alloc, count, edges)
-}
+pub use cycles::first_on_cycle;
+pub use edges::Edge;

@@ -1,0 +1,3 @@
+pub mod EdgesOfNode
+pub mod Walked
+pub mod Leading
