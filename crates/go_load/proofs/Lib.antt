@@ -5,3 +5,7 @@ pub mod Stopping
 pub mod Modules
 pub mod Governing
 pub mod TextReading
+pub mod FileLaws
+pub mod LoaderLaws
+pub mod LinkLaws
+pub mod NameLaws
