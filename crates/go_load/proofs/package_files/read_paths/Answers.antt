@@ -27,7 +27,7 @@ paths-preserved g c =
           same = search rules;
           told = rw w.sources-is c.paths.invariant.told;
           slot = rw w.sources-is c.paths.invariant.slot;
-          behind = rw (w.sources-is, w.left-is) (tells_absent (g.F.Files.tree c.args.files.now) (g.F.Files.tree c.paths.files) c.args.paths.now c.args.room c.paths.left c.paths.path-index c.paths.sources.items c.path-item.result c.as_str.result.now c.in_ok-source.field-0 c.paths.invariant.same c.as_str.ensures.value (cc w.in_default) c.paths-test.true c.path-item.is c.in_ok-source.ensures.answer c.paths.invariant.behind);
+          behind = rw (w.sources-is, w.left-is) (tells_absent (g.F.Files.tree c.args.files.now) (g.F.Files.tree c.paths.files) c.args.paths.now c.args.room c.paths.left c.paths.path-index c.paths.sources.items c.path-item.result c.as_str.result.now c.in_ok-source.field-0 c.paths.invariant.same c.as_str.ensures.value (cc) c.paths-test.true c.path-item.is c.in_ok-source.ensures.answer c.paths.invariant.behind);
         }
     ]
 
