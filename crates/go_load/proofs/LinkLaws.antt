@@ -1,5 +1,5 @@
 -- The imports of a package as they are kept, file after file.
-use Rattle.std.proofs.Common.{◌≡◌, ℕ, zero, suc, ◌+◌, ◌<◌, List, [], ◌∷◌, ◌++◌, length, map, take, get_or, Vec, refl, sym, ap, ◌∙◌, append_assoc, append_nil, arith, length-take}
+use Rattle.std.proofs.Common.{◌≡◌, ℕ, zero, suc, ◌+◌, ◌<◌, List, [], ◌∷◌, ◌++◌, length, map, take, get_or, Vec, refl, sym, ap, ◌∙◌, append_assoc, append-nil, arith, length-take}
 use Rattle.std.proofs.lemmas.List.{map_more, length-map}
 use Rattle.std.specs.declared.alloc.Global.{Global}
 use Rattle.go_load.specs.declared.links.Link.{Link}
@@ -10,7 +10,7 @@ use Rattle.go_load.specs.Loading.{kept_in_file, kept_links}
 kept_links-push : (number first : ℕ) (all : List (List Import)) (imports : List Import) → kept_links number first (all ++ imports ∷ []) ≡ kept_links number first all ++ kept_in_file number (first + length all) imports
 kept_links-push number first [] imports =
     let none : first ≡ first + 0 = omega arith in
-    append_nil (kept_in_file number first imports) ∙ ap (λ (file : ℕ). kept_in_file number file imports) none
+    append-nil (kept_in_file number first imports) ∙ ap (λ (file : ℕ). kept_in_file number file imports) none
 kept_links-push number first (one ∷ all) imports =
     let place : first + 1 + length all ≡ first + length (one ∷ all) = omega arith in
     ap (λ (links : List Link). kept_in_file number first one ++ links) (kept_links-push number (first + 1) all imports ∙ ap (λ (file : ℕ). kept_links number (first + 1) all ++ kept_in_file number file imports) place)

@@ -1,5 +1,5 @@
 -- The names and the sizes of a package's files, file after file.
-use Rattle.std.proofs.Common.{◌≡◌, ℕ, ◌+◌, ◌<◌, ◌≤◌, min, Bool, true, false, if◌then◌else◌, bytes_eq, Option, Some, None, List, [], ◌∷◌, ◌++◌, length, map, take, drop, get_or, refl, sym, ap, ◌∙◌, arith, add-one, drop-cons}
+use Rattle.std.proofs.Common.{◌≡◌, ℕ, suc, ◌+◌, ◌<◌, ◌≤◌, min, Bool, true, false, if◌then◌else◌, bytes_eq, Option, Some, None, List, [], ◌∷◌, ◌++◌, length, map, take, drop, get_or, refl, sym, ap, ◌∙◌, arith, add-one, drop-cons}
 use Rattle.std.specs.List.{sum_by}
 use Rattle.std.proofs.lemmas.List.{map_more}
 use Rattle.std.proofs.lemmas.List.Sums.{sum_by_push}
@@ -29,7 +29,7 @@ name_here name source later =
 
 names_here : (name : List ℕ) (sources : List SourceFile) (index : ℕ) (source : SourceFile) → index < length sources → source ≡ get_or sources index source → other_name name (map view_file (drop index sources)) ≡ name_here name source (other_name name (map view_file (drop (index + 1) sources)))
 names_here name sources index source h e =
-    let here : drop index sources ≡ source ∷ drop (index + 1) sources = rw add-one (drop-cons sources index source h ∙ ap (λ (one : SourceFile). one ∷ drop _ sources) (sym e)) in
+    let here : drop index sources ≡ source ∷ drop (index + 1) sources = rw add-one (drop-cons sources index source h ∙ ap (λ (one : SourceFile). one ∷ drop (suc index) sources) (sym e)) in
     ap (λ (these : List SourceFile). other_name name (map view_file these)) here
 
 pub same_name_next : (name : List ℕ) (sources : List SourceFile) (index : ℕ) (source : SourceFile) → index < length sources → source ≡ get_or sources index source → bytes_eq (name_of (view_file source)) name ≡ true → other_name name (map view_file (drop index sources)) ≡ other_name name (map view_file (drop (index + 1) sources))

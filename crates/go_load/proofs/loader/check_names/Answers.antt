@@ -15,7 +15,7 @@ pub returns-then-ne-clause-exact : goal.returns-then-ne-clause-exact
 returns-then-ne-clause-exact c =
     let name = name_of (view_file c.args.head.now) in
     let other : bytes_eq (name_of (view_file c.file-item.result)) (name_of (view_file c.args.head.now)) ≡ false = search rules in
-    refused (broken_at (view_file c.file-item.result) c.file-item.result.tree.name SecondPackageName).place SecondPackageName c.refuse.result (other_name name (map view_file c.args.others.now))
+    refused (Unit {0}) (broken_at (view_file c.file-item.result) c.file-item.result.tree.name SecondPackageName).place SecondPackageName c.refuse.result (other_name name (map view_file c.args.others.now))
     (c.files.invariant ∙ other_name_here name c.args.others.now c.files.file-index c.file-item.result c.files-test.true c.file-item.is other) c.refuse.ensures.here
 
 pub files-preserved : goal.files-preserved
