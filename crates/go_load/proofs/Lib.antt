@@ -5,3 +5,8 @@ pub mod Stopping
 pub mod Modules
 pub mod Governing
 pub mod TextReading
+pub mod Listings
+pub mod Numbers
+pub mod ImportPaths
+pub mod ImportLists
+pub mod Joining
