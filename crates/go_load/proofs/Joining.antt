@@ -12,6 +12,7 @@ use Rattle.go_base.specs.declared.place.Pos.{Pos}
 use Rattle.go_load.specs.declared.built_in.BuiltIn.{BuiltIn}
 use Rattle.go_load.specs.declared.built_in.BuiltIn.TheVariants as built_ins
 use Rattle.go_load.specs.declared.error.LoadError.{LoadError}
+use Rattle.go_load.specs.declared.error.LoadError.TheVariants.{Refused, ReadFault, OutOfMemory}
 use Rattle.go_load.specs.declared.find_module.Module as modules
 use Rattle.go_load.specs.declared.found.Entry.{Entry}
 use Rattle.go_load.specs.declared.found.Found.{Found}
@@ -205,6 +206,13 @@ directory_there (Some files) old new path dir number known within = λ project s
     ∙ known_has_files project path dir number got.0 none named
     (λ zero_is. first_is path (target_path project) old.paths right.target (ap (slice_get old.paths) (sym zero_is) ∙ at)) got.2 is_right,
     joined_there project old new path number right known within)
+
+pub directory_failed : (tree : Option Tree) (old new : Found) (path dir : List ℕ) (error : LoadError) → IfSome tree (λ files. ListsGoPaths files dir (Err error))
+    → IfSome tree (λ files. FindsDirectory files old new path dir (Err error))
+directory_failed None old new path dir error lists = tt
+directory_failed (Some files) old new path dir (Refused place rule) lists = λ project same right none named. lists
+directory_failed (Some files) old new path dir ReadFault lists = λ project same right none named. tt
+directory_failed (Some files) old new path dir OutOfMemory lists = λ project same right none named. tt
 
 pub directory_empty : (tree : Option Tree) (old mid new : Found) (path dir : List ℕ) (number : ℕ) (paths : Vec (String Global) Global) → IsNumbered old mid path number
     → length mid.entries.items ≤ number → IfSome tree (λ files. ListsGoPaths files dir (Ok paths)) → length paths.items ≡ 0

@@ -10,3 +10,4 @@ pub mod Numbers
 pub mod ImportPaths
 pub mod ImportLists
 pub mod Joining
+pub mod FindingSteps

@@ -53,10 +53,10 @@ impl Module {
 }
 
 /// What an import path has after the path of a module and a `/`.
-fn import_rest<'a>(module: &str, import: &'a str) -> Option<&'a str>
-    ensures { option_copied result ≡ import_rest module.now import.now }
+fn import_rest<'a>(front: &str, import: &'a str) -> Option<&'a str>
+    ensures { option_copied result ≡ import_rest front.now import.now }
 {
-    import.strip_prefix(module)?.strip_prefix('/')
+    import.strip_prefix(front)?.strip_prefix('/')
 }
 
 /// Reads the go.mod of a directory, or of the nearest directory above that has one.
