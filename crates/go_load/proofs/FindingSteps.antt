@@ -161,16 +161,17 @@ found_more project old mid new source literals items literal number before found
       right = found.1.right;
     })
 
-pub found_next : (tree now : Option Tree) (old mid new : Found) (source : SourceFile) (literals : List Token) (items : List numbers.Import) (index : ℕ) (literal : Token) (number : ℕ)
-    → now ≡ tree → index < length literals → literal ≡ get_or literals index literal
+pub found_next : (tree now : Option Tree) (old mid new : Found) (source : SourceFile) (literals : List Token) (items more : List numbers.Import) (index : ℕ) (literal : Token) (number : ℕ)
+    → now ≡ tree → index < length literals → literal ≡ get_or literals index literal → more ≡ items ++ record { literal = literal; «package» = number } ∷ []
     → FindsFront tree old mid source (take index literals) items → IfSome now (λ files. FindsImport files mid new source literal (Ok number))
-    → FindsFront tree old new source (take (index + 1) literals) (items ++ record { literal = literal; «package» = number } ∷ [])
-found_next None now old mid new source literals items index literal number same within is before found = tt
-found_next (Some files) now old mid new source literals items index literal number same within is before found = λ project told right.
+    → FindsFront tree old new source (take (index + 1) literals) more
+found_next None now old mid new source literals items more index literal number same within is pushed before found = tt
+found_next (Some files) now old mid new source literals items more index literal number same within is pushed before found = λ project told right.
     let so_far = before project told right in
     let here : IfSome (Some files) (λ files. FindsImport files mid new source literal (Ok number)) = subst (λ tree. IfSome tree (λ files. FindsImport files mid new source literal (Ok number))) same found in
     let longer : take (index + 1) literals ≡ take index literals ++ literal ∷ [] = take_more literals index literal within ∙ ap (λ token. take index literals ++ token ∷ []) (sym is) in
-    rw longer (found_more project old mid new source (take index literals) items literal number so_far (here project told so_far.right))
+    subst (λ list. HasFound project old new (view_file source) (imports_at source list) more) (sym longer)
+    (subst (HasFound project old new (view_file source) (imports_at source (take index literals ++ literal ∷ []))) (sym pushed) (found_more project old mid new source (take index literals) items literal number so_far (here project told so_far.right)))
 
 split_at : (literals : List Token) (index : ℕ) (literal : Token) → index < length literals → literal ≡ get_or literals index literal
     → literals ≡ take index literals ++ (literal ∷ drop (suc index) literals)
@@ -269,17 +270,18 @@ files_more project old mid new files all file imports before found =
       right = found.3;
     }
 
-pub files_next : (tree now : Option Tree) (old mid new : Found) (sources : List SourceFile) (all : Lists) (index : ℕ) (source : SourceFile) (imports : Vec numbers.Import Global)
-    → now ≡ tree → index < length sources → source ≡ get_or sources index source
+pub files_next : (tree now : Option Tree) (old mid new : Found) (sources : List SourceFile) (all more : Lists) (index : ℕ) (source : SourceFile) (imports : Vec numbers.Import Global)
+    → now ≡ tree → index < length sources → source ≡ get_or sources index source → more ≡ all ++ imports ∷ []
     → FindsFrontFiles tree old mid (take index sources) all → IfSome now (λ files. FindsImports files mid new source (Ok imports))
-    → FindsFrontFiles tree old new (take (index + 1) sources) (all ++ imports ∷ [])
-files_next None now old mid new sources all index source imports same within is before found = tt
-files_next (Some files) now old mid new sources all index source imports same within is before found = λ project told right.
+    → FindsFrontFiles tree old new (take (index + 1) sources) more
+files_next None now old mid new sources all more index source imports same within is pushed before found = tt
+files_next (Some files) now old mid new sources all more index source imports same within is pushed before found = λ project told right.
     let so_far = before project told right in
     let here : IfSome (Some files) (λ files. FindsImports files mid new source (Ok imports)) = subst (λ tree. IfSome tree (λ files. FindsImports files mid new source (Ok imports))) same found in
     let longer : map view_file (take (index + 1) sources) ≡ map view_file (take index sources) ++ view_file source ∷ [] =
     ap (map view_file) (take_more sources index source within ∙ ap (λ one. take index sources ++ one ∷ []) (sym is)) ∙ map-append view_file (take index sources) (source ∷ []) in
-    rw longer (files_more project old mid new (map view_file (take index sources)) all (view_file source) imports so_far (here project told so_far.right))
+    subst (λ list. HasFoundAll project old new list more) (sym longer)
+    (subst (HasFoundAll project old new (map view_file (take index sources) ++ view_file source ∷ [])) (sym pushed) (files_more project old mid new (map view_file (take index sources)) all (view_file source) imports so_far (here project told so_far.right)))
 
 split_files : (sources : List SourceFile) (index : ℕ) (source : SourceFile) → index < length sources → source ≡ get_or sources index source
     → map view_file sources ≡ map view_file (take index sources) ++ (view_file source ∷ map view_file (drop (suc index) sources))
@@ -302,7 +304,7 @@ file_broken None now old mid new last sources all index source error same within
 file_broken (Some files) now old mid new last sources all index source error same within is before found = λ project told right.
     let so_far = before project told right in
     let here : IfSome (Some files) (λ files. FindsImports files mid new source (Err error)) = subst (λ tree. IfSome tree (λ files. FindsImports files mid new source (Err error))) same found in
-    rw (split_files sources index source within is)
+    subst (λ list. AllFound project old last list (Err error)) (sym (split_files sources index source within is))
     (files_broken project old mid new last (map view_file (take index sources)) (map view_file (drop (suc index) sources)) all (view_file source) error so_far (here project told so_far.right))
 
 pub all_found : (tree : Option Tree) (old new : Found) (sources front : List SourceFile) (all : Vec (Vec numbers.Import Global) Global) → front ≡ sources
@@ -341,6 +343,6 @@ package_built_in (Some files) number old sources all entry is built_in lists = �
     subst (λ b. PackageImportsFound project old old b (map view_file sources) (Ok all)) (sym built_in) found in
     subst (λ one. IfSome one (λ entry. PackageImportsFound project old old (is_built_in (view_origin entry.origin)) (map view_file sources) (Ok all))) (sym is) here
   where
-    nothing : (sources : List SourceFile) → map (λ (file : File). []) (map view_file sources) ≡ map (λ (file : SourceFile). [] {A = numbers.Import}) sources
+    nothing : (sources : List SourceFile) → map {B = List numbers.Import} (λ (file : File). []) (map view_file sources) ≡ map {B = List numbers.Import} (λ (file : SourceFile). []) sources
     nothing [] = refl
     nothing (source ∷ sources) = ap (λ rest. [] ∷ rest) (nothing sources)

@@ -11,3 +11,4 @@ pub mod ImportPaths
 pub mod ImportLists
 pub mod Joining
 pub mod FindingSteps
+pub mod Written
