@@ -9,3 +9,10 @@ pub mod FileLaws
 pub mod LoaderLaws
 pub mod LinkLaws
 pub mod NameLaws
+pub mod Listings
+pub mod Numbers
+pub mod ImportPaths
+pub mod ImportLists
+pub mod Joining
+pub mod FindingSteps
+pub mod Written
