@@ -4,7 +4,6 @@ use Rattle.std.specs.List.{cons_option}
 use Rattle.std.specs.declared.alloc.Global.{Global}
 use Rattle.std.proofs.lemmas.List.Elements.{All-nil, All-push, All-same}
 use Rattle.go_base.specs.Devices.{Tree, file_at}
-use Rattle.go_base.specs.declared.place.Place.{Place}
 use Rattle.go_base.specs.declared.rule.Rule.TheVariants as rules
 use Rattle.go_syntax.specs.declared.decls.FileTree.{FileTree}
 use Rattle.go_load.specs.declared.built_in.BuiltIn.{BuiltIn}

@@ -1,6 +1,5 @@
 -- What is loaded of one package.
 use Rattle.std.proofs.Common.{◌≡◌, ℕ, zero, suc, ◌<◌, Option, Some, None, IfSome, Result, Ok, Err, List, [], ◌∷◌, length, slice_get, string_bytes, refl, sym, subst, arith}
-use Rattle.go_base.specs.Devices.{Tree}
 use Rattle.go_base.specs.declared.place.Place.{Place}
 use Rattle.go_base.specs.declared.rule.Rule.{Rule}
 use Rattle.go_base.specs.declared.rule.Rule.TheVariants as rules
@@ -14,7 +13,8 @@ use Rattle.go_load.specs.Loading.{broken, IfEntry, Checks, ChecksFiles}
 use Rattle.go_load.specs.Modules.{Broken}
 use Rattle.go_load.specs.Places.{first_place, Refuses}
 use Rattle.go_load.specs.Programs.{File, ReadsAll, Ends, Stops, Goes, name_fault, path_asked}
-use Rattle.go_load.specs.Projects.{FileText, Project, Origin, BuiltInFile, Paths, texts_of, texts_at, dir_named, IsDirectory, IsOriginOfImport}
+use Rattle.go_load.specs.Projects.{FileText, Project, Origin, BuiltInFile, Paths, texts_of, texts_at, dir_named, IsOriginOfImport}
+use Rattle.go_load.proofs.Listings.{directory_texts}
 
 -- ---- the check of the files
 
@@ -31,10 +31,6 @@ no_files room texts result (Goes _ text more file (Err broken) reads all) e = cc
 
 built_in_has_text : (text : FileText) → text ∷ [] ≡ [] → ⊥
 built_in_has_text text e = cc
-
--- a directory with Go files has texts
-directory_texts : (files : Tree) (named : Option (List ℕ)) (paths : List (List ℕ)) → IsDirectory files named paths → texts_at files paths ≡ [] → ⊥
-directory_texts files named paths there none = ?
 
 import_has_files : (project : Project) (room : ℕ) (path : List ℕ) (origin : Origin) → IsOriginOfImport project path origin → ReadsAll room (texts_of project.files origin) (Ok []) → ⊥
 import_has_files project room path (BuiltInFile built_in) right reads = built_in_has_text _ (no_files room (texts_of project.files (BuiltInFile built_in)) (Ok []) reads refl)

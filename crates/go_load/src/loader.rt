@@ -6,12 +6,11 @@ ghost use Rattle.go_base.specs.Devices.{HasFaulted, Tree};
 ghost use Rattle.go_base.specs.declared.place.Place.{Place};
 ghost use Rattle.go_load.specs.Loading.{LoadsFiles, LoadsPackage, LoadsQueue, AddsPackage, Checks, ChecksFiles, IfEntry, minor_of, told_package};
 ghost use Rattle.go_load.specs.FileReading.{AreOf};
-ghost use Rattle.go_load.specs.Finding.{view_file, view_origin};
+ghost use Rattle.go_load.specs.Finding.{view_file};
 ghost use Rattle.go_load.specs.Modules.{view_module};
 ghost use Rattle.go_load.specs.Places.{first_place, place_in, Refuses};
 ghost use Rattle.go_load.specs.Programs.{are_program, name_of, other_name};
-ghost use Rattle.go_load.specs.Projects.{is_built_in};
-ghost use Rattle.go_load.specs.Sources.{files_of, packages_of, AreTold, IsText};
+ghost use Rattle.go_load.specs.Sources.{files_of, packages_of, AreTold};
 ghost use Rattle.go_load.specs.Refusals.{Justifies, Stops};
 
 use crate::error::LoadError;

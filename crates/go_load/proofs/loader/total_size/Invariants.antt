@@ -1,4 +1,4 @@
-use Rattle.std.proofs.Common.{◌≡◌, min, map, length, take, ◌^◌, ◌-◌}
+use Rattle.std.proofs.Common.{◌≡◌, min, map, length, take}
 use Rattle.std.specs.List.{sum_by}
 use Rattle.go_load.specs.Finding.{view_file}
 use Rattle.go_load.proofs.loader.total_size.Given as goal

@@ -1,5 +1,3 @@
-use Rattle.go_parse.specs.Refusal.{DecidesReach}
-use Rattle.go_syntax.specs.Reach.{reach_index}
 use Rattle.go_load.proofs.Stopping.{deep_stops, syntax_stops}
 use Rattle.go_load.proofs.TextReading.{too_deep, bad_syntax}
 use Rattle.go_load.proofs.read.tree_of.Goals as goal
