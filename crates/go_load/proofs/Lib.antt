@@ -11,3 +11,14 @@ pub mod Holding
 pub mod PackageLoading
 pub mod QueueLoading
 pub mod ImportChecks
+pub mod FileLaws
+pub mod LoaderLaws
+pub mod LinkLaws
+pub mod NameLaws
+pub mod Listings
+pub mod Numbers
+pub mod ImportPaths
+pub mod ImportLists
+pub mod Joining
+pub mod FindingSteps
+pub mod Written

@@ -1,24 +1,23 @@
 -- Why files are refused.
-use Rattle.std.proofs.Common.{◌≡◌, ℕ, ◌≤◌, min, Bool, true, false, Option, Some, None, IfSome, OnOk, Result, Ok, Err, List, [], length, slice_get, if◌then◌else◌, ◌==◌, inl, inr, refl, ap, sym, ◌∙◌, subst, is_none}
+use Rattle.std.proofs.Common.{◌≡◌, ℕ, Bool, true, false, Option, Some, None, IfSome, OnOk, Result, Ok, Err, List, length, slice_get, if◌then◌else◌, ◌==◌, inl, inr, refl, ap, subst, is_none}
 use Rattle.go_base.specs.Devices.{Tree}
 use Rattle.go_base.specs.declared.place.Place.{Place}
 use Rattle.go_base.specs.declared.rule.Rule.{Rule}
 use Rattle.go_base.specs.declared.rule.Rule.TheVariants as rules
 use Rattle.go_ast.specs.declared.token.Token.{Token}
 use Rattle.go_ast.specs.Lexical.{IsTokenList, IsFault, IsFaultOf}
-use Rattle.go_ast.specs.Pieces as pieces
-use Rattle.go_ast.specs.Pieces.{Class, Space, LineComment, GeneralComment, Mark, Word, Numeral, RuneLiteral, StringLiteral, RawLiteral, Fault, at_start, bad_rule, fault_at, or_else, rune_fault, fault_of, fault_of_class, stray_rule, class_of, extent, is_closed, bad_item}
+use Rattle.go_ast.specs.Pieces.{Class, Space, LineComment, GeneralComment, Mark, Word, Numeral, RuneLiteral, StringLiteral, RawLiteral, Fault, at_start, bad_rule, fault_at, or_else, rune_fault, fault_of_class, stray_rule, class_of, extent, is_closed, bad_item}
 use Rattle.go_ast.specs.Literals.{first, first_bad, item, item_rests, character, is_integer}
 use Rattle.go_syntax.specs.Reach.{reach_index}
 use Rattle.go_scan.specs.Scanning.{IsRefusal}
 use Rattle.go_scan.specs.declared.scanner.ScanError.TheVariants as scans
-use Rattle.go_parse.specs.Refusal.{DecidesReach}
+use Rattle.go_parse.specs.Refusal.{DecidesReach, IsParsed}
 use Rattle.go_parse.specs.declared.stop.ParseError.TheVariants as parses
 use Rattle.go_load.specs.declared.error.LoadError.{LoadError}
 use Rattle.go_load.specs.declared.error.LoadError.TheVariants.{Refused, ReadFault, OutOfMemory}
 use Rattle.go_load.specs.Places.{place_in, start_in, Refuses}
 use Rattle.go_load.specs.Sources.{IsText}
-use Rattle.go_load.specs.Refusals.{Subject, OfBytes, subject, JustifiesAs, Justifies, Stops, HasFault, IsTooDeep, HasTokens}
+use Rattle.go_load.specs.Refusals.{OfBytes, subject, Justifies, Stops}
 
 pub refuses_stops : (files : Option Tree) (place : Place) (rule : Rule) (error : LoadError) → Refuses place rule error → Justifies files place rule → Stops files error
 refuses_stops files place rule (Refused at by) same h = rw (same.0, same.1) h
@@ -98,6 +97,11 @@ pub deep_stops : (files : Option Tree) (path bytes : List ℕ) (tokens : List To
 deep_stops files path bytes tokens index at error list reaches start same text =
     refuses_stops files (place_in path bytes at) rules.NestedTooDeeply error same
     (record { bytes = bytes; tokens = tokens; index = index; text = text; list = list; reaches = reaches; place_is = ap (place_in path bytes) start })
+
+pub syntax_stops : (files : Option Tree) (path bytes : List ℕ) (tokens : List Token) (index at : ℕ) (error : LoadError) → IsTokenList bytes tokens → DecidesReach (Err (parses.Unexpected index)) (reach_index tokens) → IsParsed tokens (Err (parses.Unexpected index)) → at ≡ start_in bytes (slice_get tokens index) → Refuses (place_in path bytes at) rules.SyntaxError error → IsText files path bytes → Stops files error
+syntax_stops files path bytes tokens index at error list reaches unexpected start same text =
+    refuses_stops files (place_in path bytes at) rules.SyntaxError error same
+    (record { bytes = bytes; tokens = tokens; index = index; text = text; list = list; none = reaches; unexpected = unexpected; place_is = ap (place_in path bytes) start })
 
 pub always : {T E P : Type 0} (result : Result T E) → P → OnOk result P
 always (Ok x) h = h

@@ -1,15 +1,14 @@
 -- What the reading of one text answers.
-use Rattle.std.proofs.Common.{◌≡◌, ℕ, List, length, slice_get, Result, Ok, Err, refl, ap}
+use Rattle.std.proofs.Common.{◌≡◌, ℕ, List, slice_get, Err}
 use Rattle.go_base.specs.declared.rule.Rule.{Rule}
 use Rattle.go_base.specs.declared.rule.Rule.TheVariants as rules
 use Rattle.go_ast.specs.declared.token.Token.{Token}
 use Rattle.go_ast.specs.Lexical.{IsTokenList, IsFault}
-use Rattle.go_syntax.specs.declared.decls.FileTree.{FileTree}
 use Rattle.go_parse.specs.declared.stop.ParseError.TheVariants as parses
 use Rattle.go_load.specs.declared.error.LoadError.{LoadError}
 use Rattle.go_load.specs.declared.error.LoadError.TheVariants.{Refused, ReadFault, OutOfMemory}
 use Rattle.go_load.specs.Places.{place_in, start_in, Refuses}
-use Rattle.go_load.specs.Reading.{IsVerdict, IsBadText, BadBytes, TooDeep, BadSyntax, BreaksText, ReadsTree}
+use Rattle.go_load.specs.Reading.{IsVerdict, IsBadText, BadBytes, TooDeep, BadSyntax, ReadsTree}
 
 breaks_text : (path bytes : List ℕ) (offset : ℕ) (rule : Rule) (error : LoadError) → IsBadText bytes offset rule → Refuses (place_in path bytes offset) rule error → ReadsTree path bytes (Err error)
 breaks_text path bytes offset rule (Refused at by) bad same = rw same.1 (record { offset = offset; bad = bad; place_is = same.0 })

@@ -9,8 +9,7 @@ use Rattle.go_load.specs.declared.error.LoadError.TheVariants.{Refused, ReadFaul
 use Rattle.go_load.specs.declared.sources.SourceFile.{SourceFile}
 use Rattle.go_load.specs.declared.sources.Sources.{Sources}
 use Rattle.go_load.specs.Finding.{listed}
-use Rattle.go_load.specs.GoMod.{newest_minor}
-use Rattle.go_load.specs.Loading.{broken, view_source, files_from, headers_from, all_imports}
+use Rattle.go_load.specs.Loading.{broken, minor_of, view_source, files_from, headers_from, all_imports}
 use Rattle.go_load.specs.Modules.{Broken, Module, Governs, IsTargetDir}
 use Rattle.go_load.specs.Programs.{Package, IsResult, known}
 use Rattle.go_load.specs.Projects.{Project}
@@ -48,10 +47,6 @@ pub record IsBadProject (files : Tree) (target : Target) (limit : ℕ) (at : Bro
 -- what is loaded of these files breaks this rule first
 abbrev pub BreaksFirst : Tree → Target → ℕ → Broken → Type 0
 BreaksFirst files target limit at = HasBadModule files target at ⊎ IsBadProject files target limit at
-
-abbrev pub minor_of : Option Module → ℕ
-minor_of None = newest_minor
-minor_of (Some root) = root.minor
 
 -- sources are a project's packages
 pub record IsSourcesOf (project : Project) (packages : List Package) (sources : Sources) : Type 0 where

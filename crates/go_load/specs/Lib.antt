@@ -14,8 +14,10 @@ pub mod Reading
 pub mod Packages
 pub mod Imports
 pub mod Projects
+pub mod GoPaths
 pub mod Programs
 pub mod Finding
+pub mod Entries
 pub mod FileReading
 pub mod Loading
 pub mod Answers

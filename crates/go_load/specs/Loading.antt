@@ -21,11 +21,12 @@ use Rattle.go_load.specs.declared.sources.SourceFile.{SourceFile}
 use Rattle.go_load.specs.declared.sources.SourcePackage.{SourcePackage}
 use Rattle.go_load.specs.FileReading.{Says, view_files}
 use Rattle.go_load.specs.Finding.{view_file, view_origin, AreRight, AllFound, listed, numbered, numbered_files}
+use Rattle.go_load.specs.GoMod.{newest_minor}
 use Rattle.go_load.specs.Imports.{Import, import_path}
-use Rattle.go_load.specs.Modules.{Broken}
+use Rattle.go_load.specs.Modules.{Broken, Module}
 use Rattle.go_load.specs.Places.{place_in}
 use Rattle.go_load.specs.Programs.{File, Package, Link, LoadsNext, IsPackage, BreaksPackage, IsFront, IsComplete, ReadsAll, name_fault, path_asked, first_of_program, links, AreImportsSound, IsNext, IsOnCycleFirst, unfound, import_files, imports_in, imports_of_files, imports_of_package, with_import, known, links_from, room_for, size, are_program, name_of}
-use Rattle.go_load.specs.Projects.{Project, texts_of, is_built_in}
+use Rattle.go_load.specs.Projects.{Project, Origin, texts_of, is_built_in}
 use Rattle.go_load.specs.Reading.{max_file_bytes}
 
 -- ---- what a loader holds
@@ -89,6 +90,11 @@ pub record IsAt (project : Project) (loader : Loader) (packages : List Package) 
   pub paths : loader.found.paths ≡ known project packages
   pub front : IsFront project packages
 
+-- the N of Go 1.N of a program: that of its module, else the newest
+abbrev pub minor_of : Option Module → ℕ
+minor_of None = newest_minor
+minor_of (Some root) = root.minor
+
 -- ---- answers
 
 abbrev pub broken : Place → Rule → Broken
@@ -105,10 +111,15 @@ Checks fault (Err (Refused place rule)) = fault ≡ Some (broken place rule)
 Checks fault (Err ReadFault) = Unit {0}
 Checks fault (Err OutOfMemory) = Unit {0}
 
+-- the answer for files that are to be found here
+abbrev pub LoadsOrigin : Tree → ℕ → Origin → Result (Vec SourceFile Global) LoadError → Type 0
+LoadsOrigin files left origin result =
+    Says view_files (ReadsAll (if is_built_in origin then max_file_bytes else left) (texts_of files origin)) result
+
 -- the answer for the files of a package
 abbrev pub LoadsFiles : Tree → ℕ → Loader → Result (Vec SourceFile Global) LoadError → Type 0
 LoadsFiles files number loader result =
-    IfEntry loader.found number (λ entry. let origin = view_origin entry.origin in Says view_files (ReadsAll (if is_built_in origin then max_file_bytes else loader.left) (texts_of files origin)) result)
+    IfEntry loader.found number (λ entry. LoadsOrigin files loader.left (view_origin entry.origin) result)
 
 -- the answer of the check of a package's files
 abbrev pub ChecksFiles : ℕ → Loader → List SourceFile → Result (Unit {0}) LoadError → Type 0

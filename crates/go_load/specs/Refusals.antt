@@ -7,6 +7,7 @@ use Rattle.go_base.specs.declared.rule.Rule.TheVariants as rules
 use Rattle.go_base.specs.declared.target.Target.{Target}
 use Rattle.go_ast.specs.declared.token.Token.{Token}
 use Rattle.go_ast.specs.Lexical.{IsTokenList, IsFault}
+use Rattle.go_grammar.specs.Files.{IsUnexpected}
 use Rattle.go_syntax.specs.Reach.{reach_index}
 use Rattle.go_load.specs.declared.error.LoadError.{LoadError}
 use Rattle.go_load.specs.declared.error.LoadError.TheVariants.{Refused, ReadFault, OutOfMemory}
@@ -30,13 +31,16 @@ pub record IsTooDeep (files : Option Tree) (place : Place) : Type 0 where
   pub reaches : reach_index tokens ≡ Some index
   pub place_is : place ≡ place_in place.path bytes (start_in bytes (slice_get tokens index))
 
--- a file has tokens, of which none reaches too far
-pub record HasTokens (files : Option Tree) (path : List ℕ) : Type 0 where
+-- a file has tokens, of which none reaches too far, and the first part that cannot be read begins here
+pub record IsBadSyntax (files : Option Tree) (place : Place) : Type 0 where
   pub bytes : List ℕ
   pub tokens : List Token
-  pub text : IsText files path bytes
+  pub index : ℕ
+  pub text : IsText files place.path bytes
   pub list : IsTokenList bytes tokens
   pub none : reach_index tokens ≡ None
+  pub unexpected : IsUnexpected tokens index
+  pub place_is : place ≡ place_in place.path bytes (start_in bytes (slice_get tokens index))
 
 -- the file at the path has more bytes than a file may have, where files are told
 abbrev pub IsTooLarge : Option Tree → List ℕ → Type 0
@@ -68,7 +72,7 @@ subject _ = OfProgram
 abbrev pub JustifiesAs : Subject → Option Tree → Place → Rule → Type 0
 JustifiesAs OfBytes files place rule = HasFault files place rule
 JustifiesAs OfReach files place rule = IsTooDeep files place
-JustifiesAs OfSyntax files place rule = HasTokens files place.path
+JustifiesAs OfSyntax files place rule = IsBadSyntax files place
 JustifiesAs OfLength files place rule = IsTooLarge files place.path
 JustifiesAs OfNothing files place rule = ⊥
 JustifiesAs OfProgram files place rule = Unit {0}

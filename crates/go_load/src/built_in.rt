@@ -2,6 +2,7 @@
 
 ghost use Rattle.std.specs.Prelude.{◌≡◌, ◌≤◌, length};
 ghost use Rattle.go_load.specs.BuiltIns.{built_in_path, built_in_text};
+ghost use Rattle.go_load.specs.Imports.{built_in_named};
 
 /// A built-in package.
 #[derive(Clone, Copy, Debug, PartialEq, Eq)]
@@ -43,7 +44,9 @@ func Gosched()
 
 impl BuiltIn {
     /// The built-in package with an import path.
-    pub fn named(path: &str) -> Option<BuiltIn> {
+    pub fn named(path: &str) -> Option<BuiltIn>
+        ensures { result ≡ built_in_named path.now }
+    {
         match path {
             "errors" => Some(BuiltIn::Errors),
             "os" => Some(BuiltIn::Os),

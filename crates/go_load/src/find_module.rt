@@ -1,8 +1,10 @@
 //! The module to which the target belongs.
 
-ghost use Rattle.std.specs.Prelude.{◌≡◌, ◌≤◌, IfErr, IfSome, IsErrOf};
+ghost use Rattle.std.specs.Prelude.{◌≡◌, ◌≤◌, IfOk, IfErr, IfSome, IsErrOf, option_map, string_bytes};
+ghost use Rattle.std.specs.Option.{option_copied};
 ghost use Rattle.go_base.specs.Devices.{HasFaulted};
-ghost use Rattle.go_load.specs.Modules.{own_module, AnswersModule, Governs};
+ghost use Rattle.go_load.specs.Imports.{dir_path, import_dir, import_rest};
+ghost use Rattle.go_load.specs.Modules.{view_module, own_module, AnswersModule, Governs};
 ghost use Rattle.go_load.specs.Refusals.{Stops};
 
 use crate::error::LoadError;
@@ -23,7 +25,9 @@ pub struct Module {
 
 impl Module {
     /// The import path of a directory at or below that of the module.
-    pub fn path_of(&self, alloc: Global, dir: &str) -> Result<String, NoMemory> {
+    pub fn path_of(&self, alloc: Global, dir: &str) -> Result<String, NoMemory>
+        ensures { IfOk result (λ path. string_bytes path ≡ dir_path (view_module self.now) dir.now) }
+    {
         if dir == self.dir.as_str() {
             return Ok(self.path.clone()?);
         }
@@ -32,7 +36,9 @@ impl Module {
     }
 
     /// The directory that an import path of this module names.
-    pub fn dir_of(&self, alloc: Global, import: &str) -> Result<Option<String>, NoMemory> {
+    pub fn dir_of(&self, alloc: Global, import: &str) -> Result<Option<String>, NoMemory>
+        ensures { IfOk result (λ dir. option_map string_bytes dir ≡ import_dir (view_module self.now) import.now) }
+    {
         if import == self.path.as_str() {
             return Ok(Some(self.dir.clone()?));
         }
@@ -47,8 +53,10 @@ impl Module {
 }
 
 /// What an import path has after the path of a module and a `/`.
-fn import_rest<'a>(module: &str, import: &'a str) -> Option<&'a str> {
-    import.strip_prefix(module)?.strip_prefix('/')
+fn import_rest<'a>(front: &str, import: &'a str) -> Option<&'a str>
+    ensures { option_copied result ≡ import_rest front.now import.now }
+{
+    import.strip_prefix(front)?.strip_prefix('/')
 }
 
 /// Reads the go.mod of a directory, or of the nearest directory above that has one.

@@ -1,7 +1,8 @@
 //! The packages that a program has, in the order in which they are found.
 
-ghost use Rattle.std.specs.Prelude.{◌≡◌, ◌≤◌, ◌<◌, ◌+◌, [], length, map, IfOk, IfErr, IfSome, IsErrOf, IsTrue};
+ghost use Rattle.std.specs.Prelude.{◌≡◌, ◌≤◌, ◌<◌, ◌+◌, [], length, map, option_map, string_bytes, IfOk, IfErr, IfSome, IsErrOf, IsTrue, OnOk};
 ghost use Rattle.go_base.specs.Devices.{HasFaulted};
+ghost use Rattle.go_load.specs.Entries.{dir_in, AddsEntry, FindsDirectory, IsNumbered, JoinsBuiltIn, RuntimeFound};
 ghost use Rattle.go_load.specs.Finding.{listed, BeginsWith, FindsPackage, FindsImport, FindsImports, FindsAll};
 ghost use Rattle.go_load.specs.Loading.{FindsImportsOf};
 ghost use Rattle.go_load.specs.Refusals.{Stops};
@@ -94,7 +95,9 @@ impl Found {
     }
 
     /// The number of the package that has an import path; the next, where it is not among those found.
-    pub fn number_of(&mut self, path: &str) -> Result<u32, NoMemory> {
+    pub fn number_of(&mut self, path: &str) -> Result<u32, NoMemory>
+        ensures { IfOk result (IsNumbered self.old self.new path.now) }
+    {
         let id = self.paths.intern(path)?;
         match u32::try_from(id.number) {
             Ok(number) => Ok(number),
@@ -227,7 +230,10 @@ impl Found {
         path: &str,
         built_in: BuiltIn,
         asker: Option<Pos>,
-    ) -> Result<u32, NoMemory> {
+    ) -> Result<u32, NoMemory>
+        ensures joins { IfOk result (JoinsBuiltIn built_in self.old self.new path.now) }
+        ensures last { IfOk result (λ number. length self.old.entries.items ≤ number → length self.new.entries.items ≡ length self.old.entries.items + 1) }
+    {
         let number = self.number_of(path)?;
         if (number as usize) >= self.entries.len() {
             self.push(path, Origin::BuiltIn(built_in), asker)?;
@@ -238,6 +244,7 @@ impl Found {
     /// Adds the package `runtime` where it is not among those found: whether it was added.
     pub fn add_runtime(&mut self) -> Result<bool, NoMemory>
         ensures last { IfOk result (λ added. IsTrue added → length self.new.entries.items ≡ length self.old.entries.items + 1) }
+        ensures exact { IfOk result (RuntimeFound self.old self.new) }
     {
         let count = self.entries.len();
         let number = self.add_built_in("runtime", BuiltIn::Runtime, None)?;
@@ -245,7 +252,9 @@ impl Found {
     }
 
     /// Adds what is found behind the last package.
-    fn push(&mut self, path: &str, origin: Origin, asker: Option<Pos>) -> Result<(), NoMemory> {
+    fn push(&mut self, path: &str, origin: Origin, asker: Option<Pos>) -> Result<(), NoMemory>
+        ensures { OnOk result (AddsEntry self.old self.new path.now origin asker) }
+    {
         let path = String::from_str(self.alloc, path)?;
         self.entries.push(Entry {
             path,
@@ -268,6 +277,7 @@ impl Found {
         ensures later { F.faults files.old ≤ F.faults files.new }
         ensures why { IfErr result (Stops (F.tree files.old)) }
         ensures same { F.tree files.new ≡ F.tree files.old }
+        ensures told { IfSome (F.tree files.old) (λ tree. FindsDirectory tree self.old self.new path.now dir.now result) }
     {
         let number = self.number_of(path)?;
         if (number as usize) < self.entries.len() {
@@ -282,7 +292,9 @@ impl Found {
     }
 
     /// The directory that an import path names.
-    fn dir_of(&self, path: &str) -> Result<Option<String>, NoMemory> {
+    fn dir_of(&self, path: &str) -> Result<Option<String>, NoMemory>
+        ensures { IfOk result (λ dir. option_map string_bytes dir ≡ dir_in self.now.root path.now) }
+    {
         match &self.root {
             Some(module) => module.dir_of(self.alloc, path),
             None => Ok(None),

@@ -1,5 +1,9 @@
 //! The imports of a file.
 
+ghost use Rattle.std.specs.Prelude.{◌≡◌, ◌++◌, map, option_map, string_bytes, ℕ, List, IfOk, OnOk};
+ghost use Rattle.go_load.specs.Imports.{imports_of, written_path};
+ghost use Rattle.go_load.specs.Packages.{text_in};
+
 use crate::sources::SourceFile;
 use go_ast::{Kind, Token};
 use go_base::NoMemory;
@@ -8,17 +12,21 @@ use go_syntax::{FileTree, ImportSpec};
 use std::alloc::Global;
 
 /// The path literals of the imports of a file, in order.
-pub fn import_literals(alloc: Global, tree: &FileTree) -> Result<Vec<Token>, NoMemory> {
+pub fn import_literals(alloc: Global, tree: &FileTree) -> Result<Vec<Token>, NoMemory>
+    ensures { IfOk result (λ literals. (bytes : List ℕ) → literals.items ≡ map (λ import. import.literal) (imports_of bytes tree.now)) }
+{
     let mut literals = Vec::new(alloc);
-    for import in &tree.imports {
+    'imports: for import in &tree.imports {
         push_literals(&mut literals, import.specs.as_slice())?;
     }
     Ok(literals)
 }
 
 /// Adds the path literals of the specifications of one declaration.
-fn push_literals(literals: &mut Vec<Token>, specs: &[ImportSpec]) -> Result<(), NoMemory> {
-    for spec in specs {
+fn push_literals(literals: &mut Vec<Token>, specs: &[ImportSpec]) -> Result<(), NoMemory>
+    ensures { OnOk result (literals.new.items ≡ literals.old.items ++ map (λ spec. spec.path) specs.now) }
+{
+    'specs: for spec in specs {
         literals.push(spec.path)?;
     }
     Ok(())
@@ -29,7 +37,9 @@ pub fn import_path(
     alloc: Global,
     file: &SourceFile,
     literal: Token,
-) -> Result<Option<String>, NoMemory> {
+) -> Result<Option<String>, NoMemory>
+    ensures { IfOk result (λ path. option_map string_bytes path ≡ written_path (text_in file.now.bytes literal)) }
+{
     let text = file.text(literal);
     if !is_literal(Kind::Text, text) {
         return Ok(None);

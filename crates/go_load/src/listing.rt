@@ -1,10 +1,12 @@
 //! The Go files of a directory.
 
-ghost use Rattle.std.specs.Prelude.{◌≡◌, ◌≤◌, filter, string_bytes, IfOk, IfErr, IsErrOf, IsPermutation};
+ghost use Rattle.std.specs.Prelude.{◌≡◌, ◌≤◌, filter, map, string_bytes, IfOk, IfErr, IfSome, IsErrOf, IsPermutation};
 ghost use Rattle.std.specs.List.Sorted.{IsSorted};
 ghost use Rattle.std.specs.String.{string_cmp};
 ghost use Rattle.go_base.specs.Devices.{HasFaulted};
+ghost use Rattle.go_load.specs.GoPaths.{ListsGoPaths};
 ghost use Rattle.go_load.specs.Listing.{is_go_file, is_hidden};
+ghost use Rattle.go_load.specs.Paths.{path_in};
 ghost use Rattle.go_load.specs.Refusals.{Stops};
 
 use crate::error::LoadError;
@@ -37,12 +39,14 @@ pub fn list_go_files<F: Files>(
     ensures later { F.faults files.old ≤ F.faults files.new }
     ensures why { IfErr result (Stops (F.tree files.old)) }
     ensures same { F.tree files.new ≡ F.tree files.old }
+    ensures answer { IfSome (F.tree files.old) (λ tree. ListsGoPaths tree dir.now result) }
 {
     let names = match files.list(alloc, dir) {
         Ok(names) => names,
-        Err(FileError::Absent | FileError::TooLarge) => return Ok(Vec::new(alloc)),
+        Err(FileError::Absent) => return Ok(Vec::new(alloc)),
         Err(FileError::Failed) => return Err(LoadError::ReadFault),
-        Err(FileError::OutOfMemory) => return Err(LoadError::OutOfMemory),
+        // a listing is never too large
+        Err(FileError::TooLarge | FileError::OutOfMemory) => return Err(LoadError::OutOfMemory),
     };
     let names = go_file_names(names)?;
     Ok(paths_in(alloc, dir, names.as_slice())?)
@@ -60,9 +64,11 @@ fn go_file_names(names: Vec<String>) -> Result<Vec<String>, NoMemory>
 }
 
 /// The paths of names in a directory.
-fn paths_in(alloc: Global, dir: &str, names: &[String]) -> Result<Vec<String>, NoMemory> {
+fn paths_in(alloc: Global, dir: &str, names: &[String]) -> Result<Vec<String>, NoMemory>
+    ensures { IfOk result (λ paths. map string_bytes paths.items ≡ map (path_in dir.now) (map string_bytes names.now)) }
+{
     let mut paths = Vec::new(alloc);
-    for name in names {
+    'names: for name in names {
         paths.push(join(alloc, dir, name.as_str())?)?;
     }
     Ok(paths)

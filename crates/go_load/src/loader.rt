@@ -1,18 +1,20 @@
 //! The loading of packages, one after another.
 
-ghost use Rattle.std.specs.Prelude.{◌≡◌, ◌≢◌, ◌≤◌, ◌<◌, [], length, map, min, Option, IfOk, IfErr, IfSome, OnOk, IsErrOf};
+ghost use Rattle.std.specs.Prelude.{◌≡◌, ◌≢◌, ◌≤◌, ◌<◌, ◌-◌, ◌==◌, ◌&&◌, codes, [], length, map, min, if◌then◌else◌, slice_get, option_map, Option, IfOk, IfErr, IfSome, OnOk, IsErrOf};
 ghost use Rattle.std.specs.List.{sum_by};
 ghost use Rattle.go_base.specs.Devices.{HasFaulted, Tree};
 ghost use Rattle.go_base.specs.declared.place.Place.{Place};
-ghost use Rattle.go_load.specs.Loading.{LoadsFiles, LoadsPackage, LoadsQueue, AddsPackage, Checks, ChecksFiles, IfEntry, told_package};
+ghost use Rattle.go_load.specs.Loading.{LoadsFiles, LoadsPackage, LoadsQueue, AddsPackage, Checks, ChecksFiles, IfEntry, minor_of, told_package};
 ghost use Rattle.go_load.specs.FileReading.{AreOf};
-ghost use Rattle.go_load.specs.Finding.{view_file, view_origin};
+ghost use Rattle.go_load.specs.Finding.{view_file};
+ghost use Rattle.go_load.specs.Modules.{view_module};
+ghost use Rattle.go_load.specs.Places.{first_place, place_in, Refuses};
 ghost use Rattle.go_load.specs.Programs.{are_program, name_of, other_name};
-ghost use Rattle.go_load.specs.Projects.{is_built_in};
-ghost use Rattle.go_load.specs.Sources.{files_of, AreTold, IsText};
+ghost use Rattle.go_load.specs.Sources.{files_of, packages_of, AreTold};
 ghost use Rattle.go_load.specs.Refusals.{Justifies, Stops};
 
 use crate::error::LoadError;
+use crate::find_module::Module;
 use crate::found::{Entry, Found, Origin, number_after};
 use crate::links::{Link, push_links};
 use crate::package_files::{Slot, read_built_in, read_paths};
@@ -50,7 +52,14 @@ pub struct Loader {
 impl Loader {
     /// Nothing is loaded yet. All Go files together may have `limit` bytes.
     pub fn new(alloc: Global, target: Text, found: Found, limit: usize) -> Loader
-        ensures { result.files.items ≡ [] }
+        ensures found { result.found ≡ found }
+        ensures target { result.target ≡ target }
+        ensures files { result.files.items ≡ [] }
+        ensures packages { result.packages.items ≡ [] }
+        ensures imports { result.imports.items ≡ [] }
+        ensures links { result.links.items ≡ [] }
+        ensures programs { result.programs.items ≡ [] }
+        ensures left { result.left ≡ limit }
     {
         Loader {
             alloc,
@@ -67,12 +76,12 @@ impl Loader {
 
     /// All that was loaded.
     pub fn into_sources(self) -> Sources
-        ensures { files_of result ≡ self.files.items }
+        ensures files { files_of result ≡ self.files.items }
+        ensures packages { packages_of result ≡ self.packages.items }
+        ensures imports { result.imports.items ≡ self.imports.items }
+        ensures minor { result.minor ≡ minor_of (option_map view_module self.found.root) }
     {
-        let minor = match &self.found.root {
-            Some(module) => module.minor,
-            None => NEWEST_MINOR,
-        };
+        let minor = minor_version_of(&self.found.root);
         Sources {
             files: self.files,
             packages: self.packages,
@@ -152,6 +161,7 @@ impl Loader {
     pub fn refuse(&self, pos: Pos, rule: Rule) -> LoadError
         ensures no_fault { result ≢ LoadError.ReadFault }
         ensures why { (files : Option Tree) → ((place : Place) → Justifies files place rule) → Stops files result }
+        ensures here { IfSome (slice_get self.now.files.items pos.file) (λ file. Refuses (place_in file.path file.bytes (min pos.offset (length file.bytes))) rule result) }
     {
         match self.files.get(pos.file as usize) {
             Some(file) => file.refuse(self.alloc, pos.offset, rule),
@@ -177,6 +187,7 @@ impl Loader {
         requires { number < length self.now.found.entries.items }
         ensures no_fault { result ≢ LoadError.ReadFault }
         ensures why { (files : Option Tree) → Stops files result }
+        ensures here { IfEntry self.now.found number (λ entry. entry.asker ≡ None → Refuses (first_place self.now.target) Rule.NoGoFiles result) }
     {
         match self.found.entries[number].asker {
             Some(pos) => self.refuse(pos, Rule::NoSuchPackage),
@@ -202,9 +213,7 @@ impl Loader {
             imports.as_slice(),
         )?;
         self.programs.push(is_program(sources.as_slice()))?;
-        if !package.built_in {
-            self.left = self.left.saturating_sub(total_size(sources.as_slice()));
-        }
+        self.left = left_behind(self.left, package.built_in, sources.as_slice());
         self.packages.push(package)?;
         let (mut sources, mut imports) = (sources, imports);
         self.files.append(&mut sources)?;
@@ -219,11 +228,7 @@ impl Loader {
     {
         let entry = &self.found.entries[number];
         let path = entry.path.as_str();
-        let label = if number == 0 && is_program(sources) {
-            "main"
-        } else {
-            path
-        };
+        let label = label_of(number, sources, path);
         Ok(SourcePackage {
             path: Text::new(self.alloc, path)?,
             label: Text::new(self.alloc, label)?,
@@ -231,6 +236,26 @@ impl Loader {
             first_file: number_after(self.files.len())?,
         })
     }
+}
+
+/// The N of Go 1.N of a program whose target belongs to this module.
+fn minor_version_of(root: &Option<Module>) -> u32
+    ensures { result ≡ minor_of (option_map view_module root.now) }
+{
+    match root {
+        Some(module) => module.minor,
+        None => NEWEST_MINOR,
+    }
+}
+
+/// How a package with these files and this path is told to users.
+fn label_of<'a>(number: usize, sources: &[SourceFile], path: &'a str) -> &'a str
+    ensures { result.now ≡ (if (number == 0) && are_program (map view_file sources.now) then codes "main" else path.now) }
+{
+    if number == 0 && is_program(sources) {
+        return "main";
+    }
+    path
 }
 
 /// Whether files are those of a package named main.
@@ -241,6 +266,16 @@ fn is_program(sources: &[SourceFile]) -> bool
         [] => false,
         [first, ..] => first.package_name() == b"main".as_slice(),
     }
+}
+
+/// How many bytes more files may have behind those of a package; those of a built-in one are not counted.
+fn left_behind(left: usize, built_in: bool, sources: &[SourceFile]) -> usize
+    ensures { result ≡ (if built_in then left else left - sum_by (λ file. length file.bytes) (map view_file sources.now)) }
+{
+    if built_in {
+        return left;
+    }
+    left.saturating_sub(total_size(sources))
 }
 
 /// How many bytes files have together.

@@ -38,14 +38,14 @@ pub fn read_paths<F: Files>(
     ensures slot { IfOk result (λ sources. AreOf slot.package sources.items) }
 {
     let mut sources = Vec::new(alloc);
-    let mut room = room;
+    let mut left = room;
     'paths: for path in paths {
         let at = Slot {
             package: slot.package,
             first: slot.first.saturating_add(sources.len()),
         };
-        if let Some(source) = read_path(alloc, files, path.as_str(), at, room)? {
-            room -= source.bytes.as_slice().len();
+        if let Some(source) = read_path(alloc, files, path.as_str(), at, left)? {
+            left -= source.bytes.as_slice().len();
             sources.push(source)?;
         }
     }

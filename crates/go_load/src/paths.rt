@@ -1,6 +1,9 @@
 //! Paths of files and directories: components joined by `/`, where `.` is the directory of the paths themselves.
 
 ghost use Rattle.std.specs.Prelude.{◌≡◌, ◌<◌, IfOk, IfSome, option_map, string_bytes};
+ghost use Rattle.std.specs.Option.{option_copied};
+ghost use Rattle.go_base.specs.Devices.{rest_below};
+ghost use Rattle.go_load.specs.Imports.{is_plain, is_plain_component};
 ghost use Rattle.go_load.specs.Paths.{depth, path_in, with_slash, LiesIn};
 
 use go_base::NoMemory;
@@ -46,7 +49,9 @@ pub fn join_with_slash(alloc: Global, front: &str, rest: &str) -> Result<String,
 
 /// What a path has after a directory in which it lies: None for the directory itself, and where the path lies
 /// elsewhere.
-pub fn rest_below<'a>(dir: &str, path: &'a str) -> Option<&'a str> {
+pub fn rest_below<'a>(dir: &str, path: &'a str) -> Option<&'a str>
+    ensures { option_copied result ≡ rest_below dir.now path.now }
+{
     if dir == "." {
         return Some(path);
     }
@@ -54,11 +59,15 @@ pub fn rest_below<'a>(dir: &str, path: &'a str) -> Option<&'a str> {
 }
 
 /// Whether a path has no component that is empty, `.` or `..`.
-pub fn is_plain(path: &str) -> bool {
-    for component in path.split('/') {
-        if component.is_empty() || component == "." || component == ".." {
-            return false;
-        }
-    }
-    true
+pub fn is_plain(path: &str) -> bool
+    ensures { result ≡ is_plain path.now }
+{
+    path.split('/').all(is_plain_component)
+}
+
+/// Whether a component is not empty, `.` or `..`.
+fn is_plain_component(component: &str) -> bool
+    ensures { result ≡ is_plain_component component.now }
+{
+    !(component.is_empty() || component == "." || component == "..")
 }
