@@ -1,8 +1,9 @@
 -- The packages that were found, and one more.
-use Rattle.std.proofs.Common.{◌≡◌, ℕ, zero, suc, ◌+◌, ◌<◌, ◌≤◌, Bool, true, false, true≢false, not, ◌||◌, List, [], ◌∷◌, ◌++◌, length, map, slice_get, Option, Some, None, option_map, IfSome, Result, Ok, Err, Vec, String, string_bytes, bytes_eq, refl, ap, sym, subst, ◌∙◌, arith}
+use Rattle.std.proofs.Common.{◌≡◌, ℕ, zero, suc, ◌+◌, ◌<◌, ◌≤◌, Bool, true, false, true≢false, not, nat_le, ◌||◌, List, [], ◌∷◌, ◌++◌, length, map, slice_get, Option, Some, None, option_map, IfSome, Result, Ok, Err, Vec, String, string_bytes, bytes_eq, refl, ap, sym, subst, ◌∙◌, arith}
 use Rattle.std.specs.List.{list_any}
 use Rattle.std.specs.Option.{option_and_then}
 use Rattle.std.specs.declared.alloc.Global.{Global}
+use Rattle.std.proofs.lemmas.Bool.Decides.{nat_tests}
 use Rattle.std.proofs.lemmas.List.{map-append, length-map}
 use Rattle.std.proofs.lemmas.Slice.Eq.{bytes_eq-Decides}
 use Rattle.go_base.proofs.Texts.{place_holds}
@@ -140,17 +141,25 @@ one_longer old mid new path number origin asker known adds =
     length_more [] x = refl
     length_more (y ∷ xs) x = let rest : length (xs ++ x ∷ []) ≡ length xs + 1 = length_more xs x in omega arith
 
-pub runtime_found : (old new : Found) (number : ℕ) (added : Bool) → JoinsBuiltIn built_ins.Runtime old new runtime_path number
-    → (added ≡ true → length old.entries.items ≤ number) → (added ≡ false → number < length old.entries.items) → RuntimeFound old new added
-runtime_found old new number added joins behind within = λ project right.
+le_true : (a b : ℕ) → nat_le a b ≡ true → a ≤ b
+le_true a b h = grind (arith, nat_tests)
+
+le_false : (a b : ℕ) → nat_le a b ≡ false → b < a
+le_false a b h = grind (arith, nat_tests)
+
+pub runtime_found : (old new : Found) (count number : ℕ) → count ≡ length old.entries.items → JoinsBuiltIn built_ins.Runtime old new runtime_path number
+    → RuntimeFound old new (nat_le count number)
+runtime_found old new count number count_is joins = λ project right.
     let joined : Joins project old new runtime_path number = joins project right refl in
     let long : length old.paths ≡ length old.entries.items = counted project old right in
-    (by added refl (λ h. new_from_place runtime_path old.paths (rw (← joined.number_is) (let far : length old.entries.items ≤ number = behind h in omega arith)))
-        (λ h. among_from_place runtime_path old.paths (rw (← joined.number_is) (let near : number < length old.entries.items = within h in omega arith))),
+    let count_paths : count ≡ length old.paths = count_is ∙ sym long in
+    (by (nat_le count number) refl
+        (λ h. new_from_place runtime_path old.paths (rw (← joined.number_is, ← count_paths) (le_true count number h)))
+        (λ h. among_from_place runtime_path old.paths (rw (← joined.number_is, ← count_paths) (le_false count number h))),
     joined.paths, joined.right)
   where
-    by : (b : Bool) → added ≡ b → (added ≡ true → list_any (bytes_eq runtime_path) old.paths ≡ false) → (added ≡ false → list_any (bytes_eq runtime_path) old.paths ≡ true)
-        → b ≡ not (list_any (bytes_eq runtime_path) old.paths)
+    by : (b : Bool) → nat_le count number ≡ b → (nat_le count number ≡ true → list_any (bytes_eq runtime_path) old.paths ≡ false)
+        → (nat_le count number ≡ false → list_any (bytes_eq runtime_path) old.paths ≡ true) → b ≡ not (list_any (bytes_eq runtime_path) old.paths)
     by true e none some = sym (ap not (none e))
     by false e none some = sym (ap not (some e))
 
