@@ -1,5 +1,5 @@
 -- The packages that imports name, found one after another.
-use Rattle.std.proofs.Common.{◌≡◌, ℕ, zero, suc, ◌+◌, ◌<◌, ◌≤◌, min, Bool, true, false, true≢false, if◌then◌else◌, List, [], ◌∷◌, ◌++◌, length, get_or, take, drop, map, slice_get, Option, Some, None, option_map, unwrap_or, IfSome, Result, Ok, Err, Vec, String, string_bytes, refl, ap, sym, subst, ◌∙◌, arith, add-one, append_assoc}
+use Rattle.std.proofs.Common.{◌≡◌, ℕ, suc, ◌+◌, ◌<◌, min, Bool, true, false, if◌then◌else◌, List, [], ◌∷◌, ◌++◌, length, get_or, take, drop, map, slice_get, Option, Some, None, unwrap_or, IfSome, Result, Ok, Err, Vec, refl, ap, sym, subst, ◌∙◌}
 use Rattle.std.specs.List.{flat_map, fold}
 use Rattle.std.specs.declared.alloc.Global.{Global}
 use Rattle.std.proofs.lemmas.List.{map-append, take_more, take-append-drop}
@@ -7,7 +7,7 @@ use Rattle.std.proofs.lemmas.List.Concat.{flat_map-append}
 use Rattle.std.proofs.Math.Seq.{drop-cons}
 use Rattle.go_ast.specs.declared.token.Token.{Token}
 use Rattle.go_base.specs.Devices.{Tree}
-use Rattle.go_base.specs.NameTable.{place_of, with_text}
+use Rattle.go_base.specs.NameTable.{place_of}
 use Rattle.go_base.specs.declared.rule.Rule.{Rule}
 use Rattle.go_base.specs.declared.rule.Rule.TheVariants as rules
 use Rattle.go_syntax.specs.declared.decls.ImportDecl.{ImportDecl}
@@ -20,11 +20,11 @@ use Rattle.go_load.specs.declared.sources.Import as numbers
 use Rattle.go_load.specs.declared.sources.SourceFile.{SourceFile}
 use Rattle.go_load.specs.Finding.{view_file, view_origin, AreRight, Joins, PackageFound, FindsPackage, ImportFound, FindsImport, numbered, ImportsFound, FindsImports, listed, numbered_files, AllFound, FindsAll, IsUnfoundAt}
 use Rattle.go_load.specs.Imports.{Import, import_path, imports_of, imports_of_decl, import_of, written_path}
-use Rattle.go_load.specs.Loading.{IfEntry, imports_of_all, PackageImportsFound, FindsImportsOf}
+use Rattle.go_load.specs.Loading.{PackageImportsFound, FindsImportsOf}
 use Rattle.go_load.specs.Modules.{Broken}
 use Rattle.go_load.specs.Packages.{text_in}
 use Rattle.go_load.specs.Places.{place_in, Refuses}
-use Rattle.go_load.specs.Programs.{File, broken_at, imports_in, imports_of_files, import_files, unfound_of, unfound, or_else, with_import}
+use Rattle.go_load.specs.Programs.{File, broken_at, imports_in, imports_of_files, unfound_of, unfound, or_else, with_import}
 use Rattle.go_load.specs.Projects.{Project, is_built_in, is_import_found}
 use Rattle.go_load.proofs.Numbers.{Texts, AreMet, met_fold, fold_append, numbered_grown, numbered_files_grown, place_itself}
 

@@ -1,12 +1,11 @@
 -- The literals of imports.
-use Rattle.std.proofs.Common.{◌≡◌, ℕ, ◌+◌, ◌<◌, List, [], ◌∷◌, ◌++◌, length, take, get_or, map, refl, ap, sym, ◌∙◌}
+use Rattle.std.proofs.Common.{◌≡◌, ℕ, List, [], ◌∷◌, ◌++◌, map, refl, ap, sym, ◌∙◌}
 use Rattle.std.specs.List.{flat_map}
-use Rattle.std.proofs.lemmas.List.{map-append, take_more}
+use Rattle.std.proofs.lemmas.List.{map-append}
 use Rattle.go_ast.specs.declared.token.Token.{Token}
-use Rattle.go_syntax.specs.declared.decls.FileTree.{FileTree}
 use Rattle.go_syntax.specs.declared.decls.ImportDecl.{ImportDecl}
 use Rattle.go_syntax.specs.declared.decls.ImportSpec.{ImportSpec}
-use Rattle.go_load.specs.Imports.{Import, import_of, imports_of_decl, imports_of}
+use Rattle.go_load.specs.Imports.{Import, import_of, imports_of_decl}
 
 abbrev pub literals_of_decl : ImportDecl → List Token
 literals_of_decl decl = map (λ spec. spec.path) decl.specs.items

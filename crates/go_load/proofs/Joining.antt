@@ -1,8 +1,8 @@
 -- The packages that were found, and one more.
-use Rattle.std.proofs.Common.{◌≡◌, ℕ, zero, suc, ◌+◌, ◌<◌, ◌≤◌, Bool, true, false, true≢false, not, ◌||◌, List, [], ◌∷◌, ◌++◌, length, map, slice_get, Option, Some, None, option_map, IfSome, Result, Ok, Err, Vec, String, string_bytes, bytes_eq, refl, ap, sym, subst, ◌∙◌, arith}
+use Rattle.std.proofs.Common.{◌≡◌, ℕ, zero, suc, ◌+◌, ◌<◌, ◌≤◌, Bool, true, false, true≢false, not, nat_le, ◌||◌, List, [], ◌∷◌, ◌++◌, length, map, slice_get, Option, Some, None, option_map, IfSome, Result, Ok, Err, Vec, String, string_bytes, bytes_eq, refl, ap, sym, subst, ◌∙◌, arith}
 use Rattle.std.specs.List.{list_any}
-use Rattle.std.specs.Option.{option_and_then}
 use Rattle.std.specs.declared.alloc.Global.{Global}
+use Rattle.std.proofs.lemmas.Bool.Decides.{nat_tests}
 use Rattle.std.proofs.lemmas.List.{map-append, length-map}
 use Rattle.std.proofs.lemmas.Slice.Eq.{bytes_eq-Decides}
 use Rattle.go_base.proofs.Texts.{place_holds}
@@ -19,14 +19,14 @@ use Rattle.go_load.specs.declared.found.Found.{Found}
 use Rattle.go_load.specs.declared.found.Origin as origins
 use Rattle.go_load.specs.declared.found.Origin.TheVariants as code
 use Rattle.go_load.specs.Entries.{IsNumbered, AddsEntry, JoinsBuiltIn, RuntimeFound, FindsDirectory, dir_in}
-use Rattle.go_load.specs.Finding.{view_origin, IsRightAt, AreRight, Joins, PackageFound, FindsPackage}
+use Rattle.go_load.specs.Finding.{view_origin, IsRightAt, AreRight, Joins, FindsPackage}
 use Rattle.go_load.specs.GoPaths.{ListsGoPaths}
 use Rattle.go_load.specs.Imports.{built_in_named}
 use Rattle.go_load.specs.Modules.{view_module}
 use Rattle.go_load.specs.Programs.{runtime_path}
-use Rattle.go_load.specs.Projects.{Project, Origin, BuiltInFile, Paths, IsOriginOfImport, IsOriginAt, IsDirectory, AreGoPaths, has_go_files, target_path, dir_named, is_found, is_found_in}
+use Rattle.go_load.specs.Projects.{Project, Origin, BuiltInFile, Paths, IsOriginOfImport, IsDirectory, AreGoPaths, has_go_files, target_path, dir_named, is_found, is_found_in}
 use Rattle.go_load.proofs.Listings.{no_paths, some_paths}
-use Rattle.go_load.proofs.Numbers.{IsAmong, among_from_place, new_from_place, place_within, place_behind, with_text-there, with_text-new}
+use Rattle.go_load.proofs.Numbers.{among_from_place, new_from_place, with_text-there, with_text-new}
 
 -- ---- places in lists
 
@@ -140,17 +140,27 @@ one_longer old mid new path number origin asker known adds =
     length_more [] x = refl
     length_more (y ∷ xs) x = let rest : length (xs ++ x ∷ []) ≡ length xs + 1 = length_more xs x in omega arith
 
-pub runtime_found : (old new : Found) (number : ℕ) (added : Bool) → JoinsBuiltIn built_ins.Runtime old new runtime_path number
-    → (added ≡ true → length old.entries.items ≤ number) → (added ≡ false → number < length old.entries.items) → RuntimeFound old new added
-runtime_found old new number added joins behind within = λ project right.
+le_true : (a b : ℕ) → nat_le a b ≡ true → a ≤ b
+le_true a b h = grind (arith, nat_tests)
+
+le_false : (a b : ℕ) → nat_le a b ≡ false → b < a
+le_false a b h = grind (arith, nat_tests)
+
+pub runtime_found : (old new : Found) (count number : ℕ) → count ≡ length old.entries.items → JoinsBuiltIn built_ins.Runtime old new runtime_path number
+    → RuntimeFound old new (nat_le count number)
+runtime_found old new count number count_is joins = λ project right.
     let joined : Joins project old new runtime_path number = joins project right refl in
     let long : length old.paths ≡ length old.entries.items = counted project old right in
-    (by added refl (λ h. new_from_place runtime_path old.paths (rw (← joined.number_is) (let far : length old.entries.items ≤ number = behind h in omega arith)))
-        (λ h. among_from_place runtime_path old.paths (rw (← joined.number_is) (let near : number < length old.entries.items = within h in omega arith))),
-    joined.paths, joined.right)
+    let count_paths : count ≡ length old.paths = count_is ∙ sym long in (
+      by (nat_le count number) refl
+          (λ h. new_from_place runtime_path old.paths (rw (← joined.number_is, ← count_paths) (le_true count number h)))
+          (λ h. among_from_place runtime_path old.paths (rw (← joined.number_is, ← count_paths) (le_false count number h))),
+      joined.paths,
+      joined.right,
+    )
   where
-    by : (b : Bool) → added ≡ b → (added ≡ true → list_any (bytes_eq runtime_path) old.paths ≡ false) → (added ≡ false → list_any (bytes_eq runtime_path) old.paths ≡ true)
-        → b ≡ not (list_any (bytes_eq runtime_path) old.paths)
+    by : (b : Bool) → nat_le count number ≡ b → (nat_le count number ≡ true → list_any (bytes_eq runtime_path) old.paths ≡ false)
+        → (nat_le count number ≡ false → list_any (bytes_eq runtime_path) old.paths ≡ true) → b ≡ not (list_any (bytes_eq runtime_path) old.paths)
     by true e none some = sym (ap not (none e))
     by false e none some = sym (ap not (some e))
 
@@ -201,11 +211,12 @@ directory_there (Some files) old new path dir number known within = λ project s
     let at : slice_get old.paths number ≡ Some path =
     ap (slice_get old.paths) known.number_is ∙ ap (λ list. slice_get list (place_of path old.paths)) (sym stays) ∙ place_holds path old.paths in
     let got = get_mapped path_of old.entries.items number path (subst (λ list. slice_get list number ≡ Some path) right.paths at) in
-    let is_right : IsRightAt project number got.0 = subst (λ entry. IfSome entry (IsRightAt project number)) got.1 (right.entries number) in
-    (is_found_dir project path dir none named
-    ∙ known_has_files project path dir number got.0 none named
-    (λ zero_is. first_is path (target_path project) old.paths right.target (ap (slice_get old.paths) (sym zero_is) ∙ at)) got.2 is_right,
-    joined_there project old new path number right known within)
+    let is_right : IsRightAt project number got.0 = subst (λ entry. IfSome entry (IsRightAt project number)) got.1 (right.entries number) in (
+      is_found_dir project path dir none named
+          ∙ known_has_files project path dir number got.0 none named
+          (λ zero_is. first_is path (target_path project) old.paths right.target (ap (slice_get old.paths) (sym zero_is) ∙ at)) got.2 is_right,
+      joined_there project old new path number right known within,
+    )
 
 pub directory_failed : (tree : Option Tree) (old new : Found) (path dir : List ℕ) (error : LoadError) → IfSome tree (λ files. ListsGoPaths files dir (Err error))
     → IfSome tree (λ files. FindsDirectory files old new path dir (Err error))
@@ -232,9 +243,10 @@ directory_added (Some files) old mid new path dir number paths asker known behin
     let lists_here : AreGoPaths project.files dir (map string_bytes paths.items) = rw same lists in
     let long : 0 < length (map string_bytes paths.items) = rw (length-map paths.items string_bytes) some in
     let has_files : has_go_files project.files dir ≡ true = some_paths project.files dir (map string_bytes paths.items) lists_here long in
-    let is_directory : IsDirectory project.files (dir_named project path) (map string_bytes paths.items) = record { dir = dir; named_is = named; some = has_files; listed = lists_here } in
-    (is_found_dir project path dir no_built_in named ∙ either _ _ (λ other. has_files),
-    joined_behind project old mid new path number (code.Paths paths) asker right known behind adds (no_built_in, is_directory))
+    let is_directory : IsDirectory project.files (dir_named project path) (map string_bytes paths.items) = record { dir = dir; named_is = named; some = has_files; listed = lists_here } in (
+      is_found_dir project path dir no_built_in named ∙ either _ _ (λ other. has_files),
+      joined_behind project old mid new path number (code.Paths paths) asker right known behind adds (no_built_in, is_directory),
+    )
 
 -- ---- packages
 

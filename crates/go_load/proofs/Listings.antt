@@ -1,21 +1,20 @@
 -- The Go files of a directory, where files are told.
-use Rattle.std.proofs.Common.{◌≡◌, ℕ, zero, suc, ◌+◌, ◌<◌, ◌≤◌, Bool, true, false, true≢false, ◌||◌, cond, if◌then◌else◌, List, [], ◌∷◌, ◌++◌, length, get_or, set, take, drop, map, filter, Option, Some, None, is_some, option_map, IfSome, Result, Ok, Err, Vec, String, string_bytes, string_cmp, codes, bytes_eq, nat_eq, refl, ap, sym, subst, ◌∙◌, arith, IsPermutation}
+use Rattle.std.proofs.Common.{◌≡◌, ℕ, zero, suc, ◌+◌, ◌<◌, Bool, true, false, true≢false, ◌||◌, cond, if◌then◌else◌, List, [], ◌∷◌, ◌++◌, length, get_or, set, drop, map, filter, Option, Some, None, is_some, option_map, IfSome, Ok, Vec, String, string_bytes, string_cmp, codes, bytes_eq, nat_eq, refl, ap, sym, subst, ◌∙◌, arith, IsPermutation}
 use Rattle.std.specs.Cmp.Lexicographic.{slice_cmp}
-use Rattle.std.specs.List.{list_any, filter_map, cons_option, starts_with, swap, All, AllByRecursion}
+use Rattle.std.specs.List.{list_any, cons_option, starts_with, swap, All, AllByRecursion}
 use Rattle.std.specs.List.Sorted.{IsSorted}
 use Rattle.std.specs.Option.{option_and_then}
-use Rattle.std.specs.Ordering.{nat_cmp, is_lt}
+use Rattle.std.specs.Ordering.{nat_cmp}
 use Rattle.std.specs.declared.alloc.Global.{Global}
-use Rattle.std.proofs.lemmas.Bool.{cases_Bool}
-use Rattle.std.proofs.lemmas.List.{get_or_default, get_or-map, length-map, length-append}
+use Rattle.std.proofs.lemmas.List.{get_or-map, length-map, length-append}
 use Rattle.std.proofs.lemmas.List.Elements.{All-nil, All-cons, All-weaker, All-filter, All-map, recursion_from_All}
-use Rattle.std.proofs.lemmas.List.Sorted.{IsPermutation-refl, IsPermutation-cons, IsPermutation-trans, IsPermutation-swap, IsPermutation-map, IsPermutation-keeps, IsPermutation-sym, All-permutation, length_permutation, list_any-IsPermutation}
+use Rattle.std.proofs.lemmas.List.Sorted.{IsPermutation-refl, IsPermutation-cons, IsPermutation-trans, IsPermutation-swap, IsPermutation-map, IsPermutation-keeps, All-permutation, length_permutation}
 use Rattle.std.proofs.lemmas.Bool.Decides.{Decides-eqb}
 use Rattle.std.proofs.lemmas.Slice.Eq.{bytes_eq-Decides, starts_is}
 use Rattle.go_base.specs.Devices.{Tree, file_at, is_file, names_in, name_in, with_name, one_component, rest_below, is_directory, ListsTree}
 use Rattle.go_load.specs.Listing.{is_go_file}
 use Rattle.go_load.specs.Paths.{path_in, with_slash}
-use Rattle.go_load.specs.Projects.{FileText, text_at, texts_at, AreGoFiles, AreGoPaths, has_go_files, IsDirectory}
+use Rattle.go_load.specs.Projects.{FileText, text_at, texts_at, AreGoPaths, has_go_files, IsDirectory}
 
 -- ---- a filter of a list in another order
 
@@ -223,12 +222,14 @@ names_there dir (file ∷ files) = by (is_file files file.0) (later (names_there
     later : All (λ name. IsThere files (path_in dir name)) (names_in dir files) → All (λ name. IsThere (file ∷ files) (path_in dir name)) (names_in dir files)
     later all = All-weaker (λ name. IsThere files (path_in dir name)) (λ name. IsThere (file ∷ files) (path_in dir name))
         (λ name h. or_second (bytes_eq file.0 (path_in dir name)) (is_file files (path_in dir name)) h) (names_in dir files) all
+
     here : (name : Option (List ℕ)) → name_in dir file.0 ≡ name → All (λ name. IsThere (file ∷ files) (path_in dir name)) (names_in dir files)
         → All (λ name. IsThere (file ∷ files) (path_in dir name)) (with_name name (names_in dir files))
     here None e all = all
     here (Some name) e all =
         All-cons (λ name. IsThere (file ∷ files) (path_in dir name)) name (names_in dir files)
         (or_first (bytes_eq file.0 (path_in dir name)) (is_file files (path_in dir name)) (ap (bytes_eq file.0) (name_is dir file.0 name e) ∙ is_itself file.0)) all
+
     by : (b : Bool) → All (λ name. IsThere (file ∷ files) (path_in dir name)) (names_in dir files)
         → All (λ name. IsThere (file ∷ files) (path_in dir name)) (if b then names_in dir files else with_name (name_in dir file.0) (names_in dir files))
     by true all = all
@@ -263,7 +264,7 @@ all_texts files (path ∷ paths) all = by (text_at files path) (text_there files
 pub listed_texts : (files : Tree) (dir : List ℕ) (paths : List (List ℕ)) → AreGoPaths files dir paths → length (texts_at files paths) ≡ length paths
 listed_texts files dir paths are =
     let all : All (λ name. IsThere files (path_in dir name)) are.names =
-        All-permutation (λ name. IsThere files (path_in dir name)) _ _ are.listed.all (All-filter is_go_file (λ name. IsThere files (path_in dir name)) (names_in dir files) (names_there dir files)) in
+    All-permutation (λ name. IsThere files (path_in dir name)) _ _ are.listed.all (All-filter is_go_file (λ name. IsThere files (path_in dir name)) (names_in dir files) (names_there dir files)) in
     let there : All (IsThere files) (map (path_in dir) are.names) = All-map (IsThere files) (path_in dir) are.names all in
     subst (λ paths. length (texts_at files paths) ≡ length paths) (sym are.paths_are) (all_texts files (map (path_in dir) are.names) (recursion_from_All (IsThere files) (map (path_in dir) are.names) there))
 

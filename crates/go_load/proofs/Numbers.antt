@@ -1,5 +1,5 @@
 -- The numbers of packages while paths grow by those of imports: a path that has a number keeps it.
-use Rattle.std.proofs.Common.{◌≡◌, ℕ, suc, ◌+◌, ◌<◌, ◌≤◌, Bool, true, false, true≢false, not, ◌||◌, cond, if◌then◌else◌, List, [], ◌∷◌, ◌++◌, length, map, refl, ap, sym, subst, ◌∙◌, arith}
+use Rattle.std.proofs.Common.{◌≡◌, ℕ, ◌+◌, ◌<◌, ◌≤◌, Bool, true, false, true≢false, not, ◌||◌, cond, if◌then◌else◌, List, [], ◌∷◌, ◌++◌, length, map, refl, ap, sym, ◌∙◌, arith}
 use Rattle.std.specs.List.{list_any, fold, flat_map, All}
 use Rattle.std.specs.Str.{bytes_eq}
 use Rattle.std.proofs.lemmas.List.Elements.{All-nil, All-cons, All-head, All-tail, All-append, All-weaker}
@@ -9,7 +9,7 @@ use Rattle.go_load.specs.declared.sources.Import as numbers
 use Rattle.go_load.specs.Finding.{numbered, numbered_files}
 use Rattle.go_load.specs.Imports.{Import, import_path}
 use Rattle.go_load.specs.Loading.{imports_of_each, all_imports}
-use Rattle.go_load.specs.Programs.{File, Package, Link, with_import, imports_in, imports_of_files, imports_of_package, import_files, link_of, links_of_file, links_from}
+use Rattle.go_load.specs.Programs.{File, Package, with_import, imports_in, imports_of_files, imports_of_package, import_files, link_of, links_of_file, links_from}
 
 abbrev pub Texts : Type 0
 Texts = List (List ℕ)
@@ -127,6 +127,7 @@ place_itself path paths = by (list_any (bytes_eq path) paths) refl
             → cond (not b) (1 + place_of path (paths ++ path ∷ [])) 0 ≡ length (first ∷ paths)
         step true h rest = absurd (true≢false h)
         step false h rest = let more : place_of path (paths ++ path ∷ []) ≡ length paths = rest h in omega arith
+
     by : (b : Bool) → list_any (bytes_eq path) paths ≡ b → place_of path (if b then paths else paths ++ path ∷ []) ≡ place_of path paths
     by true e = refl
     by false e = last paths e ∙ sym (place_behind path paths e)

@@ -1,4 +1,4 @@
-use Rattle.std.proofs.Common.{◌≡◌, map, take}
+use Rattle.std.proofs.Common.{◌≡◌, take}
 use Rattle.std.specs.List.{flat_map}
 use Rattle.go_load.proofs.ImportLists.{literals_of_decl}
 use Rattle.go_load.proofs.import_paths.import_literals.Given as goal

@@ -1,9 +1,8 @@
-use Rattle.std.proofs.Common.{◌≡◌, ◌∙◌, true≢false, Some, None, ap, sym, rules}
+use Rattle.std.proofs.Common.{◌≡◌, ◌∙◌, true≢false, Some, ap, sym}
 use Rattle.go_ast.specs.declared.token.Kind.TheVariants as kinds
 use Rattle.go_ast.specs.Literals.{string_value}
 use Rattle.go_ast.specs.Pieces.{IsLiteral}
 use Rattle.go_load.specs.Imports.{written_path}
-use Rattle.go_load.specs.Packages.{text_in}
 use Rattle.go_load.proofs.Written.{nothing_written, no_text_written, text_written}
 use Rattle.go_load.proofs.import_paths.import_path.Goals as goal
 

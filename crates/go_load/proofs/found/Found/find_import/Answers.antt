@@ -1,7 +1,4 @@
-use Rattle.std.proofs.Common.{◌≡◌, ◌∙◌, Some, None, ap, sym, rules}
 use Rattle.std.proofs.lemmas.Result.{err_from_is_err_and}
-use Rattle.go_load.specs.Imports.{written_path}
-use Rattle.go_load.specs.Packages.{text_in}
 use Rattle.go_load.proofs.FindingSteps.{import_failed}
 use Rattle.go_load.proofs.found.Found.find_import.Goals as goal
 

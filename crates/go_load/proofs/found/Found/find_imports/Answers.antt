@@ -1,4 +1,4 @@
-use Rattle.std.proofs.Common.{◌≡◌, ◌∙◌, get_or, take, arith, rules}
+use Rattle.std.proofs.Common.{◌∙◌, get_or, take, arith, rules}
 use Rattle.std.proofs.lemmas.List.{get_or_default, take_all}
 use Rattle.std.proofs.lemmas.Result.{err_from_is_err_and}
 use Rattle.go_ast.specs.declared.token.Kind.TheVariants as kinds
@@ -16,15 +16,18 @@ returns-in_err-package-clause-told g c =
     let literal = get_or literals index no_token in
     let p = err_from_is_err_and c.from_residual-in_err-package.result c.from_residual-in_err-package.ensures.1 in
     rw (p.1, p.2) (import_broken (g.F.Files.tree c.args.files.now) (g.F.Files.tree c.literals.files) c.args.self.now c.literals.self c.find_import.new.self c.find_import.new.self c.args.source.now literals c.literals.imports.items index literal c.in_err-package.field-0.0
-        c.literals.invariant.1 (omega arith) (get_or_default literals index no_token literal (omega arith)) (c.as_slice-literal-items.ensures.value ∙ c.in_ok-literals.ensures c.args.source.now.bytes) c.literals.invariant.2 c.in_err-package.ensures.told)
+    c.literals.invariant.1 (omega arith) (get_or_default literals index no_token literal (omega arith)) (c.as_slice-literal-items.ensures.value ∙ c.in_ok-literals.ensures c.args.source.now.bytes) c.literals.invariant.2 c.in_err-package.ensures.told)
 
 pub literals-preserved : goal.literals-preserved
 literals-preserved g c =
     let literals = c.as_slice-literal-items.result.now in
     let index = c.literals.literal-index in
-    let literal = get_or literals index no_token in
-    (search rules, search rules, found_next (g.F.Files.tree c.args.files.now) (g.F.Files.tree c.literals.files) c.args.self.now c.literals.self c.find_import.new.self c.args.source.now literals c.literals.imports.items c.push.new.self.items index literal c.in_ok-package.package
-        c.literals.invariant.1 (omega arith) (get_or_default literals index no_token literal (omega arith)) c.in_ok-push.ensures.items c.literals.invariant.2 c.in_ok-package.ensures.told)
+    let literal = get_or literals index no_token in (
+      search rules,
+      search rules,
+      found_next (g.F.Files.tree c.args.files.now) (g.F.Files.tree c.literals.files) c.args.self.now c.literals.self c.find_import.new.self c.args.source.now literals c.literals.imports.items c.push.new.self.items index literal c.in_ok-package.package
+          c.literals.invariant.1 (omega arith) (get_or_default literals index no_token literal (omega arith)) c.in_ok-push.ensures.items c.literals.invariant.2 c.in_ok-package.ensures.told,
+    )
 
 pub returns-clause-told : goal.returns-clause-told
 returns-clause-told g c =
