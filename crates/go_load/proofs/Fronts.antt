@@ -38,7 +38,7 @@ longer_text p paths = go (list_any (bytes_eq p) paths)
     go true = omega arith
     go false = let e : length (paths ++ p ∷ []) ≡ length paths + 1 = length_push paths p in omega arith
 
-longer : (imports : List Import) (paths : List (List ℕ)) → length paths ≤ length (fold with_import paths imports)
+pub longer : (imports : List Import) (paths : List (List ℕ)) → length paths ≤ length (fold with_import paths imports)
 longer [] paths = omega arith
 longer (import ∷ imports) paths =
     let one : length paths ≤ length (with_import paths import) = longer_text (import_path import) paths in

@@ -22,3 +22,5 @@ pub mod ImportLists
 pub mod Joining
 pub mod FindingSteps
 pub mod Written
+pub mod Finishing
+pub mod Starting

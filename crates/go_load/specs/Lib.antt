@@ -21,3 +21,4 @@ pub mod Entries
 pub mod FileReading
 pub mod Loading
 pub mod Answers
+pub mod Starting

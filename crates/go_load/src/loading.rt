@@ -1,11 +1,13 @@
 //! Loading of a program.
 
-ghost use Rattle.std.specs.Prelude.{◌≡◌, ◌≤◌, IfOk, IfErr, IfSome, IsErrOf, OnOk};
+ghost use Rattle.std.specs.Prelude.{◌≡◌, ◌≤◌, [], ◌∷◌, string_bytes, option_map, IfOk, IfErr, IfSome, IsErrOf, OnOk};
 ghost use Rattle.go_base.specs.Devices.{HasFaulted};
-ghost use Rattle.go_load.specs.Modules.{MindsTarget};
-ghost use Rattle.go_load.specs.Answers.{HasStopped, IsAnswer, IsLoaded};
+ghost use Rattle.go_load.specs.Modules.{view_module, MindsTarget};
+ghost use Rattle.go_load.specs.Answers.{max_program_bytes, HasStopped, IsAnswer, IsLoaded};
 ghost use Rattle.go_load.specs.Sources.{files_of, AreTold};
 ghost use Rattle.go_load.specs.Refusals.{Stops};
+ghost use Rattle.go_load.specs.Projects.{no_import_path, path_of_target};
+ghost use Rattle.go_load.specs.Starting.{FindsTarget, Finishes, ListsTarget, LoadsRuntime};
 
 use crate::error::LoadError;
 use crate::find_module::{Module, find_module};
@@ -18,9 +20,6 @@ use crate::target::{target_dir, target_path};
 use go_base::{Files, NoMemory, Target, Text};
 use std::alloc::Global;
 
-/// The path of a package that has no import path.
-const NO_IMPORT_PATH: &str = "command-line-arguments";
-
 /// Loads the target and all that it imports.
 pub fn load<F: Files>(alloc: Global, files: &mut F, target: &Target) -> Result<Sources, LoadError>
     ensures loaded { IfOk result (λ sources. IsLoaded (F.tree files.old) target.now (files_of sources)) }
@@ -29,6 +28,8 @@ pub fn load<F: Files>(alloc: Global, files: &mut F, target: &Target) -> Result<S
     ensures later { F.faults files.old ≤ F.faults files.new }
     ensures same { F.tree files.new ≡ F.tree files.old }
     ensures go_mod { IfSome (F.tree files.old) (λ tree. MindsTarget tree target.now result) }
+    // Where files are told: the packages of the program in order, or the first rule that is broken.
+    ensures exact { IfSome (F.tree files.old) (λ tree. IsAnswer tree target.now max_program_bytes result) }
 {
     load_within(alloc, files, target, MAX_PROGRAM_BYTES)
 }
@@ -40,12 +41,13 @@ pub(crate) fn load_within<F: Files>(
     target: &Target,
     limit: usize,
 ) -> Result<Sources, LoadError>
-    ensures loaded { IfOk result (λ sources. IsLoaded (F.tree files.old) target.now (files_of sources)) }
-    ensures stopped { IfErr result (HasStopped (F.tree files.old) target.now) }
+    ensures told { IfOk result (λ sources. AreTold (F.tree files.old) (files_of sources)) }
+    ensures why { IfErr result (Stops (F.tree files.old)) }
     ensures fault { IsErrOf result LoadError.ReadFault → HasFaulted (F.faults files.old) (F.faults files.new) }
     ensures later { F.faults files.old ≤ F.faults files.new }
     ensures same { F.tree files.new ≡ F.tree files.old }
     ensures go_mod { IfSome (F.tree files.old) (λ tree. MindsTarget tree target.now result) }
+    ensures exact { IfSome (F.tree files.old) (λ tree. IsAnswer tree target.now limit result) }
 {
     let module = find_module(alloc, files, target_dir(target))?;
     let found = find_target(alloc, files, module, target)?;
@@ -55,7 +57,9 @@ pub(crate) fn load_within<F: Files>(
 
 /// Loads a program of one file, which lies in no module, from its bytes. `name` is the path of the file.
 pub fn from_text(alloc: Global, name: &str, bytes: &[u8]) -> Result<Sources, LoadError>
-    ensures { IsErrOf result LoadError.ReadFault → ⊥ }
+    ensures no_fault { IsErrOf result LoadError.ReadFault → ⊥ }
+    // The program that one file makes.
+    ensures exact { IsAnswer ((name.now, bytes.now) ∷ []) (Target.File name.now) max_program_bytes result }
 {
     let target = Target::File(Text::new(alloc, name)?);
     load(alloc, &mut OneFile { path: name, bytes }, &target)
@@ -65,17 +69,18 @@ pub fn from_text(alloc: Global, name: &str, bytes: &[u8]) -> Result<Sources, Loa
 fn find_target<F: Files>(
     alloc: Global,
     files: &mut F,
-    module: Option<Module>,
+    root: Option<Module>,
     target: &Target,
 ) -> Result<Found, LoadError>
+    ensures exact { IfSome (F.tree files.old) (λ tree. FindsTarget tree root target.now result) }
     ensures why { IfErr result (Stops (F.tree files.old)) }
     ensures fault { IsErrOf result LoadError.ReadFault → HasFaulted (F.faults files.old) (F.faults files.new) }
     ensures later { F.faults files.old ≤ F.faults files.new }
     ensures same { F.tree files.new ≡ F.tree files.old }
 {
     let paths = target_files(alloc, files, target)?;
-    let path = package_path(alloc, module.as_ref(), target)?;
-    Ok(Found::new(alloc, module, path.as_str(), paths)?)
+    let path = package_path(alloc, &root, target)?;
+    Ok(Found::new(alloc, root, path.as_str(), paths)?)
 }
 
 /// The paths of the files of the target.
@@ -84,6 +89,7 @@ fn target_files<F: Files>(
     files: &mut F,
     target: &Target,
 ) -> Result<Vec<String>, LoadError>
+    ensures exact { IfSome (F.tree files.old) (λ tree. ListsTarget tree target.now result) }
     ensures why { IfErr result (Stops (F.tree files.old)) }
     ensures fault { IsErrOf result LoadError.ReadFault → HasFaulted (F.faults files.old) (F.faults files.new) }
     ensures later { F.faults files.old ≤ F.faults files.new }
@@ -102,17 +108,30 @@ fn target_files<F: Files>(
 /// The path of the package of the target.
 fn package_path(
     alloc: Global,
-    module: Option<&Module>,
+    root: &Option<Module>,
     target: &Target,
-) -> Result<String, NoMemory> {
-    match (module, target) {
-        (Some(module), Target::Dir(dir)) => module.path_of(alloc, dir.as_str()),
-        _ => Ok(String::from_str(alloc, NO_IMPORT_PATH)?),
+) -> Result<String, NoMemory>
+    ensures { IfOk result (λ path. string_bytes path ≡ path_of_target (option_map view_module root.now) target.now) }
+{
+    match target {
+        Target::File(_) => no_import_path(alloc),
+        Target::Dir(dir) => match root {
+            Some(root) => root.path_of(alloc, dir.as_str()),
+            None => no_import_path(alloc),
+        },
     }
+}
+
+/// The path of a package that has no import path.
+fn no_import_path(alloc: Global) -> Result<String, NoMemory>
+    ensures { IfOk result (λ path. string_bytes path ≡ no_import_path) }
+{
+    Ok(String::from_str(alloc, "command-line-arguments")?)
 }
 
 /// Loads the packages that are found, and `runtime`.
 fn finish<F: Files>(files: &mut F, loader: Loader) -> Result<Sources, LoadError>
+    ensures exact { IfSome (F.tree files.old) (λ tree. Finishes tree loader result) }
     ensures told { IfOk result (λ sources. AreTold (F.tree files.old) loader.files.items → AreTold (F.tree files.old) (files_of sources)) }
     ensures why { IfErr result (Stops (F.tree files.old)) }
     ensures fault { IsErrOf result LoadError.ReadFault → HasFaulted (F.faults files.old) (F.faults files.new) }
@@ -128,6 +147,7 @@ fn finish<F: Files>(files: &mut F, loader: Loader) -> Result<Sources, LoadError>
 
 /// Loads the package `runtime`, unless it was imported.
 fn load_runtime<F: Files>(files: &mut F, loader: &mut Loader) -> Result<(), LoadError>
+    ensures exact { IfSome (F.tree files.old) (λ tree. LoadsRuntime tree loader.old loader.new result) }
     ensures told { OnOk result (AreTold (F.tree files.old) loader.old.files.items → AreTold (F.tree files.old) loader.new.files.items) }
     ensures why { IfErr result (Stops (F.tree files.old)) }
     ensures fault { IsErrOf result LoadError.ReadFault → HasFaulted (F.faults files.old) (F.faults files.new) }

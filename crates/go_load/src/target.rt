@@ -1,12 +1,16 @@
 //! The paths of what is to be loaded.
 
+ghost use Rattle.std.specs.Prelude.{◌≡◌};
 ghost use Rattle.go_load.specs.Modules.{IsTargetDir};
+ghost use Rattle.go_load.specs.Programs.{path_asked};
 
 use crate::paths::parent;
 use go_base::Target;
 
 /// The path of a target.
-pub fn target_path(target: &Target) -> &str {
+pub fn target_path(target: &Target) -> &str
+    ensures { result.now ≡ path_asked target.now }
+{
     match target {
         Target::File(path) => path.as_str(),
         Target::Dir(path) => path.as_str(),
