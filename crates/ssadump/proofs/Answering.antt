@@ -14,8 +14,7 @@ use Rattle.go_base.specs.declared.rule.Rule.TheVariants as rules
 use Rattle.go_load.specs.declared.error.LoadError.{LoadError}
 use Rattle.go_load.specs.declared.error.LoadError.TheVariants as errors
 use Rattle.go_load.specs.declared.sources.SourceFile.{SourceFile}
-use Rattle.go_load.specs.Sources.{IsLoaded}
-use Rattle.go_load.specs.Refusals.{HasStopped}
+use Rattle.go_load.specs.Answers.{IsLoaded, HasStopped}
 use Rattle.ssadump.specs.declared.outcome.Outcome.{Outcome}
 use Rattle.ssadump.specs.declared.outcome.Outcome.TheVariants as outcomes
 use Rattle.ssadump.specs.Performing.{IsUsage, outcome_of}

@@ -11,8 +11,7 @@ use Rattle.go_base.specs.declared.place.Place.{Place}
 use Rattle.go_base.specs.declared.rule.Rule.{Rule}
 use Rattle.go_base.specs.declared.rule.Rule.TheVariants as rules
 use Rattle.go_load.specs.declared.sources.SourceFile.{SourceFile}
-use Rattle.go_load.specs.Sources.{IsLoaded}
-use Rattle.go_load.specs.Refusals.{Breaks}
+use Rattle.go_load.specs.Answers.{IsLoaded, Breaks}
 use Rattle.ssadump.specs.declared.outcome.Outcome.{Outcome}
 use Rattle.ssadump.specs.declared.outcome.Outcome.TheVariants as outcomes
 use Rattle.ssadump.specs.Running.{IsRunOf, IsOutside, first_path, start_of}
