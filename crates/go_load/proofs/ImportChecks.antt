@@ -1,10 +1,13 @@
 -- What the check of all imports answers.
-use Rattle.std.proofs.Common.{◌≡◌, ℕ, zero, suc, ◌<◌, min, Bool, true, false, cond, List, [], ◌∷◌, length, map, Option, Some, None, IfSome, unwrap_or, Result, Ok, Err, slice_get, inl, inr, refl, sym, ap, ◌∙◌, subst}
+use Rattle.std.proofs.Common.{◌≡◌, ℕ, zero, suc, ◌<◌, min, Bool, true, false, cond, List, [], ◌∷◌, length, map, Option, Some, None, IfSome, unwrap_or, Result, Ok, Err, slice_get, get_or, inl, inr, refl, sym, ap, ◌∙◌, subst}
+use Rattle.std.proofs.lemmas.List.{length-map}
+use Rattle.std.proofs.lemmas.Option.{slice_get-get_or, slice_get_within}
 use Rattle.std.specs.List.{AllZip, find}
+use Rattle.std.specs.Option.{IsSomeAnd}
 use Rattle.go_base.specs.declared.place.Place.{Place}
 use Rattle.go_base.specs.declared.rule.Rule.{Rule}
 use Rattle.go_base.specs.declared.rule.Rule.TheVariants as rules
-use Rattle.import_graph.specs.Cycles.{IsFirstOnCycle}
+use Rattle.import_graph.specs.Cycles.{IsFirstOnCycle, IsOnCycle}
 use Rattle.import_graph.specs.declared.edges.Edge.{Edge}
 use Rattle.go_load.specs.declared.error.LoadError.{LoadError}
 use Rattle.go_load.specs.declared.error.LoadError.TheVariants.{Refused, ReadFault, OutOfMemory}
@@ -98,6 +101,15 @@ at_index files (first ∷ kept) (link ∷ all) zero one h e = let is : first ≡
 at_index files (first ∷ kept) (link ∷ all) (suc index) one h e =
     let p : At files all index one = at_index files kept all index one h.1 e in record { link = p.link; is = p.is; same = p.same }
 
+-- the index of an edge is that of an import
+within_edges : (edges : List Edge) (index : ℕ) (P : Edge → Type 0) (o : Option Edge) → slice_get edges index ≡ o → IsSomeAnd o P → index < length edges
+within_edges edges index P None e h = absurd h
+within_edges edges index P (Some edge) e h = slice_get_within edges index edge e
+
+pub in_links : (seen : List code.Link) (edges : List Edge) (index : ℕ) → edges ≡ map (λ (one : code.Link). one.edge) seen → IsFirstOnCycle edges (Some index) → index < length seen
+in_links seen edges index e h =
+    subst (λ n. index < n) (ap length e ∙ length-map seen (λ (one : code.Link). one.edge)) (within_edges edges index (IsOnCycle edges) (slice_get edges index) refl h.0)
+
 pub program_refused : (loader : Loader) (seen : List code.Link) (programs : List Bool) (first : code.Link) (error : LoadError) → seen ≡ loader.links.items → programs ≡ loader.programs.items → Some first ≡ find (is_of_program programs) seen → RefusesAt loader first rules.ImportOfAProgram error → ChecksImports loader (Err error)
 program_refused loader seen programs first (Refused place rule) s b e r = λ project packages h p.
     let found : find (is_of_program (map (λ one. are_program one.files) packages)) loader.links.items ≡ Some first =
@@ -131,6 +143,14 @@ cycle_refused loader seen programs edges index kept (Refused place rule) s b e d
     }, place_at.1)
 cycle_refused loader seen programs edges index kept ReadFault s b e d cycle k r = λ project packages h p. tt
 cycle_refused loader seen programs edges index kept OutOfMemory s b e d cycle k r = λ project packages h p. tt
+
+abbrev nothing : code.Link
+nothing = record { edge = record { from = 0; to = 0 }; at = record { file = 0; offset = 0 } }
+
+pub cycle_refused_at : (loader : Loader) (seen : List code.Link) (programs : List Bool) (edges : List Edge) (index : ℕ) (error : LoadError) → seen ≡ loader.links.items → programs ≡ loader.programs.items → None ≡ find (is_of_program programs) seen → edges ≡ map (λ (one : code.Link). one.edge) seen → IsFirstOnCycle edges (Some index)
+    → RefusesAt loader (get_or seen index nothing) rules.ImportCycle error → ChecksImports loader (Err error)
+cycle_refused_at loader seen programs edges index error s b e d cycle r =
+    cycle_refused loader seen programs edges index (get_or seen index nothing) error s b e d cycle (slice_get-get_or seen index nothing (in_links seen edges index d cycle)) r
 
 pub imports_sound : (loader : Loader) (seen : List code.Link) (programs : List Bool) (edges : List Edge) → seen ≡ loader.links.items → programs ≡ loader.programs.items → None ≡ find (is_of_program programs) seen → edges ≡ map (λ (one : code.Link). one.edge) seen → IsFirstOnCycle edges None → ChecksImports loader (Ok tt)
 imports_sound loader seen programs edges s b e d cycle = λ project packages h p. record {

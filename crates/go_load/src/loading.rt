@@ -154,9 +154,9 @@ fn load_runtime<F: Files>(files: &mut F, loader: &mut Loader) -> Result<(), Load
     ensures later { F.faults files.old ≤ F.faults files.new }
     ensures same { F.tree files.new ≡ F.tree files.old }
 {
-    if loader.found.add_runtime()? {
-        let last = loader.found.entries.len() - 1;
-        loader.load_package(files, last)?;
+    if !loader.found.add_runtime()? {
+        return Ok(());
     }
-    Ok(())
+    let last = loader.found.entries.len() - 1;
+    loader.load_package(files, last)
 }
