@@ -64,7 +64,9 @@ pub fn optional(tokens: &[Token], kind: Kind) -> (Option<Token>, &[Token])
 
 /// The arrow of a channel that is only sent to: it belongs to the leftmost `chan`.
 pub fn direction(tokens: &[Token]) -> (Option<Token>, &[Token])
-    ensures { maybe_in Arrow tokens.now ≡ Some (token_if result.0, result.1.now) }
+    ensures read { maybe_in Arrow tokens.now ≡ Some (token_if result.0, result.1.now) }
+    ensures same { optional_in Arrow tokens.now ≡ (result.0, result.1.now) }
+    ensures found { begins Arrow tokens.now ≡ is_some result.0 }
 {
     optional(tokens, Kind::Arrow)
 }

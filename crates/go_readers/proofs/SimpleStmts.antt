@@ -23,6 +23,7 @@ use Rattle.go_readers.specs.Expressions.{list_in}
 use Rattle.go_fragments.specs.Statements.{IsSplitAt}
 use Rattle.go_readers.specs.Statements.{IsList}
 use Rattle.go_fragments.proofs.Loops.{behind}
+use Rattle.go_fragments.proofs.SimpleStmts.{single_by, single_not}
 use Rattle.go_fragments.specs.declared.stop.Stop.{Stop}
 use Rattle.go_fragments.specs.declared.stop.Stop.TheVariants as stops
 use Rattle.go_fragments.specs.Giving.{Fails}
