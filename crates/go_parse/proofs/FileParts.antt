@@ -19,11 +19,11 @@ use Rattle.go_grammar.proofs.PartLaws.{parts_sound}
 use Rattle.go_grammar.proofs.AllAgain.{stops_unexpected}
 use Rattle.go_syntax.specs.declared.decls.FileTree.{FileTree}
 use Rattle.go_readers.specs.Funcs.{func_in}
-use Rattle.go_readers.specs.Words.{line_end_in}
-use Rattle.go_readers.proofs.Words.{is_closing_paren}
-use Rattle.go_readers.specs.declared.stop.Stop.{Stop}
-use Rattle.go_readers.specs.declared.stop.Stop.TheVariants as stops
-use Rattle.go_readers.specs.Giving.{Fails}
+use Rattle.go_fragments.specs.Words.{line_end_in}
+use Rattle.go_fragments.proofs.Words.{is_closing_paren}
+use Rattle.go_fragments.specs.declared.stop.Stop.{Stop}
+use Rattle.go_fragments.specs.declared.stop.Stop.TheVariants as stops
+use Rattle.go_fragments.specs.Giving.{Fails}
 use Rattle.go_parse.specs.declared.stop.ParseError.{ParseError}
 use Rattle.go_parse.specs.declared.stop.ParseError.TheVariants as errors
 use Rattle.go_parse.specs.Refusal.{IsRefusalAt, IsParsed, IsWithin}

@@ -3,8 +3,8 @@ use Rattle.std.specs.Prelude.{◌≡◌, ℕ, ◌<◌, ◌≤◌, List, Option, 
 use Rattle.go_ast.specs.declared.token.Token.{Token}
 use Rattle.go_grammar.specs.Files.{IsTreeOf, IsUnexpected}
 use Rattle.go_grammar.specs.View.{view_file}
-use Rattle.go_readers.specs.declared.stop.Stop.{Stop}
-use Rattle.go_readers.specs.declared.stop.Stop.TheVariants as stops
+use Rattle.go_fragments.specs.declared.stop.Stop.{Stop}
+use Rattle.go_fragments.specs.declared.stop.Stop.TheVariants as stops
 use Rattle.go_syntax.specs.declared.decls.FileTree.{FileTree}
 use Rattle.go_parse.specs.declared.stop.ParseError.{ParseError}
 use Rattle.go_parse.specs.declared.stop.ParseError.TheVariants as errors

@@ -4,7 +4,7 @@ ghost use Rattle.std.specs.Prelude.{◌≡◌, ◌-◌, length};
 ghost use Rattle.go_grammar.specs.FileReading.{parsers};
 ghost use Rattle.go_grammar.specs.PartReading.{file_by_parts};
 ghost use Rattle.go_grammar.specs.View.{view_file, view_import, view_import_spec, view_line, one, token_if, each, ◌⊕◌};
-ghost use Rattle.go_readers.specs.Giving.{Gives};
+ghost use Rattle.go_fragments.specs.Giving.{Gives};
 ghost use Rattle.go_syntax.specs.Reach.{reach_index};
 ghost use Rattle.go_parse.specs.FileParts.{GivesParts, view_clause, clause_in, path_in, import_line_in, import_lines_in, import_alone_in, import_in, imports_in, decl_line_in, decls_in};
 ghost use Rattle.go_parse.specs.Refusal.{DecidesReach, IsParsed, IsRefusalAt, IsWithin};
@@ -12,7 +12,9 @@ ghost use Rattle.go_parse.specs.Refusal.{DecidesReach, IsParsed, IsRefusalAt, Is
 use crate::reach::too_deep;
 use crate::stop::ParseError;
 use go_ast::{Kind, Token, Tokens};
-use go_readers::{Stop, begins_with, decl, func_decl, line_end, optional, semicolon, skip};
+use go_fragments::stop::Stop;
+use go_fragments::tokens::{begins_with, line_end, optional, semicolon, skip};
+use go_readers::{decl, func_decl};
 use go_syntax::{Decl, DeclLine, FileTree, ImportDecl, ImportSpec};
 use std::alloc::Global;
 

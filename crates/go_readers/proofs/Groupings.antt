@@ -18,8 +18,8 @@ use Rattle.go_grammar.specs.ExprReading.{element_in, separated_in}
 use Rattle.go_grammar.specs.View.{one, if_some, view_expr}
 use Rattle.go_grammar.proofs.Forests.{append-assoc}
 use Rattle.go_grammar.proofs.Views.{view_expr_slice}
-use Rattle.go_readers.specs.Words.{comma_in}
-use Rattle.go_readers.proofs.Words.{before_braces}
+use Rattle.go_fragments.specs.Words.{comma_in}
+use Rattle.go_fragments.proofs.Words.{before_braces}
 
 -- ---- calls, elements
 

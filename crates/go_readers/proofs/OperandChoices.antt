@@ -12,10 +12,11 @@ use Rattle.go_grammar.specs.Tests.{begins, word_in}
 use Rattle.go_grammar.specs.TypeReading.{Parsers, Place, Plain, Header, Item}
 use Rattle.go_grammar.specs.ExprReading.{operand_by, operand_in, function_in, type_operand_in, unary_in, unary_of, primary_in, starred, of_operand, begins_sign_by}
 use Rattle.go_grammar.proofs.SameKinds.{is_same}
-use Rattle.go_readers.specs.declared.stop.Stop.{Stop}
-use Rattle.go_readers.specs.declared.stop.Stop.TheVariants as stops
-use Rattle.go_readers.specs.Giving.{Fails}
-use Rattle.go_readers.specs.Operands.{paren_in, star_at, sign_at}
+use Rattle.go_fragments.specs.declared.stop.Stop.{Stop}
+use Rattle.go_fragments.specs.declared.stop.Stop.TheVariants as stops
+use Rattle.go_fragments.specs.Giving.{Fails}
+use Rattle.go_fragments.specs.Operands.{star_at, sign_at}
+use Rattle.go_readers.specs.Operands.{paren_in}
 use Rattle.go_readers.proofs.Signs.{unary_star, unary_sign, unary_plain}
 
 module _ (p : Parsers) (place : Place) where

@@ -13,8 +13,8 @@ use Rattle.go_grammar.specs.Tests.{begins, begins_both, not_closed, word}
 use Rattle.go_grammar.specs.TypeReading.{Parsers, Place, type_in, bare_in, begins_bare, at_type, chan_plan}
 use Rattle.go_grammar.specs.ExprReading.{unary_by, unary_of, primary_in, starred, of_operand, begins_sign_by, is_item, type_operand_in, type_operand_of, open_array_in}
 use Rattle.go_grammar.proofs.EachKind.{each_kind, of_each}
-use Rattle.go_readers.specs.Words.{begins_operand_type, comma_in}
-use Rattle.go_readers.proofs.Words.{before_braces}
+use Rattle.go_fragments.specs.Words.{begins_operand_type, comma_in}
+use Rattle.go_fragments.proofs.Words.{before_braces}
 
 -- ---- types as operands
 

@@ -5,11 +5,11 @@ use Rattle.go_ast.specs.declared.token.Kind.TheVariants as kinds
 use Rattle.go_grammar.specs.Reading.{◌>>=◌}
 use Rattle.go_grammar.specs.Tests.{begins}
 use Rattle.go_grammar.specs.TypeReading.{Parsers, Entry, entry_in, entries_in}
-use Rattle.go_readers.specs.declared.groups.Entry.{Entry as Read}
-use Rattle.go_readers.specs.declared.stop.Stop.{Stop}
-use Rattle.go_readers.specs.declared.stop.Stop.TheVariants as stops
-use Rattle.go_readers.specs.Entries.{entries, view_entry}
-use Rattle.go_readers.specs.Giving.{Fails}
+use Rattle.go_fragments.specs.declared.groups.Entry.{Entry as Read}
+use Rattle.go_fragments.specs.declared.stop.Stop.{Stop}
+use Rattle.go_fragments.specs.declared.stop.Stop.TheVariants as stops
+use Rattle.go_fragments.specs.Entries.{entries, view_entry}
+use Rattle.go_fragments.specs.Giving.{Fails}
 
 -- what was read before, with what is read behind it
 abbrev pub entries_behind : List Entry → Option (List Entry × List Token) → Option (List Entry × List Token)

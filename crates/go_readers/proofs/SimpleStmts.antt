@@ -6,7 +6,7 @@ use Rattle.go_ast.specs.declared.token.Token.{Token}
 use Rattle.go_ast.specs.declared.token.Kind.TheVariants as kinds
 use Rattle.go_syntax.specs.declared.exprs.ListedExpr.{ListedExpr}
 use Rattle.go_grammar.specs.Forests as forms
-use Rattle.go_grammar.specs.Forests.{Form, Forest, empty, leaf, node, append}
+use Rattle.go_grammar.specs.Forests.{Forest, empty, leaf, node, append}
 use Rattle.go_grammar.specs.Grammar.{is_assign, is_step}
 use Rattle.go_grammar.specs.Shapes.{is}
 use Rattle.go_ast.specs.declared.token.Kind.{Kind}
@@ -16,28 +16,20 @@ use Rattle.go_grammar.specs.TypeReading.{Parsers, Place, Plain, Header, Item}
 use Rattle.go_grammar.specs.ExprReading.{Left, context_of, is_item}
 use Rattle.go_grammar.specs.StmtReading.{at_part, expr, behind_list, is_single, simple_rest_in, exprs_in}
 use Rattle.go_grammar.specs.View.{one, tree, ◌⊕◌, each, view_listed_expr}
-use Rattle.go_grammar.proofs.Forests.{append-empty, append-assoc}
-use Rattle.go_grammar.proofs.Views.{view_stmt_switch, view_stmt_type_switch, view_switch_stmt_made, view_type_switch_stmt_made, view_if_arm_made, view_stmt_break, view_stmt_continue, view_stmt_fallthrough, view_stmt_decl, view_stmt_labeled, view_stmt_line_made, view_stmt_return, view_stmt_if, view_stmt_send, view_stmt_step, view_stmt_assign, view_stmt_define, view_stmt_expr, view_case_clause_made, view_stmt_for, view_for_stmt_made, view_stmt_range, view_range_stmt_made}
-use Rattle.go_readers.specs.Expressions.{list_in, single_of}
-use Rattle.go_readers.specs.Statements.{IsList, IsSplitAt}
-use Rattle.go_readers.proofs.Loops.{behind}
-use Rattle.go_readers.specs.declared.stop.Stop.{Stop}
-use Rattle.go_readers.specs.declared.stop.Stop.TheVariants as stops
-use Rattle.go_readers.specs.Giving.{Fails}
+use Rattle.go_grammar.proofs.Forests.{append-assoc}
+use Rattle.go_grammar.proofs.Views.{view_stmt_send, view_stmt_step, view_stmt_assign, view_stmt_define, view_stmt_expr}
+use Rattle.go_fragments.specs.Expressions.{single_of}
+use Rattle.go_readers.specs.Expressions.{list_in}
+use Rattle.go_fragments.specs.Statements.{IsSplitAt}
+use Rattle.go_readers.specs.Statements.{IsList}
+use Rattle.go_fragments.proofs.Loops.{behind}
+use Rattle.go_fragments.proofs.SimpleStmts.{single_by, single_not}
+use Rattle.go_fragments.specs.declared.stop.Stop.{Stop}
+use Rattle.go_fragments.specs.declared.stop.Stop.TheVariants as stops
+use Rattle.go_fragments.specs.Giving.{Fails}
 use Rattle.go_readers.proofs.Statements.{below_node, below_both, exprs_listed}
 
 -- ---- simple statements
-
-abbrev pub single_if : Bool → Forest → Option Forest
-single_if single trees = if single then Some trees else None
-
-pub single_by : (single : Bool) (trees tree : Forest) → single_if single trees ≡ Some tree → (single ≡ true) × (trees ≡ tree)
-single_by true trees tree h = (refl, cc)
-single_by false trees tree h = absurd cc
-
-pub single_not : (single : Bool) (trees : Forest) → single_if single trees ≡ None → single ≡ false
-single_not true trees h = absurd cc
-single_not false trees h = refl
 
 module _ (p : Parsers) (place : Place) (targets : Forest) (tokens : List Token) where
   pub rest_assign : (operator : Token) (after : List Token) → is_item place ≡ false → is_next is_assign tokens ≡ true → sign_in is_assign tokens ≡ Some (one operator, after)
@@ -98,8 +90,6 @@ module _ (p : Parsers) (place : Place) (targets : Forest) (tokens : List Token) 
   defines_nothing stops.Unexpected operator after i n d h e = rest_define operator after i n d h ∙ ap (below_node forms.DefineForm (append targets (one operator))) e
 
 pub ruleset rests = (rest_assign, rest_define, rest_many, rest_send, rest_step, rest_expr, append-assoc, view_stmt_assign, view_stmt_define, view_stmt_send, view_stmt_step, view_stmt_expr)
-
-pub ruleset simples = (view_stmt_expr, view_stmt_send, view_stmt_step, view_stmt_assign, view_stmt_define)
 
 -- an operator is no comma
 no_comma : (kind : Kind) → is_assign kind ≡ true → is kind kinds.Comma ≡ false

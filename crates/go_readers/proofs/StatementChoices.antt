@@ -21,14 +21,15 @@ use Rattle.go_grammar.specs.StmtReading.{switch_in, for_in, simple_in, simple_re
 use Rattle.go_grammar.specs.View.{each, if_some, token_if, view_label, view_listed_expr, view_stmt, view_stmt_line}
 use Rattle.go_grammar.proofs.Forests.{append-empty}
 use Rattle.go_grammar.proofs.Views.{view_stmt_labeled, view_stmt_line_made}
-use Rattle.go_readers.specs.declared.stop.Stop.{Stop}
-use Rattle.go_readers.specs.declared.stop.Stop.TheVariants as stops
+use Rattle.go_fragments.specs.declared.stop.Stop.{Stop}
+use Rattle.go_fragments.specs.declared.stop.Stop.TheVariants as stops
 use Rattle.go_readers.specs.Expressions.{list_in}
-use Rattle.go_readers.specs.Giving.{Fails}
-use Rattle.go_readers.specs.Statements.{boxed_stmt, arms_in, compound_in, if_in, labels_in, line_in, select_in, statement_in}
-use Rattle.go_readers.specs.Words.{line_end_in}
+use Rattle.go_fragments.specs.Giving.{Fails}
+use Rattle.go_fragments.specs.Statements.{boxed_stmt, labels_in}
+use Rattle.go_readers.specs.Statements.{arms_in, compound_in, if_in, line_in, select_in, statement_in}
+use Rattle.go_fragments.specs.Words.{line_end_in}
 use Rattle.go_readers.proofs.Statements.{if_by_arms, labeled_by}
-use Rattle.go_readers.proofs.Words.{before_braces}
+use Rattle.go_fragments.proofs.Words.{before_braces}
 
 if_true : {A : Type 0} (test : Bool) (x y : A) → test ≡ true → (if test then x else y) ≡ x
 if_true true x y h = refl

@@ -1,7 +1,6 @@
 -- What readers of statements read, in the order of their steps.
-use Rattle.std.proofs.Common.{◌≡◌, ℕ, ◌-◌, ◌++◌, Bool, true, false, List, [], ◌∷◌, length, Option, Some, None, refl, sym, ap, ◌∙◌, arith}
-use Rattle.std.specs.Prelude.{◌||◌, not, if◌then◌else◌}
-use Rattle.std.specs.Global.{Box, Vec}
+use Rattle.std.proofs.Common.{◌≡◌, ℕ, Bool, true, false, List, [], ◌∷◌, length, Option, Some, None, refl, sym, ap, ◌∙◌}
+use Rattle.std.specs.Prelude.{◌||◌, if◌then◌else◌}
 use Rattle.go_ast.specs.declared.token.Token.{Token}
 use Rattle.go_ast.specs.declared.token.Kind.TheVariants as kinds
 use Rattle.go_syntax.specs.declared.decls.Decl.{Decl}
@@ -28,35 +27,30 @@ use Rattle.go_syntax.specs.declared.stmts.TypeSwitchStmt.{TypeSwitchStmt}
 use Rattle.go_syntax.specs.declared.type_exprs.Param.{Param}
 use Rattle.go_syntax.specs.declared.type_exprs.Params.{Params}
 use Rattle.go_syntax.specs.declared.type_exprs.Signature.{Signature}
-use Rattle.go_syntax.specs.declared.stmts.Binding.{Binding}
-use Rattle.go_syntax.specs.declared.stmts.Label.{Label}
-use Rattle.go_syntax.specs.declared.type_exprs.ListedName.{ListedName}
-use Rattle.go_syntax.specs.declared.type_exprs.NamedType.{NamedType}
-use Rattle.go_syntax.specs.declared.decls.Decl.TheOpen.{SwitchStmt-F, TypeSwitchStmt-F, IfArm-F, ForStmt-F, RangeStmt-F}
-use Rattle.go_syntax.specs.declared.decls.Decl.TheViews.{roll-SwitchStmt, roll-TypeSwitchStmt, roll-IfArm, roll-ForStmt, roll-RangeStmt}
-use Rattle.go_syntax.specs.declared.stmts.Stmt.TheVariants as stmts
+use Rattle.go_syntax.specs.declared.decls.Decl.TheOpen.{IfArm-F, ForStmt-F, RangeStmt-F}
+use Rattle.go_syntax.specs.declared.decls.Decl.TheViews.{roll-IfArm, roll-ForStmt, roll-RangeStmt}
 use Rattle.go_grammar.specs.Forests as forms
-use Rattle.go_grammar.specs.Forests.{Form, Forest, empty, leaf, node, append}
-use Rattle.go_grammar.specs.Grammar.{is_assign, is_step}
+use Rattle.go_grammar.specs.Forests.{Form, Forest, empty, node, append}
 use Rattle.go_grammar.specs.Shapes.{is}
 use Rattle.go_ast.specs.declared.token.Kind.{Kind}
-use Rattle.go_grammar.specs.Reading.{Reader, ◌>>=◌, many_in, then_in, either_in, node_in, sign_in, is_next, run}
+use Rattle.go_grammar.specs.Reading.{Reader, ◌>>=◌, many_in, then_in, either_in, node_in, is_next, run}
 use Rattle.go_grammar.specs.Tests.{begins, begins_both, word_in}
 use Rattle.go_grammar.specs.TypeReading.{Parsers, Place, Plain, Header, Item}
 use Rattle.go_grammar.specs.ExprReading.{Left, block_in, context_of, is_item}
-use Rattle.go_grammar.specs.StmtReading.{HeaderParts, at_clauses, at_part, bound_of, guard_of, guard_plan, is_primary, primary_of, switch_rest_in, begins_decl, expr, items, if_rest_in, behind_list, is_single, simple_rest_in, unlabeled_in, decl_in, exprs_in, goes_on}
-use Rattle.go_grammar.specs.View.{one, tree, ◌⊕◌, if_some, each, token_if, view_expr, view_stmt, view_block, view_listed_expr, view_binding, view_case_clause, view_if_arm, view_switch_stmt, view_type_switch_stmt, view_for_stmt, view_range_stmt}
-use Rattle.go_grammar.proofs.Forests.{append-empty, append-assoc}
-use Rattle.go_grammar.proofs.Views.{view_stmt_switch, view_stmt_type_switch, view_switch_stmt_made, view_type_switch_stmt_made, view_if_arm_made, view_stmt_break, view_stmt_continue, view_stmt_fallthrough, view_stmt_decl, view_stmt_labeled, view_stmt_line_made, view_stmt_return, view_stmt_if, view_stmt_send, view_stmt_step, view_stmt_assign, view_stmt_define, view_stmt_expr, view_case_clause_made, view_stmt_for, view_for_stmt_made, view_stmt_range, view_range_stmt_made}
+use Rattle.go_grammar.specs.StmtReading.{at_part, begins_decl, items, if_rest_in, unlabeled_in, decl_in, exprs_in, goes_on}
+use Rattle.go_grammar.specs.View.{one, tree, ◌⊕◌, if_some, each, token_if, view_block, view_listed_expr, view_if_arm, view_for_stmt, view_range_stmt}
+use Rattle.go_grammar.proofs.Forests.{append-assoc}
+use Rattle.go_grammar.proofs.Views.{view_if_arm_made, view_stmt_decl, view_stmt_labeled, view_stmt_line_made, view_stmt_return, view_case_clause_made, view_stmt_for, view_for_stmt_made, view_stmt_range, view_range_stmt_made}
 use Rattle.go_grammar.specs.FileReading.{parsers}
-use Rattle.go_grammar.proofs.Nodes.{behind_exprs, primary_single}
+use Rattle.go_grammar.proofs.Nodes.{behind_exprs}
 use Rattle.go_grammar.proofs.ParamTakes.{params_takes, results_takes}
 use Rattle.go_grammar.proofs.SoundReading.{all_sound}
 use Rattle.go_grammar.proofs.StmtTakes.{exprs_takes}
 use Rattle.go_readers.specs.Expressions.{list_in}
-use Rattle.go_readers.specs.Statements.{boxed_expr, boxed_stmt, label_in, labels_in, statement_in, arm_in, arms_in, else_arm_in, if_in, branch_in, suffix_in, clauses_in, begins_branch, begins_decl_at, IsList, IsSplitAt, compound_in, go_in, defer_in, return_in}
-use Rattle.go_readers.proofs.Loops.{behind, behind_both}
-use Rattle.go_readers.proofs.Words.{before_braces}
+use Rattle.go_fragments.specs.Statements.{boxed_expr, boxed_stmt, label_in, labels_in, branch_in, begins_branch, begins_decl_at}
+use Rattle.go_readers.specs.Statements.{statement_in, arm_in, arms_in, else_arm_in, if_in, IsList, compound_in, go_in, defer_in, return_in}
+use Rattle.go_fragments.proofs.Loops.{behind, behind_both}
+use Rattle.go_fragments.proofs.Words.{before_braces}
 
 -- ---- pieces that are read one after the other, or together
 
@@ -80,33 +74,7 @@ pub below_both : (form : Form) (front next : Forest) (read : Option Left) → be
 below_both form front next None = refl
 below_both form front next (Some x) = ap (λ (tree : Forest). Some (node form tree empty, x.1)) (sym (append-assoc front next x.0))
 
--- a list whose first item stands alone
-pub first_start : (test : List Token → Bool) (first item : Reader) (front x : Forest) (tokens rest : List Token) (n i : ℕ) → first tokens ≡ Some (x, rest) → front ≡ x → n ≡ length rest → i ≡ 0
-    → behind front (many_in test item (n - i) rest) ≡ then_in first (λ behind. many_in test item (length behind) behind) tokens
-first_start test first item front x tokens rest n i h f e z =
-    let k : n - i ≡ length rest = omega arith in
-    rw (h, f, k) refl
-
-pub first_push : {A : Type 0} (view : A → Forest) (none items : List A) (x : A) → items ≡ none ++ x ∷ [] → none ≡ [] → each view items ≡ view x
-first_push view none items x e n =
-    let one_item : items ≡ x ∷ [] = rw (e, n) refl in
-    ap (each view) one_item ∙ append-empty (view x)
-
 -- ---- views
-
-pub switch_made : (x : SwitchStmt-F Decl Expr Stmt ElementLine FieldLine ResultForm TypeExpr FuncDecl TypeSpec ValueSpec Element ListedExpr Block CaseClause CommClause ForStmt IfArm RangeStmt StmtLine SwitchStmt TypeSwitchStmt Param Params Signature) → view_switch_stmt (roll-SwitchStmt x) ≡ tree forms.SwitchForm (one x.word ⊕ (if_some boxed_stmt x.init ⊕ token_if x.semicolon) ⊕ if_some boxed_expr x.tag ⊕ one x.«open» ⊕ each view_case_clause x.clauses.items ⊕ one x.close)
-switch_made x = view_switch_stmt_made x ∙ ap (λ (seen : Forest). tree forms.SwitchForm (one x.word ⊕ seen)) (sym (append-assoc (if_some boxed_stmt x.init) (token_if x.semicolon) (if_some boxed_expr x.tag ⊕ one x.«open» ⊕ each view_case_clause x.clauses.items ⊕ one x.close)))
-
-pub ruleset switches = (view_stmt_switch, switch_made)
-
-pub type_switch_made : (x : TypeSwitchStmt-F Decl Expr Stmt ElementLine FieldLine ResultForm TypeExpr FuncDecl TypeSpec ValueSpec Element ListedExpr Block CaseClause CommClause ForStmt IfArm RangeStmt StmtLine SwitchStmt TypeSwitchStmt Param Params Signature) → view_type_switch_stmt (roll-TypeSwitchStmt x) ≡ tree forms.TypeSwitchForm (one x.word ⊕ (if_some boxed_stmt x.init ⊕ token_if x.semicolon) ⊕ (if_some view_binding x.binding ⊕ boxed_expr x.operand) ⊕ one x.dot ⊕ one x.open_paren ⊕ one x.type_word ⊕ one x.close_paren ⊕ one x.«open» ⊕ each view_case_clause x.clauses.items ⊕ one x.close)
-type_switch_made x =
-    let behind : Forest = one x.dot ⊕ one x.open_paren ⊕ one x.type_word ⊕ one x.close_paren ⊕ one x.«open» ⊕ each view_case_clause x.clauses.items ⊕ one x.close in
-    view_type_switch_stmt_made x
-    ∙ ap (λ (seen : Forest). tree forms.TypeSwitchForm (one x.word ⊕ seen)) (sym (append-assoc (if_some boxed_stmt x.init) (token_if x.semicolon) (if_some view_binding x.binding ⊕ boxed_expr x.operand ⊕ behind)))
-    ∙ ap (λ (seen : Forest). tree forms.TypeSwitchForm (one x.word ⊕ (if_some boxed_stmt x.init ⊕ token_if x.semicolon) ⊕ seen)) (sym (append-assoc (if_some view_binding x.binding) (boxed_expr x.operand) behind))
-
-pub ruleset type_switches = (view_stmt_type_switch, type_switch_made)
 
 pub arm_made : (x : IfArm-F Decl Expr Stmt ElementLine FieldLine ResultForm TypeExpr FuncDecl TypeSpec ValueSpec Element ListedExpr Block CaseClause CommClause ForStmt IfArm RangeStmt StmtLine SwitchStmt TypeSwitchStmt Param Params Signature) → view_if_arm (roll-IfArm x) ≡ tree forms.ArmForm (token_if x.else_word ⊕ one x.word ⊕ (if_some boxed_stmt x.init ⊕ token_if x.semicolon) ⊕ boxed_expr x.condition ⊕ view_block x.body)
 arm_made x = view_if_arm_made x ∙ ap (λ (seen : Forest). tree forms.ArmForm (token_if x.else_word ⊕ one x.word ⊕ seen)) (sym (append-assoc (if_some boxed_stmt x.init) (token_if x.semicolon) (boxed_expr x.condition ⊕ view_block x.body)))
@@ -122,18 +90,6 @@ range_made x = view_range_stmt_made x ∙ ap (λ (seen : Forest). tree forms.Ran
 pub ruleset fors = (view_stmt_for, for_made)
 
 pub ruleset ranges = (view_stmt_range, range_made)
-
-pub ruleset branches = (view_stmt_break, view_stmt_continue, view_stmt_fallthrough)
-
--- an `if` without a last `else`
-pub if_alone : (arms : Vec IfArm) → view_stmt (stmts.If arms None None) ≡ tree forms.IfForm (each view_if_arm arms.items)
-if_alone arms = view_stmt_if arms None None ∙ ap (tree forms.IfForm) (append-empty (each view_if_arm arms.items))
-
--- an `if` with a last `else`
-pub else_seen : (stmt : Stmt) (arms : Vec IfArm) (else_word : Token) (held : Box Block) (block : Block) → stmt ≡ stmts.If arms (Some else_word) (Some held) → held.value ≡ block → Some (tree forms.IfForm (each view_if_arm arms.items ⊕ one else_word ⊕ view_block block)) ≡ Some (view_stmt stmt)
-else_seen stmt arms else_word held block e h =
-    let seen : view_stmt stmt ≡ tree forms.IfForm (each view_if_arm arms.items ⊕ one else_word ⊕ view_block held.value) = ap view_stmt e ∙ view_stmt_if arms (Some else_word) (Some held) in
-    ap (λ (body : Block). Some (tree forms.IfForm (each view_if_arm arms.items ⊕ one else_word ⊕ view_block body))) (sym h) ∙ ap (λ (seen : Forest). Some seen) (sym seen)
 
 -- ---- statements
 

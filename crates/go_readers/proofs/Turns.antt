@@ -8,10 +8,10 @@ use Rattle.go_grammar.specs.Grammar.{precedence}
 use Rattle.go_grammar.specs.Reading.{◌>>=◌}
 use Rattle.go_grammar.specs.TypeReading.{Parsers, Place}
 use Rattle.go_grammar.specs.ExprReading.{Turn, Done, On, repeat, is_type_only, operand_in, primary_in, suffix_in, suffix_turn, begins_suffix, unary_in, binary_in, binary_by, binary_turn, operator_at, of_operand}
-use Rattle.go_readers.specs.declared.stop.Stop.{Stop}
-use Rattle.go_readers.specs.declared.stop.Stop.TheVariants as stops
+use Rattle.go_fragments.specs.declared.stop.Stop.{Stop}
+use Rattle.go_fragments.specs.declared.stop.Stop.TheVariants as stops
 use Rattle.go_readers.specs.Expressions.{operation_in}
-use Rattle.go_readers.specs.Giving.{Fails}
+use Rattle.go_fragments.specs.Giving.{Fails}
 
 -- ---- behind an operand
 

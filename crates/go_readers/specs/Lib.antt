@@ -1,7 +1,4 @@
-pub mod Giving
-pub mod Words
 pub mod Lines
-pub mod Entries
 pub mod Specs
 pub mod Funcs
 pub mod Expressions

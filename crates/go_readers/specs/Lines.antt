@@ -1,12 +1,9 @@
 -- Lines of a struct type and of an interface type, and types that begin with a token of their own.
-use Rattle.std.specs.Prelude.{Some}
 use Rattle.go_ast.specs.declared.token.Kind.TheVariants as kinds
 use Rattle.go_grammar.specs.Forests as forms
-use Rattle.go_grammar.specs.Forests.{Forest, node, append, empty}
-use Rattle.go_grammar.specs.Grammar as sorts
-use Rattle.go_grammar.specs.Grammar.{Sort, closes_braces}
-use Rattle.go_grammar.specs.Reading.{Reader, node_in, then_in, Plan, Node, Part, Either, Many, ◌>>=◌, run}
-use Rattle.go_grammar.specs.Tests.{word_in, ◌⨟◌, maybe_word, semicolon, end_of_line, not_closed, not_empty, begins_type_at, word}
+use Rattle.go_grammar.specs.Grammar.{closes_braces}
+use Rattle.go_grammar.specs.Reading.{Reader, node_in, then_in, Either, Many, run}
+use Rattle.go_grammar.specs.Tests.{word_in, ◌⨟◌, semicolon, end_of_line, not_closed, not_empty}
 use Rattle.go_grammar.specs.TypeReading.{Parsers, at_type, field_plan, element_plan, signature_in}
 
 abbrev pub field_line_in : Parsers → Reader
@@ -14,10 +11,6 @@ field_line_in p = run (at_type p) (Either not_empty (field_plan ⨟ end_of_line 
 
 abbrev pub field_lines_in : Parsers → Reader
 field_lines_in p = run (at_type p) (Many (not_closed kinds.CloseBrace) (Either not_empty (field_plan ⨟ end_of_line closes_braces) semicolon))
-
--- `T` or `*T` as a field, and the semicolon behind it
-abbrev pub embedded_line_in : Parsers → Reader
-embedded_line_in p = run (at_type p) (Node forms.EmbeddedFieldForm (maybe_word kinds.Star ⨟ Part sorts.TypeName ⨟ maybe_word kinds.Text) ⨟ end_of_line closes_braces)
 
 abbrev pub element_line_in : Parsers → Reader
 element_line_in p = run (at_type p) (Either not_empty (element_plan ⨟ end_of_line closes_braces) semicolon)

@@ -1,14 +1,11 @@
--- Reading operands in parentheses, and the signs before operands.
-use Rattle.std.specs.Prelude.{List, [], ◌∷◌, Option, Some, None, if◌then◌else◌}
+-- Reading operands in parentheses.
+use Rattle.std.specs.Prelude.{Some}
 use Rattle.go_ast.specs.declared.token.Kind.TheVariants as kinds
-use Rattle.go_ast.specs.declared.token.Token.{Token}
-use Rattle.go_grammar.specs.Shapes.{is}
 use Rattle.go_grammar.specs.Forests as forms
 use Rattle.go_grammar.specs.Forests.{empty, node, append}
 use Rattle.go_grammar.specs.Reading.{Reader, ◌>>=◌}
 use Rattle.go_grammar.specs.Tests.{word_in}
 use Rattle.go_grammar.specs.TypeReading.{Parsers, Item}
-use Rattle.go_grammar.specs.ExprReading.{begins_sign_by}
 
 abbrev pub paren_in : Parsers → Reader
 paren_in p tokens = do
@@ -16,13 +13,3 @@ paren_in p tokens = do
   inner ← p.expr Item 1 opened.1
   closed ← word_in kinds.CloseParen inner.1
   Some (node forms.ParenForm (append opened.0 (append inner.0 closed.0)) empty, closed.1)
-
--- a star, and what stands behind it
-abbrev pub star_at : List Token → Option (Token × List Token)
-star_at [] = None
-star_at (token ∷ rest) = if is token.kind kinds.Star then Some (token, rest) else None
-
--- a sign, and what stands behind it; before `chan`, `<-` is none
-abbrev pub sign_at : List Token → Option (Token × List Token)
-sign_at [] = None
-sign_at (token ∷ rest) = if begins_sign_by token.kind rest then Some (token, rest) else None

@@ -1,30 +1,30 @@
 //! Declarations. Go specification, "Declarations and scope".
 
-ghost use Rattle.std.specs.Prelude.{◌≡◌, ◌∷◌, [], IfOk, IfErr, Some};
+ghost use Rattle.std.specs.Prelude.{Some};
 ghost use Rattle.go_ast.specs.declared.token.Kind.TheVariants as kinds;
 ghost use Rattle.go_grammar.specs.Forests.{append};
 ghost use Rattle.go_grammar.specs.Forests as forms;
 ghost use Rattle.go_grammar.specs.Grammar as sorts;
 ghost use Rattle.go_grammar.specs.StmtReading.{decl_in, at_spec};
-ghost use Rattle.go_grammar.specs.View.{view_decl, view_func_decl, view_type_spec, view_value_spec, view_listed_name, view_type_expr, view_listed_expr, view_param, view_params, view_signature, view_block, each, if_some, token_if, tree, one};
+ghost use Rattle.go_grammar.specs.View.{view_decl, view_func_decl, view_type_spec, view_value_spec, view_listed_expr, view_params, view_block, each, if_some, token_if};
 ghost use Rattle.go_grammar.specs.FileReading.{parsers};
-ghost use Rattle.go_readers.specs.Giving.{Gives};
-ghost use Rattle.go_readers.specs.declared.stop.Stop.TheVariants as stops;
+ghost use Rattle.go_fragments.specs.Giving.{Gives};
 ghost use Rattle.go_readers.specs.Funcs.{func_in};
-ghost use Rattle.go_readers.specs.Specs.{view_values, view_named_form, view_group, optional_values_in, value_sort, group_in, spec_line_in, spec_lines_in, parens_in, declaration_in, receiver_in, receiver_name_in, optional_receiver_in, optional_body_in};
+ghost use Rattle.go_fragments.specs.Specs.{view_values, view_named_form};
+ghost use Rattle.go_readers.specs.Specs.{view_group, optional_values_in, value_sort, group_in, spec_line_in, spec_lines_in, parens_in, declaration_in, receiver_in, optional_receiver_in, optional_body_in};
 
 use crate::exprs::expr_list;
-use crate::groups::param_name;
-use crate::operands::Context;
 use crate::stmts::block;
-use crate::stop::Stop;
-use crate::tokens::{begins_with, begins_with_type, line_end, names, optional, skip};
 use crate::types::{optional_type, signature, type_expr};
 use go_ast::{Kind, Token};
-use go_syntax::{
-    Block, Decl, FuncDecl, ListedExpr, ListedName, Param, Params, Signature, TypeExpr, TypeSpec,
-    ValueSpec,
+use go_fragments::operands::Context;
+use go_fragments::parts::{
+    NamedForm, ValueParts, alone, func_of, listed_names, params_of, receiver_name, receiver_param,
+    type_spec_of, value_spec_of,
 };
+use go_fragments::stop::Stop;
+use go_fragments::tokens::{begins_with, begins_with_type, line_end, names, optional, skip};
+use go_syntax::{Block, Decl, FuncDecl, ListedExpr, Params, TypeSpec, ValueSpec};
 use std::alloc::Global;
 
 /// A declaration of constants, types or variables.
@@ -102,16 +102,6 @@ struct Group<T> {
     closing: Option<Token>,
 }
 
-/// One item and no other.
-fn alone<T: Drop>(alloc: Global, item: T) -> Result<Vec<T>, Stop>
-    ensures listed { IfOk result (λ x. x.items ≡ item ∷ []) }
-    ensures memory { IfErr result (λ stop. stop ≡ stops.Memory) }
-{
-    let mut items = Vec::new(alloc);
-    items.push(item)?;
-    Ok(items)
-}
-
 /// What a declaration of constants or variables declares.
 #[cycle(parser)]
 fn value_specs(
@@ -152,7 +142,7 @@ fn value_group(
 
 /// Constants or variables of one line.
 #[cycle(parser)]
-#[tactic(auto, using(crate::proofs::Declarations::each_alone))]
+#[tactic(auto, using(go_fragments::proofs::Receivers::each_alone))]
 fn lone_value(
     alloc: Global,
     depth: usize,
@@ -209,7 +199,7 @@ fn type_group(
 
 /// One type.
 #[cycle(parser)]
-#[tactic(auto, using(crate::proofs::Declarations::each_alone))]
+#[tactic(auto, using(go_fragments::proofs::Receivers::each_alone))]
 fn lone_type(
     alloc: Global,
     depth: usize,
@@ -244,26 +234,6 @@ pub fn func_decl(
     Ok((func, rest))
 }
 
-/// A function of its parts.
-#[tactic(auto, using(go_grammar::proofs::Views::view_func_decl_made))]
-fn func_of(
-    word: Token,
-    receiver: Option<Params>,
-    name: Token,
-    signature: Signature,
-    body: Option<Block>,
-) -> FuncDecl
-    ensures { view_func_decl result ≡ tree forms.FuncForm (append (one word) (append (if_some view_params receiver) (append (one name) (append (view_signature signature) (if_some view_block body))))) }
-{
-    FuncDecl {
-        word,
-        receiver,
-        name,
-        signature,
-        body,
-    }
-}
-
 /// The body of a function, where it has one.
 fn optional_block(
     alloc: Global,
@@ -295,7 +265,7 @@ fn optional_receiver(
 }
 
 /// One parameter in parentheses, with a name or without one.
-#[tactic(auto, using(crate::proofs::Declarations::each_alone))]
+#[tactic(auto, using(go_fragments::proofs::Receivers::each_alone))]
 fn receiver(alloc: Global, depth: usize, tokens: &[Token]) -> Result<(Params, &[Token]), Stop>
     ensures { Gives (λ x. (view_params x.0, x.1.now)) result (receiver_in (parsers depth) tokens.now) }
 {
@@ -306,73 +276,7 @@ fn receiver(alloc: Global, depth: usize, tokens: &[Token]) -> Result<(Params, &[
     let (close, rest) = skip(rest, Kind::CloseParen)?;
     let names = listed_names(alloc, name)?;
     let params = alone(alloc, receiver_param(names, form, comma))?;
-    Ok((receiver_of(open, params, close), rest))
-}
-
-/// The name of a receiver, where it has one.
-fn receiver_name(tokens: &[Token]) -> (Option<Token>, &[Token])
-    ensures { receiver_name_in tokens.now ≡ Some (token_if result.0, result.1.now) }
-{
-    param_name(tokens)
-}
-
-/// A list of one name, or of none.
-fn listed_names(alloc: Global, name: Option<Token>) -> Result<Vec<ListedName>, Stop>
-    ensures listed { IfOk result (λ x. each view_listed_name x.items ≡ token_if name) }
-    ensures memory { IfErr result (λ stop. stop ≡ stops.Memory) }
-{
-    match name {
-        Some(name) => alone(alloc, ListedName { name, comma: None }),
-        None => Ok(Vec::new(alloc)),
-    }
-}
-
-/// A parameter that is not variadic.
-#[tactic(auto, using(go_grammar::proofs::Views::view_param_made))]
-fn receiver_param(names: Vec<ListedName>, form: Box<TypeExpr>, comma: Option<Token>) -> Param
-    ensures { view_param result ≡ append (tree forms.ParamForm (append (each view_listed_name names.items) (view_type_expr form.value))) (token_if comma) }
-{
-    Param {
-        names,
-        ellipsis: None,
-        form,
-        comma,
-    }
-}
-
-/// Parameters in parentheses.
-#[tactic(auto, using(go_grammar::proofs::Views::view_params_made))]
-fn receiver_of(opening: Token, params: Vec<Param>, closing: Token) -> Params
-    ensures { view_params result ≡ tree forms.ParamsForm (append (one opening) (append (each view_param params.items) (one closing))) }
-{
-    Params {
-        open: opening,
-        params,
-        close: closing,
-    }
-}
-
-/// Names of constants or variables with their type and values.
-#[derive(Drop)]
-struct ValueParts {
-    names: Vec<ListedName>,
-    form: Option<Box<TypeExpr>>,
-    assign: Option<Token>,
-    values: Vec<ListedExpr>,
-}
-
-/// The specification, with the semicolon behind it.
-#[tactic(auto, using(go_grammar::proofs::Views::view_value_spec_made))]
-fn value_spec_of(spec: ValueParts, semicolon: Option<Token>) -> ValueSpec
-    ensures { view_value_spec result ≡ append (view_values spec) (token_if semicolon) }
-{
-    ValueSpec {
-        names: spec.names,
-        form: spec.form,
-        assign: spec.assign,
-        values: spec.values,
-        semicolon,
-    }
+    Ok((params_of(open, params, close), rest))
 }
 
 /// Names of constants, or of variables, with their type and values.
@@ -469,27 +373,6 @@ fn optional_values(
     Ok((Some(assign), values, rest))
 }
 
-/// A name and its type, with `=` where it is an alias.
-#[derive(Drop)]
-struct NamedForm {
-    name: Token,
-    assign: Option<Token>,
-    form: Box<TypeExpr>,
-}
-
-/// The specification, with the semicolon behind it.
-#[tactic(auto, using(go_grammar::proofs::Views::view_type_spec_made))]
-fn type_spec_of(spec: NamedForm, semicolon: Option<Token>) -> TypeSpec
-    ensures { view_type_spec result ≡ append (view_named_form spec) (token_if semicolon) }
-{
-    TypeSpec {
-        name: spec.name,
-        assign: spec.assign,
-        form: spec.form,
-        semicolon,
-    }
-}
-
 /// A name and its type.
 #[cycle(parser)]
 fn named_form(alloc: Global, depth: usize, tokens: &[Token]) -> Result<(NamedForm, &[Token]), Stop>
@@ -504,7 +387,7 @@ fn named_form(alloc: Global, depth: usize, tokens: &[Token]) -> Result<(NamedFor
 
 /// Constants or variables, and the semicolon behind them.
 #[cycle(parser)]
-#[tactic(auto, using(crate::proofs::Lines::parens_end))]
+#[tactic(auto, using(go_fragments::proofs::Lines::parens_end))]
 fn value_line(
     alloc: Global,
     depth: usize,
@@ -543,7 +426,7 @@ fn value_lines(
 
 /// A type, and the semicolon behind it.
 #[cycle(parser)]
-#[tactic(auto, using(crate::proofs::Lines::parens_end))]
+#[tactic(auto, using(go_fragments::proofs::Lines::parens_end))]
 fn type_line(alloc: Global, depth: usize, tokens: &[Token]) -> Result<(TypeSpec, &[Token]), Stop>
     ensures { Gives (λ x. (view_type_spec x.0, x.1.now)) result (spec_line_in (parsers depth) sorts.TypeSpec tokens.now) }
 {

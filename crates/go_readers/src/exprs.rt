@@ -1,6 +1,6 @@
 //! Expressions. Go specification, "Expressions".
 
-ghost use Rattle.std.specs.Prelude.{◌≡◌, length};
+ghost use Rattle.std.specs.Prelude.{length};
 ghost use Rattle.go_ast.specs.declared.token.Kind.TheVariants.{CloseBrace, Comma};
 ghost use Rattle.go_grammar.specs.Forests.{append};
 ghost use Rattle.go_grammar.specs.Reading.{many_in, then_in};
@@ -8,20 +8,23 @@ ghost use Rattle.go_grammar.specs.Tests.{not_closed, word_in};
 ghost use Rattle.go_grammar.specs.ExprReading.{binary_in, unary_in, primary_in, operand_in, type_operand_in, open_array_in, function_in, suffix_in, selector_in, index_in, slice_in, call_in, literal_in, element_in, separated_in};
 ghost use Rattle.go_grammar.specs.FileReading.{parsers};
 ghost use Rattle.go_grammar.specs.View.{each, if_some, one, view_element, view_expr, view_listed_expr, view_type_expr};
-ghost use Rattle.go_readers.specs.Expressions.{list_in, operation_in, view_context};
-ghost use Rattle.go_readers.specs.Giving.{Gives};
+ghost use Rattle.go_fragments.specs.Expressions.{view_context};
+ghost use Rattle.go_readers.specs.Expressions.{list_in, operation_in};
+ghost use Rattle.go_fragments.specs.Giving.{Gives};
 ghost use Rattle.go_readers.specs.Operands.{paren_in};
-ghost use Rattle.go_readers.specs.Words.{begins_operand_type};
 
-use crate::operands::{
-    Context, begins_with_braces, begins_with_open_array, begins_with_suffix, int_literal,
-    is_type_only, literal_type, name, rune_literal, sign, star, starred, text_literal,
-};
 use crate::stmts::block;
-use crate::stop::Stop;
-use crate::tokens::{begins_with, list_goes_on, operator, optional, precedence, separator, skip};
-use crate::types::{begins_with_bare_type, signature, type_expr, type_form};
+use crate::types::{signature, type_expr, type_form};
 use go_ast::{Kind, Token};
+use go_fragments::operands::{
+    Context, begins_with_braces, begins_with_open_array, begins_with_operand_type,
+    begins_with_suffix, int_literal, is_type_only, literal_type, name, rune_literal, sign, star,
+    starred, text_literal,
+};
+use go_fragments::stop::Stop;
+use go_fragments::tokens::{
+    begins_with, list_goes_on, operator, optional, separator, skip, tighter_than,
+};
 use go_syntax::{Element, Expr, ListedExpr, TypeExpr};
 use std::alloc::Global;
 
@@ -88,7 +91,7 @@ fn operation(
 ) -> Result<(Box<Expr>, &[Token]), Stop>
     ensures { Gives (λ x. (view_expr x.0.value, x.1.now)) result (operation_in (parsers depth) (view_context context) (view_expr left.value) operator tokens.now) }
 {
-    let tighter = precedence(operator.kind) + 1;
+    let tighter = tighter_than(operator);
     let (right, rest) = expr(alloc, depth, context.of_operand(), tighter, tokens)?;
     let both = Expr::Binary {
         left,
@@ -214,15 +217,6 @@ fn type_operand(
     }
     let (form, rest) = type_form(alloc, depth, tokens)?;
     Ok((Box::new(alloc, Expr::TypeForm(form))?, rest))
-}
-
-/// Whether a type begins here that may stand as an operand.
-fn begins_with_operand_type(context: Context, tokens: &[Token]) -> bool
-    ensures { result ≡ begins_operand_type (view_context context) tokens.now }
-{
-    begins_with_bare_type(tokens)
-        || context.is_item()
-            && (begins_with(tokens, Kind::ChanWord) || begins_with(tokens, Kind::Arrow))
 }
 
 /// `[...]T` before the braces of a literal. Go specification, "Composite literals".
@@ -489,7 +483,7 @@ fn literal(
 
 /// Elements up to a closing brace.
 #[cycle(parser)]
-#[tactic(auto, using(crate::proofs::Loops::manies))]
+#[tactic(auto, using(go_fragments::proofs::Loops::manies))]
 fn elements(alloc: Global, depth: usize, tokens: &[Token]) -> Result<(Vec<Element>, &[Token]), Stop>
     ensures { Gives (λ x. (each view_element x.0.items, x.1.now)) result (many_in (not_closed CloseBrace) (separated_in (element_in (parsers depth))) (length tokens.now) tokens.now) }
 {
@@ -551,7 +545,7 @@ fn value(alloc: Global, depth: usize, tokens: &[Token]) -> Result<(Box<Expr>, &[
 
 /// Expressions with commas between them.
 #[cycle(parser)]
-#[tactic(auto, using(crate::proofs::Loops::manies))]
+#[tactic(auto, using(go_fragments::proofs::Loops::manies))]
 pub(crate) fn expr_list(
     alloc: Global,
     depth: usize,

@@ -6,24 +6,25 @@ ghost use Rattle.go_grammar.specs.FileReading.{parsers};
 ghost use Rattle.go_grammar.specs.Grammar.{Plain};
 ghost use Rattle.go_grammar.specs.StmtReading.{simple_rest_in, simple_in, optional_simple_in, header_in, switch_in, for_in, for_clauses_in, range_in, while_in, unlabeled_in, lines_in, decl_in, for_rest_in};
 ghost use Rattle.go_grammar.specs.View.{view_block, view_stmt_line, view_listed_expr, view_if_arm, view_case_clause, view_comm_clause, ◌⊕◌, one, each, if_some, token_if};
-ghost use Rattle.go_readers.specs.Expressions.{view_context};
-ghost use Rattle.go_readers.specs.Giving.{Gives};
-ghost use Rattle.go_readers.specs.Statements.{boxed_stmt, boxed_expr, view_simple, view_header, view_body, statement_in, line_in, return_in, if_in, arm_in, clause_in, clauses_in, clause_list_in, comm_list_in, arms_in, else_arm_in, go_in, defer_in, compound_in, for_condition_in, comm_clause_in, select_in, IsSplit, IsList};
+ghost use Rattle.go_fragments.specs.Expressions.{view_context};
+ghost use Rattle.go_fragments.specs.Giving.{Gives};
+ghost use Rattle.go_fragments.specs.Statements.{boxed_stmt, boxed_expr, view_simple, view_header, view_body, IsSplit};
+ghost use Rattle.go_readers.specs.Statements.{statement_in, line_in, return_in, if_in, arm_in, clause_in, clauses_in, clause_list_in, comm_list_in, arms_in, else_arm_in, go_in, defer_in, compound_in, for_condition_in, comm_clause_in, select_in, IsList};
 
 use crate::decls::decl;
 use crate::exprs::{LOOSE, expr, expr_list};
-use crate::operands::{Context, begins_with_braces, single};
-use crate::simples::{
+use go_ast::{Kind, Token};
+use go_fragments::operands::{Context, begins_with_braces, single};
+use go_fragments::simples::{
     HeaderParts, Init, Simple, SwitchBody, begins_with_branch, begins_with_decl, branch,
     condition_of, ends_statements, guard_of, guard_suffix, is_comm, is_post, labels,
     optional_stmt_of, stmt_of, tag_of, type_switch, value_switch, with_else, without_else,
 };
-use crate::stop::Stop;
-use crate::tokens::{
+use go_fragments::stop::Stop;
+use go_fragments::tokens::{
     assignment, begins_with, begins_with_both, begins_with_semicolon, ends_statement, line_end,
     range_assignment, semicolon, skip, step,
 };
-use go_ast::{Kind, Token};
 use go_syntax::{
     Block, CaseClause, CommClause, Expr, ForStmt, IfArm, ListedExpr, RangeStmt, Stmt, StmtLine,
 };
@@ -68,7 +69,7 @@ fn statements(
 
 /// Statements with the semicolons behind them.
 #[cycle(parser)]
-#[tactic(auto, using(crate::proofs::Loops::manies))]
+#[tactic(auto, using(go_fragments::proofs::Loops::manies))]
 fn statement_lines(
     alloc: Global,
     depth: usize,
@@ -383,7 +384,7 @@ fn if_stmt(alloc: Global, depth: usize, tokens: &[Token]) -> Result<(Box<Stmt>, 
 
 /// The first arm of an `if`, and each `else if`.
 #[cycle(parser)]
-#[tactic(auto, using(crate::proofs::Loops::manies))]
+#[tactic(auto, using(go_fragments::proofs::Loops::manies))]
 fn if_arms(alloc: Global, depth: usize, tokens: &[Token]) -> Result<(Vec<IfArm>, &[Token]), Stop>
     ensures { Gives (λ x. (each view_if_arm x.0.items, x.1.now)) result (arms_in (parsers depth) tokens.now) }
 {
@@ -478,7 +479,7 @@ fn switch_body(
 
 /// Clauses of a `switch` up to a closing brace.
 #[cycle(parser)]
-#[tactic(auto, using(crate::proofs::Loops::manies))]
+#[tactic(auto, using(go_fragments::proofs::Loops::manies))]
 fn clauses(
     alloc: Global,
     depth: usize,
@@ -551,7 +552,7 @@ fn select_stmt(alloc: Global, depth: usize, tokens: &[Token]) -> Result<(Box<Stm
 
 /// Clauses of a `select` up to a closing brace.
 #[cycle(parser)]
-#[tactic(auto, using(crate::proofs::Loops::manies))]
+#[tactic(auto, using(go_fragments::proofs::Loops::manies))]
 fn comm_clauses(
     alloc: Global,
     depth: usize,

@@ -3,30 +3,32 @@
 ghost use Rattle.std.specs.Prelude.{◌≡◌, ◌∷◌, Option, Some, length};
 ghost use Rattle.std.specs.Global.{Box};
 ghost use Rattle.go_syntax.specs.declared.type_exprs.TypeExpr.{TypeExpr};
-ghost use Rattle.go_grammar.specs.Forests as forms;
 ghost use Rattle.go_ast.specs.declared.token.Kind.TheVariants as kinds;
-ghost use Rattle.go_grammar.specs.Forests.{empty, leaf, append};
-ghost use Rattle.go_grammar.specs.Reading.{either_in, Reader};
+ghost use Rattle.go_grammar.specs.Forests.{empty};
+ghost use Rattle.go_grammar.specs.Reading.{either_in};
 ghost use Rattle.go_grammar.specs.Tests.{begins_type_at};
-ghost use Rattle.go_grammar.specs.TypeReading.{type_in, long_in, bare_in, type_name_in, begins_bare, signature_in, params_in, entry_in, entries_in, at_type, Parsers};
-ghost use Rattle.go_grammar.specs.View.{view_type_expr, view_params, view_param, view_signature, view_result_form, view_field_line, view_element_line, each, tree, if_some};
+ghost use Rattle.go_grammar.specs.TypeReading.{type_in, long_in, bare_in, signature_in, params_in, entry_in, entries_in, at_type};
+ghost use Rattle.go_grammar.specs.View.{view_type_expr, view_params, view_signature, view_field_line, view_element_line, each, if_some};
 ghost use Rattle.go_grammar.specs.FileReading.{parsers};
-ghost use Rattle.go_readers.specs.Giving.{Gives};
-ghost use Rattle.go_readers.specs.Entries.{view_entry, entries};
+ghost use Rattle.go_fragments.specs.Giving.{Gives};
+ghost use Rattle.go_fragments.specs.Entries.{view_entry, entries};
 ghost use Rattle.go_readers.specs.Lines.{field_line_in, field_lines_in, element_line_in, element_lines_in, paren_type_in, pointer_type_in, function_type_in};
 ghost use Rattle.go_grammar.specs.TypeReading.{chan_plan};
-ghost use Rattle.go_grammar.specs.Reading.{run, is_next};
+ghost use Rattle.go_grammar.specs.Reading.{run};
 
 use crate::exprs::{LOOSE, expr};
-use crate::groups::{Entry, begins_with_embedded_field, embedded_field, grouped, param_name};
-use crate::operands::Context;
-use crate::stop::Stop;
-use crate::tokens::{
-    begins_with, begins_with_both, begins_with_semicolon, begins_with_type, line_end, names,
-    optional, semicolon, separator, skip, type_name,
-};
 use go_ast::{Kind, Token};
-use go_syntax::{ElementLine, FieldLine, Param, Params, ResultForm, Signature, TypeExpr};
+use go_fragments::groups::{
+    Entry, begins_with_embedded_field, embedded_field, grouped, param_name,
+};
+use go_fragments::operands::Context;
+use go_fragments::parts::{named_type, params_of, signature_of};
+use go_fragments::stop::Stop;
+use go_fragments::tokens::{
+    begins_with, begins_with_bare_type, begins_with_both, begins_with_semicolon, begins_with_type,
+    direction, line_end, names, optional, semicolon, separator, skip, type_name,
+};
+use go_syntax::{ElementLine, FieldLine, Params, ResultForm, Signature, TypeExpr};
 use std::alloc::Global;
 
 /// A type.
@@ -105,15 +107,6 @@ fn long_type(
     chan_type(alloc, depth, tokens)
 }
 
-/// A name of a type.
-#[tactic(auto, using(go_grammar::proofs::Views::view_type_expr_name))]
-fn named_type(alloc: Global, tokens: &[Token]) -> Result<(Box<TypeExpr>, &[Token]), Stop>
-    ensures { Gives (λ x. (view_type_expr x.0.value, x.1.now)) result (type_name_in tokens.now) }
-{
-    let (name, rest) = type_name(tokens)?;
-    Ok((Box::new(alloc, TypeExpr::Name(name))?, rest))
-}
-
 /// A pointer type. Go specification, "Pointer types".
 #[cycle(parser)]
 #[tactic(auto, using(go_grammar::proofs::Views::view_type_expr_pointer))]
@@ -144,19 +137,6 @@ fn function_type(
     let signature = Box::new(alloc, signature)?;
     let form = TypeExpr::Function { word, signature };
     Ok((Box::new(alloc, form)?, rest))
-}
-
-/// Whether a slice, array, map, struct or interface type begins here.
-pub(crate) fn begins_with_bare_type(tokens: &[Token]) -> bool
-    ensures { result ≡ is_next begins_bare tokens.now }
-{
-    match tokens {
-        [] => false,
-        [first, ..] => matches!(
-            first.kind,
-            Kind::OpenBracket | Kind::MapWord | Kind::StructWord | Kind::InterfaceWord
-        ),
-    }
 }
 
 /// A slice, array, map, struct or interface type.
@@ -242,7 +222,7 @@ fn map_type(
 
 /// A channel type. Go specification, "Channel types".
 #[cycle(parser)]
-#[tactic(auto, using(go_grammar::proofs::Views::view_type_expr_chan, go_grammar::proofs::Views::view_type_expr_receive_chan, crate::proofs::Lines::maybe_arrow))]
+#[tactic(auto, using(go_grammar::proofs::Views::view_type_expr_chan, go_grammar::proofs::Views::view_type_expr_receive_chan, go_fragments::proofs::Lines::maybe_arrow))]
 fn chan_type(
     alloc: Global,
     depth: usize,
@@ -252,7 +232,7 @@ fn chan_type(
 {
     if begins_with(tokens, Kind::ChanWord) {
         let (word, rest) = skip(tokens, Kind::ChanWord)?;
-        let (arrow, rest) = optional(rest, Kind::Arrow);
+        let (arrow, rest) = direction(rest);
         let (element, rest) = type_expr(alloc, depth, rest)?;
         let form = TypeExpr::Chan {
             word,
@@ -296,17 +276,6 @@ pub(crate) fn signature(
     Ok((signature_of(inputs, result), rest))
 }
 
-/// A signature of its parts.
-#[tactic(auto, using(go_grammar::proofs::Views::view_signature_made))]
-fn signature_of(params: Params, results: ResultForm) -> Signature
-    ensures { view_signature result ≡ tree forms.SignatureForm (append (view_params params) (view_result_form results)) }
-{
-    Signature {
-        params,
-        result: results,
-    }
-}
-
 /// A type, or nothing where none begins.
 #[cycle(parser)]
 pub(crate) fn optional_type(
@@ -338,18 +307,6 @@ pub(crate) fn params(
     let (close, rest) = skip(rest, Kind::CloseParen)?;
     let params = grouped(alloc, variadic, list)?;
     Ok((params_of(open, params, close), rest))
-}
-
-/// Parameters in their parentheses.
-#[tactic(auto, using(go_grammar::proofs::Views::view_params_made))]
-fn params_of(bracket: Token, params: Vec<Param>, close: Token) -> Params
-    ensures { view_params result ≡ tree forms.ParamsForm (append (leaf bracket empty) (append (each view_param params.items) (leaf close empty))) }
-{
-    Params {
-        open: bracket,
-        params,
-        close,
-    }
 }
 
 /// A struct type. Go specification, "Struct types".
@@ -400,7 +357,7 @@ fn field_lines(
 
 /// A field declaration, or nothing, and the semicolon behind it.
 #[cycle(parser)]
-#[tactic(auto, using(go_grammar::proofs::Views::view_field_line_empty, go_grammar::proofs::Views::view_field_line_named, crate::proofs::Lines::braces_end))]
+#[tactic(auto, using(go_grammar::proofs::Views::view_field_line_empty, go_grammar::proofs::Views::view_field_line_named, go_fragments::proofs::Lines::braces_end))]
 fn field_line(alloc: Global, depth: usize, tokens: &[Token]) -> Result<(FieldLine, &[Token]), Stop>
     ensures { Gives (λ x. (view_field_line x.0, x.1.now)) result (field_line_in (parsers depth) tokens.now) }
 {
@@ -472,7 +429,7 @@ fn element_lines(
 
 /// A method or an embedded interface, or nothing, and the semicolon behind it.
 #[cycle(parser)]
-#[tactic(auto, using(go_grammar::proofs::Views::view_element_line_empty, go_grammar::proofs::Views::view_element_line_method, go_grammar::proofs::Views::view_element_line_embedded, crate::proofs::Lines::braces_end))]
+#[tactic(auto, using(go_grammar::proofs::Views::view_element_line_empty, go_grammar::proofs::Views::view_element_line_method, go_grammar::proofs::Views::view_element_line_embedded, go_fragments::proofs::Lines::braces_end))]
 fn element_line(
     alloc: Global,
     depth: usize,

@@ -13,21 +13,24 @@ use Rattle.go_grammar.specs.View.{each, one, token_if, view_case_clause, view_co
 use Rattle.go_readers.proofs.Declarations.{decl_const, decl_type, decl_var, group_alone, group_parens}
 use Rattle.go_readers.proofs.Groupings.{element_alone, element_with_key}
 use Rattle.go_readers.proofs.Guards.{guarded, no_clauses, no_guard, no_suffix}
-use Rattle.go_readers.proofs.Loops.{each_push, list_done, list_on, list_over, many_done, many_fails, many_on, many_over, many_start, repeat_done, repeat_fails, repeat_on, repeat_over}
+use Rattle.go_fragments.proofs.Loops.{each_push, list_done, list_on, list_over, many_done, many_fails, many_on, many_over, many_start, repeat_done, repeat_fails, repeat_on, repeat_over}
 use Rattle.go_readers.proofs.OperandChoices.{operand_function, operand_int, operand_name, operand_other, operand_paren, operand_rune, operand_text, sign_fails, sign_given, star_fails, star_given}
 use Rattle.go_readers.proofs.ParamEntries.{entries_done, entries_fail, entries_on, entries_over, entries_push, entries_start}
 use Rattle.go_readers.proofs.SimpleStmts.{assigned, assigns_nothing, defined, defines_nothing, split_assign, split_define}
 use Rattle.go_readers.proofs.StatementChoices.{compound_block, compound_for, compound_if, compound_select, compound_simple, compound_switch, for_empty, for_ever, for_no_targets, for_no_word, for_range, for_targets, if_without, labels_alone, labels_before, labels_none, labels_wrong, line_empty, line_read, line_seen, memory_alone, rest_clauses, rest_no_condition, rest_no_stmt, rest_range, rest_while, seen_labeled, statement_unlabeled}
-use Rattle.go_readers.proofs.Statements.{branch_first, compound_last, decl_first, defer_first, exprs_list, first_push, first_start, go_first, return_first}
+use Rattle.go_fragments.proofs.Statements.{first_push, first_start}
+use Rattle.go_readers.proofs.Statements.{branch_first, compound_last, decl_first, defer_first, exprs_list, go_first, return_first}
 use Rattle.go_readers.proofs.Turns.{binary_done, binary_on, binary_start, binary_stops, primary_start, suffix_done, suffix_on, suffix_stops}
 use Rattle.go_readers.proofs.TypeChoices.{long_bare, long_chan, long_function, long_name, long_star, type_long, type_paren}
-use Rattle.go_readers.specs.Entries.{entries, view_entry}
-use Rattle.go_readers.specs.Expressions.{list_in, view_context}
-use Rattle.go_readers.specs.Giving.{Fails}
+use Rattle.go_fragments.specs.Entries.{entries, view_entry}
+use Rattle.go_fragments.specs.Expressions.{view_context}
+use Rattle.go_readers.specs.Expressions.{list_in}
+use Rattle.go_fragments.specs.Giving.{Fails}
 use Rattle.go_readers.specs.Lines.{element_line_in, element_lines_in, field_line_in, field_lines_in}
-use Rattle.go_readers.specs.Operands.{sign_at, star_at}
+use Rattle.go_fragments.specs.Operands.{sign_at, star_at}
 use Rattle.go_readers.specs.Specs.{spec_line_in, spec_lines_in, value_sort}
-use Rattle.go_readers.specs.Statements.{arm_in, arms_in, boxed_expr, boxed_stmt, clause_in, clause_list_in, comm_clause_in, comm_list_in, else_arm_in, line_in, statement_in, view_body, view_guard, view_header, view_simple, view_suffix}
+use Rattle.go_fragments.specs.Statements.{boxed_expr, boxed_stmt, view_body, view_guard, view_header, view_simple, view_suffix}
+use Rattle.go_readers.specs.Statements.{arm_in, arms_in, clause_in, clause_list_in, comm_clause_in, comm_list_in, else_arm_in, line_in, statement_in}
 use Rattle.go_syntax.specs.declared.exprs.Expr.{Expr}
 use Rattle.std.proofs.Common.{Option, ap, arith, length, refl, rules, sym, ◌-◌, ◌∙◌, ◌≡◌}
 use Rattle.std.specs.Option.{is_some}

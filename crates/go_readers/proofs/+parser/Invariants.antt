@@ -8,10 +8,11 @@ use Rattle.go_grammar.specs.StmtReading.{ends_statements, lines_in}
 use Rattle.go_grammar.specs.Tests.{begins_both, goes_on, not_closed, word_in}
 use Rattle.go_grammar.specs.TypeReading.{entries_in}
 use Rattle.go_grammar.specs.View.{each, view_case_clause, view_comm_clause, view_element, view_element_line, view_expr, view_field_line, view_if_arm, view_listed_expr, view_stmt_line, view_type_spec, view_value_spec}
-use Rattle.go_readers.proofs.Loops.{behind}
+use Rattle.go_fragments.proofs.Loops.{behind}
 use Rattle.go_readers.proofs.ParamEntries.{entries_behind}
-use Rattle.go_readers.specs.Entries.{entries}
-use Rattle.go_readers.specs.Expressions.{list_in, view_context}
+use Rattle.go_fragments.specs.Entries.{entries}
+use Rattle.go_fragments.specs.Expressions.{view_context}
+use Rattle.go_readers.specs.Expressions.{list_in}
 use Rattle.go_readers.specs.Lines.{element_line_in, element_lines_in, field_line_in, field_lines_in}
 use Rattle.go_readers.specs.Specs.{spec_line_in, spec_lines_in, value_sort}
 use Rattle.go_readers.specs.Statements.{arm_in, arms_in, clause_in, clause_list_in, comm_clause_in, comm_list_in, else_arm_in, line_in}

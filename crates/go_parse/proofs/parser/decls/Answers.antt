@@ -6,7 +6,7 @@ use Rattle.go_grammar.specs.Forests.{Forest, empty}
 use Rattle.go_grammar.specs.PartReading.{parts_in}
 use Rattle.go_grammar.specs.StmtReading.{is_more}
 use Rattle.go_grammar.specs.View.{each, view_line}
-use Rattle.go_readers.proofs.Loops.{each_push}
+use Rattle.go_fragments.proofs.Loops.{each_push}
 use Rattle.go_parse.specs.FileParts.{at_index, decl_line_in, decls_in}
 use Rattle.go_parse.proofs.FileParts.{parts_on, parts_done, parts_over, parts_fail, refused, not_read, trees_done, trees_fail, more_is}
 use Rattle.go_parse.proofs.parser.decls.Goals as goal

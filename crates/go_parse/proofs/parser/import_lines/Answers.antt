@@ -3,8 +3,8 @@ use Rattle.std.specs.Prelude.{not}
 use Rattle.go_ast.specs.declared.token.Kind.TheVariants.{CloseParen}
 use Rattle.go_grammar.specs.Tests.{not_closed}
 use Rattle.go_grammar.specs.View.{each, view_import_spec}
-use Rattle.go_readers.proofs.Loops.{many_start, many_on, many_done, many_over, many_fails, each_push}
-use Rattle.go_readers.specs.Giving.{Fails}
+use Rattle.go_fragments.proofs.Loops.{many_start, many_on, many_done, many_over, many_fails, each_push}
+use Rattle.go_fragments.specs.Giving.{Fails}
 use Rattle.go_parse.specs.FileParts.{import_line_in, import_lines_in}
 use Rattle.go_parse.proofs.parser.import_lines.Goals as goal
 

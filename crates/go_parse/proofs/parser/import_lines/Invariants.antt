@@ -3,7 +3,7 @@ use Rattle.go_ast.specs.declared.token.Kind.TheVariants.{CloseParen}
 use Rattle.go_grammar.specs.Reading.{many_in}
 use Rattle.go_grammar.specs.Tests.{not_closed}
 use Rattle.go_grammar.specs.View.{each, view_import_spec}
-use Rattle.go_readers.proofs.Loops.{behind}
+use Rattle.go_fragments.proofs.Loops.{behind}
 use Rattle.go_parse.specs.FileParts.{import_line_in, import_lines_in}
 use Rattle.go_parse.proofs.parser.import_lines.Given as goal
 

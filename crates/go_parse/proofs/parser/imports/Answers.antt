@@ -3,7 +3,7 @@ use Rattle.std.specs.Prelude.{Err}
 use Rattle.go_ast.specs.declared.token.Kind.TheVariants.{ImportWord}
 use Rattle.go_grammar.specs.Tests.{begins}
 use Rattle.go_grammar.specs.View.{each, view_import}
-use Rattle.go_readers.proofs.Loops.{each_push}
+use Rattle.go_fragments.proofs.Loops.{each_push}
 use Rattle.go_parse.specs.FileParts.{at_index, import_in, imports_in}
 use Rattle.go_parse.proofs.FileParts.{parts_on, parts_done, parts_over, parts_fail, refused, not_read}
 use Rattle.go_parse.proofs.parser.imports.Goals as goal

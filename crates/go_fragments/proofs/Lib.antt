@@ -1,0 +1,11 @@
+pub mod Words
+pub mod Lines
+pub mod Loops
+pub mod Grouping
+pub mod Variants
+pub mod Singles
+pub mod ExprNodes
+pub mod Guards
+pub mod SimpleStmts
+pub mod Statements
+pub mod Receivers

@@ -1,6 +1,0 @@
-use Rattle.std.proofs.Common.{sym}
-use Rattle.go_readers.proofs.Variants.{not_name}
-use Rattle.go_readers.proofs.operands.is_name.Goals as goal
-
-pub returns-in_default : goal.returns-in_default
-returns-in_default c = sym (not_name c.args.expr.now c.in_default.not-Name)

@@ -1,6 +1,0 @@
-use Rattle.std.proofs.Common.{sym}
-use Rattle.go_readers.proofs.Variants.{primary}
-use Rattle.go_readers.proofs.operands.is_primary.Goals as goal
-
-pub returns-in_default : goal.returns-in_default
-returns-in_default c = sym (primary c.args.expr.now c.in_default.not-Unary c.in_default.not-Binary)

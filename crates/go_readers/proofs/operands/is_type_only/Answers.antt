@@ -1,6 +1,0 @@
-use Rattle.std.proofs.Common.{sym}
-use Rattle.go_readers.proofs.Variants.{not_type_form}
-use Rattle.go_readers.proofs.operands.is_type_only.Goals as goal
-
-pub returns-in_default : goal.returns-in_default
-returns-in_default c = sym (not_type_form c.args.expr.now c.in_default.not-TypeForm)

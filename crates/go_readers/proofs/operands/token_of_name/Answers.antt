@@ -1,5 +1,0 @@
-use Rattle.go_readers.proofs.Variants.{no_name_token}
-use Rattle.go_readers.proofs.operands.token_of_name.Goals as goal
-
-pub returns-in_default : goal.returns-in_default
-returns-in_default c = no_name_token c.args.expr.now c.in_default.not-Name
