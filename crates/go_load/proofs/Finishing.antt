@@ -1,32 +1,27 @@
 -- The package `runtime`, and what is loaded in all.
-use Rattle.std.proofs.Common.{◌≡◌, ℕ, zero, suc, ◌+◌, ◌<◌, ◌≤◌, Bool, true, false, not, List, [], ◌∷◌, ◌++◌, length, map, if◌then◌else◌, Option, Some, None, option_map, IfSome, Result, Ok, Err, Vec, string_bytes, codes, bytes_eq, slice_get, inl, inr, ◌⊎◌, refl, sym, ap, ◌∙◌, subst, arith}
-use Rattle.std.proofs.lemmas.List.{append-nil, length-map, length_push}
+use Rattle.std.proofs.Common.{◌≡◌, ℕ, zero, suc, ◌≤◌, Bool, true, false, not, List, [], ◌∷◌, ◌++◌, length, map, if◌then◌else◌, Option, Some, None, option_map, IfSome, Result, Ok, Err, string_bytes, bytes_eq, slice_get, inl, inr, refl, sym, ap, ◌∙◌, subst, arith}
+use Rattle.std.proofs.lemmas.List.{length-map}
 use Rattle.std.specs.List.{AllZip, flat_map, fold, list_any}
-use Rattle.std.specs.declared.alloc.Global.{Global}
 use Rattle.go_base.specs.Devices.{Tree}
 use Rattle.go_base.specs.NameTable.{with_text}
 use Rattle.go_base.specs.declared.place.Place.{Place}
 use Rattle.go_base.specs.declared.rule.Rule.{Rule}
-use Rattle.go_base.specs.declared.rule.Rule.TheVariants as rules
 use Rattle.go_load.specs.declared.error.LoadError.{LoadError}
 use Rattle.go_load.specs.declared.error.LoadError.TheVariants.{Refused, ReadFault, OutOfMemory}
 use Rattle.go_load.specs.declared.found.Entry.{Entry}
 use Rattle.go_load.specs.declared.found.Found.{Found}
-use Rattle.go_load.specs.declared.links.Link as code
 use Rattle.go_load.specs.declared.loader.Loader.{Loader}
-use Rattle.go_load.specs.declared.sources.Import as numbers
-use Rattle.go_load.specs.declared.sources.SourceFile.{SourceFile}
 use Rattle.go_load.specs.declared.sources.Sources.{Sources}
 use Rattle.go_load.specs.Answers.{IsSourcesOf}
 use Rattle.go_load.specs.Entries.{RuntimeFound}
 use Rattle.go_load.specs.Finding.{AreRight, listed}
-use Rattle.go_load.specs.Imports.{Import, built_in_named}
+use Rattle.go_load.specs.Imports.{built_in_named}
 use Rattle.go_load.specs.Loading.{all_imports, broken, view_source, AreKnown, ChecksImports, Holds, ImportsChecked, IsAt, IsBrokenBehind, IsDone, IsLink, LoadsPackage, LoadsQueue, PackageLoaded, QueueLoaded, minor_of}
 use Rattle.go_load.specs.Modules.{Broken, view_module}
-use Rattle.go_load.specs.Programs.{Package, Link, AreImportsSound, BreaksPackage, IsComplete, IsPackage, IsResult, BadPackage, BadRuntime, IsWithRuntime, Kept, Added, OfProgram, OnCycle, Program, LoadsNext, has_runtime, import_files, imports_in, imports_of_package, known, links_from, runtime_path, with_import, File}
+use Rattle.go_load.specs.Programs.{Package, Link, BreaksPackage, IsComplete, IsPackage, IsResult, BadPackage, BadRuntime, Kept, Added, OfProgram, OnCycle, Program, has_runtime, import_files, imports_in, imports_of_package, known, runtime_path, with_import}
 use Rattle.go_load.specs.Projects.{Project, Origin, BuiltInFile, Paths, IsOriginAt, is_built_in, target_path}
 use Rattle.go_load.specs.Sources.{files_of, packages_of}
-use Rattle.go_load.specs.Starting.{Finishes, HoldsAll, IsAnswerIn, LoadsRuntime, RuntimeLoaded}
+use Rattle.go_load.specs.Starting.{Finishes, HoldsAll, LoadsRuntime, RuntimeLoaded}
 use Rattle.go_load.proofs.Fronts.{imports_more, known_more, longer}
 use Rattle.go_load.proofs.Growth.{Grows, all_known, grows_by_text, known_both, same_imports, same_links}
 
@@ -66,10 +61,10 @@ runtime_kept (Some files) old found added e h = λ project packages files_are at
     let f : FoundRuntime project old found added = h project at.holds.right in
     let there : list_any (bytes_eq runtime_path) old.found.paths ≡ true = is_there (list_any (bytes_eq runtime_path) old.found.paths) (sym e ∙ f.0) in
     record {
-        all = packages;
-        with_runtime = Kept (ap (list_any (bytes_eq runtime_path)) (sym at.paths) ∙ there);
-        holds = holds_found project packages old found added at.holds f;
-        imports = at.holds.imports ∙ ap (λ paths. all_imports paths packages) at.paths;
+      all = packages;
+      with_runtime = Kept (ap (list_any (bytes_eq runtime_path)) (sym at.paths) ∙ there);
+      holds = holds_found project packages old found added at.holds f;
+      imports = at.holds.imports ∙ ap (λ paths. all_imports paths packages) at.paths;
     }
 
 -- ---- runtime imports nothing
@@ -162,16 +157,15 @@ runtime_added (Some files) now number old new found added result same e h n load
     answer : (project : Project) (packages : List Package) → project.files ≡ files → IsAt project old packages → length old.found.entries.items ≡ length packages → FoundRuntime project old found true → (result : Result (Unit {0}) LoadError)
         → PackageLoaded project packages (record old { found = found }) new result → RuntimeLoaded project packages new result
     answer project packages files_are at count f (Ok x) h = record {
-        all = packages ++ h.0 ∷ [];
-        with_runtime = Added h.0 (absent_known project packages old found at f) (last_path project packages old found h.0.path at count f h.1) h.2;
-        holds = h.3;
-        imports = imports_with project packages old new found h.0 at count f (last_path project packages old found h.0.path at count f h.1) h.2 h.3 h.4;
+      all = packages ++ h.0 ∷ [];
+      with_runtime = Added h.0 (absent_known project packages old found at f) (last_path project packages old found h.0.path at count f h.1) h.2;
+      holds = h.3;
+      imports = imports_with project packages old new found h.0 at count f (last_path project packages old found h.0.path at count f h.1) h.2 h.3 h.4;
     }
     answer project packages files_are at count f (Err (Refused place rule)) h =
         (absent_known project packages old found at f, subst (λ path. BreaksPackage project packages path (broken place rule)) (last_path project packages old found h.0 at count f h.1) h.2)
     answer project packages files_are at count f (Err ReadFault) h = tt
     answer project packages files_are at count f (Err OutOfMemory) h = tt
-
 
 -- ---- all together
 

@@ -1,11 +1,11 @@
 -- Packages that are loaded first.
-use Rattle.std.proofs.Common.{◌≡◌, ℕ, ◌+◌, ◌<◌, ◌≤◌, Bool, true, false, List, [], ◌∷◌, ◌++◌, length, if◌then◌else◌, bytes_eq, Some, slice_get, refl, sym, ap, ◌∙◌, subst, arith}
+use Rattle.std.proofs.Common.{◌≡◌, ℕ, ◌+◌, ◌<◌, ◌≤◌, Bool, true, false, List, [], ◌∷◌, ◌++◌, length, if◌then◌else◌, bytes_eq, Some, slice_get, refl, sym, ap, ◌∙◌, arith}
 use Rattle.std.proofs.lemmas.List.{append-nil, length_push}
 use Rattle.std.proofs.lemmas.Option.{slice_get_within}
 use Rattle.std.specs.List.{flat_map, fold, list_any}
 use Rattle.go_base.specs.NameTable.{with_text}
 use Rattle.go_load.specs.Imports.{Import, import_path}
-use Rattle.go_load.specs.Programs.{Package, known, imports_of_package, with_import, IsFront, Nothing, More, IsNext}
+use Rattle.go_load.specs.Programs.{Package, known, imports_of_package, with_import, IsFront, Nothing, More}
 use Rattle.go_load.specs.Projects.{Project, target_path}
 
 pub fold_append : {A B : Type 0} (f : B → A → B) (a : B) (xs ys : List A) → fold f a (xs ++ ys) ≡ fold f (fold f a xs) ys

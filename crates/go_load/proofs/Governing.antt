@@ -1,5 +1,5 @@
 -- Which go.mod counts for a directory, where files are told.
-use Rattle.std.proofs.Common.{◌≡◌, ◌≢◌, inl, inr, get_or, take, ℕ, ◌<◌, Bool, true, false, nat_lt, if◌then◌else◌, Option, Some, None, option_map, unwrap_or, IfSome, Result, Ok, Err, List, length, bytes_eq, codes, refl, ap, sym, subst, ◌∙◌, arith}
+use Rattle.std.proofs.Common.{◌≡◌, ◌≢◌, inl, inr, get_or, take, ℕ, ◌<◌, Bool, true, false, nat_lt, if◌then◌else◌, Option, Some, None, option_map, IfSome, Result, Ok, Err, List, length, bytes_eq, codes, refl, ap, sym, subst, ◌∙◌, arith}
 use Rattle.std.proofs.lemmas.Bool.Decides.{nat_tests}
 use Rattle.go_base.specs.Devices.{Tree, file_at}
 use Rattle.go_base.specs.declared.rule.Rule.TheVariants as rules
@@ -8,8 +8,7 @@ use Rattle.go_load.specs.declared.error.LoadError.TheVariants.{Refused, ReadFaul
 use Rattle.go_load.specs.declared.find_module.Module as code
 use Rattle.go_base.specs.declared.target.Target.{Target}
 use Rattle.go_load.specs.declared.sources.Sources.{Sources}
-use Rattle.go_load.specs.GoMod.{go_mod}
-use Rattle.go_load.specs.Modules.{Broken, Module, go_mod_in, module_said, module_of, own_module, Governs, Own, Nowhere, Above, AnswersModule, ReadsWhole, HasModule, IsTargetDir, MindsModule, MindsTarget, view_module}
+use Rattle.go_load.specs.Modules.{Broken, Module, go_mod_in, module_of, own_module, Governs, Own, Nowhere, Above, AnswersModule, ReadsWhole, HasModule, IsTargetDir, MindsModule, MindsTarget, view_module}
 use Rattle.go_load.specs.Paths.{LiesIn}
 use Rattle.go_load.specs.Places.{first_place}
 

@@ -1,13 +1,13 @@
 -- Paths that are known stay known, and keep their numbers.
-use Rattle.std.proofs.Common.{◌≡◌, ℕ, ◌+◌, ◌≤◌, Bool, true, false, not, cond, ◌||◌, List, [], ◌∷◌, ◌++◌, length, map, if◌then◌else◌, bytes_eq, refl, sym, ap, ◌∙◌, subst, arith}
-use Rattle.std.specs.List.{AllByRecursion, flat_map, fold, list_any, position_or_len}
+use Rattle.std.proofs.Common.{◌≡◌, ℕ, ◌+◌, Bool, true, false, not, cond, ◌||◌, List, [], ◌∷◌, ◌++◌, map, if◌then◌else◌, bytes_eq, refl, ap, ◌∙◌}
+use Rattle.std.specs.List.{flat_map, fold, list_any}
 use Rattle.std.specs.Cmp.Lexicographic.{nat_list_eq_equiv}
 use Rattle.go_base.specs.NameTable.{place_of, with_text}
 use Rattle.go_load.specs.declared.sources.Import as numbers
 use Rattle.go_load.specs.Finding.{numbered, numbered_files}
 use Rattle.go_load.specs.Imports.{Import, import_path}
 use Rattle.go_load.specs.Loading.{AreKnown, imports_of_each, all_imports}
-use Rattle.go_load.specs.Programs.{File, Package, Link, import_files, imports_in, imports_of_files, imports_of_package, link_of, links_of_file, links_from, with_import}
+use Rattle.go_load.specs.Programs.{File, Package, import_files, imports_in, imports_of_files, imports_of_package, link_of, links_of_file, links_from, with_import}
 
 any_push : (p q : List ℕ) (paths : List (List ℕ)) → list_any (bytes_eq p) paths ≡ true → list_any (bytes_eq p) (paths ++ q ∷ []) ≡ true
 any_push p q [] h = cc
@@ -88,7 +88,7 @@ same_numbers paths more g [] h = refl
 same_numbers paths more g (import ∷ imports) h =
     let one : numbers.Import = record { literal = import.literal; «package» = place_of (import_path import) paths } in
     let head : record { literal = import.literal; «package» = place_of (import_path import) more } ≡ one =
-        ap (λ n. record { literal = import.literal; «package» = n }) (g.places (import_path import) h.0) in
+    ap (λ n. record { literal = import.literal; «package» = n }) (g.places (import_path import) h.0) in
     λ i. head i ∷ same_numbers paths more g imports h.1 i
 
 same_files : (paths more : List (List ℕ)) → Grows paths more → (files : List File) → AreKnown paths (imports_of_files files) → numbered_files more files ≡ numbered_files paths files
@@ -115,7 +115,7 @@ same_file_links : (paths more : List (List ℕ)) → Grows paths more → (from 
 same_file_links paths more g from file [] h = refl
 same_file_links paths more g from file (import ∷ imports) h =
     let head : link_of more from file import ≡ link_of paths from file import =
-        ap (λ n. record { from = from; to = n; place = (link_of paths from file import).place }) (g.places (import_path import) h.0) in
+    ap (λ n. record { from = from; to = n; place = (link_of paths from file import).place }) (g.places (import_path import) h.0) in
     λ i. head i ∷ same_file_links paths more g from file imports h.1 i
 
 same_files_links : (paths more : List (List ℕ)) → Grows paths more → (from : ℕ) (files : List File) → AreKnown paths (imports_of_files files) → flat_map (links_of_file more from) files ≡ flat_map (links_of_file paths from) files
@@ -129,7 +129,7 @@ pub same_links : (paths more : List (List ℕ)) → Grows paths more → (number
 same_links paths more g number [] h = refl
 same_links paths more g number (one ∷ packages) h =
     let head : flat_map (links_of_file more number) (import_files one.built_in one.files) ≡ flat_map (links_of_file paths number) (import_files one.built_in one.files) =
-        same_files_links paths more g number (import_files one.built_in one.files) (known_front paths (imports_of_package one) (flat_map imports_of_package packages) h) in
+    same_files_links paths more g number (import_files one.built_in one.files) (known_front paths (imports_of_package one) (flat_map imports_of_package packages) h) in
     let rest : links_from more (number + 1) packages ≡ links_from paths (number + 1) packages = same_links paths more g (number + 1) packages (known_back paths (imports_of_package one) (flat_map imports_of_package packages) h) in
     λ i. head i ++ rest i
 

@@ -1,5 +1,5 @@
 -- What a loader holds once a package is added.
-use Rattle.std.proofs.Common.{◌≡◌, ℕ, zero, suc, ◌+◌, ◌-◌, ◌<◌, ◌≤◌, min, Bool, true, false, List, [], ◌∷◌, ◌++◌, length, map, if◌then◌else◌, Option, Some, None, option_map, IfSome, Vec, string_bytes, slice_get, refl, sym, ap, ◌∙◌, subst, arith}
+use Rattle.std.proofs.Common.{◌≡◌, ℕ, zero, suc, ◌+◌, ◌-◌, Bool, true, false, List, [], ◌∷◌, ◌++◌, length, map, if◌then◌else◌, Some, Vec, string_bytes, slice_get, refl, sym, ap, ◌∙◌, subst, arith}
 use Rattle.std.proofs.lemmas.List.{append-nil, length-append, length-map, map-append}
 use Rattle.std.proofs.lemmas.List.Elements.{recursion_from_All}
 use Rattle.std.specs.List.{AllByRecursion, AllZip, flat_map, fold, sum_by}
@@ -13,9 +13,9 @@ use Rattle.go_load.specs.declared.sources.SourceFile.{SourceFile}
 use Rattle.go_load.specs.declared.sources.SourcePackage.{SourcePackage}
 use Rattle.go_load.specs.FileReading.{AreOf}
 use Rattle.go_load.specs.Finding.{view_file, view_origin, AreRight, listed, numbered, numbered_files}
-use Rattle.go_load.specs.Imports.{Import, import_path}
+use Rattle.go_load.specs.Imports.{Import}
 use Rattle.go_load.specs.Loading.{view_source, files_from, header, headers_from, all_imports, imports_of_each, imports_of_all, IsLink, AreKnown, Holds, kept_in_file, kept_links, told_package, AddsPackage}
-use Rattle.go_load.specs.Programs.{File, Package, Link, import_files, imports_in, imports_of_files, imports_of_package, with_import, link_of, links_of_file, links_from, room_for, size, are_program}
+use Rattle.go_load.specs.Programs.{File, Package, Link, import_files, imports_in, imports_of_package, with_import, link_of, links_of_file, links_from, size, are_program}
 use Rattle.go_load.specs.Projects.{Project, is_built_in}
 use Rattle.go_load.proofs.Fronts.{fold_append, imports_more, flat_more}
 use Rattle.go_load.proofs.Growth.{Grows, grows_by_imports, all_known, known_both, known_now, same_imports, same_links}
@@ -99,10 +99,10 @@ new_links paths number front [] files first e f = tt
 new_links paths number front (source ∷ sources) files first e f =
     let there : slice_get files first ≡ Some source = (λ i. slice_get (e i) (f i)) ∙ get_seam front source sources in
     let head : AllZip (IsLink files) (kept_in_file number first (numbered paths (imports_in (view_file source)))) (links_of_file paths number (view_file source)) =
-        file_links files paths number first source there (imports_in (view_file source)) in
+    file_links files paths number first source there (imports_in (view_file source)) in
     let longer : first + 1 ≡ length (front ++ source ∷ []) = let l : length (front ++ source ∷ []) ≡ length front + 1 = length-append front (source ∷ []) in omega arith in
     let rest : AllZip (IsLink files) (kept_links number (first + 1) (numbered_files paths (map view_file sources))) (flat_map (links_of_file paths number) (map view_file sources)) =
-        new_links paths number (front ++ source ∷ []) sources files (first + 1) (e ∙ sym (assoc front (source ∷ []) sources)) longer in
+    new_links paths number (front ++ source ∷ []) sources files (first + 1) (e ∙ sym (assoc front (source ∷ []) sources)) longer in
     zip_both (IsLink files) (kept_in_file number first (numbered paths (imports_in (view_file source)))) (kept_links number (first + 1) (numbered_files paths (map view_file sources)))
     (links_of_file paths number (view_file source)) (flat_map (links_of_file paths number) (map view_file sources)) head rest
 

@@ -1,5 +1,5 @@
 -- What the check of all imports answers.
-use Rattle.std.proofs.Common.{◌≡◌, ℕ, zero, suc, ◌<◌, min, Bool, true, false, cond, List, [], ◌∷◌, length, map, Option, Some, None, IfSome, unwrap_or, Result, Ok, Err, slice_get, get_or, inl, inr, refl, sym, ap, ◌∙◌, subst}
+use Rattle.std.proofs.Common.{◌≡◌, ℕ, zero, suc, ◌<◌, min, Bool, true, false, cond, List, [], ◌∷◌, length, map, Option, Some, None, IfSome, Ok, Err, slice_get, get_or, inl, inr, refl, sym, ap, ◌∙◌, subst}
 use Rattle.std.proofs.lemmas.List.{length-map}
 use Rattle.std.proofs.lemmas.Option.{slice_get-get_or, slice_get_within}
 use Rattle.std.specs.List.{AllZip, find}
@@ -14,9 +14,9 @@ use Rattle.go_load.specs.declared.error.LoadError.TheVariants.{Refused, ReadFaul
 use Rattle.go_load.specs.declared.links.Link as code
 use Rattle.go_load.specs.declared.loader.Loader.{Loader}
 use Rattle.go_load.specs.declared.sources.SourceFile.{SourceFile}
-use Rattle.go_load.specs.Loading.{ChecksImports, Holds, IsLink, ImportsChecked, IsFirstOfProgram, IsFirstOnImportCycle, is_program_number, is_of_program}
+use Rattle.go_load.specs.Loading.{ChecksImports, Holds, IsLink, is_program_number, is_of_program}
 use Rattle.go_load.specs.Places.{place_in, Refuses}
-use Rattle.go_load.specs.Programs.{Package, Link, are_program, edge_of, first_of_program, is_program_at, known, links, links_from, AreImportsSound, IsOnCycleFirst}
+use Rattle.go_load.specs.Programs.{Package, Link, are_program, edge_of, first_of_program, is_program_at, known, links, links_from}
 use Rattle.go_load.specs.Projects.{Project}
 
 -- the refusal at an import that the loader keeps
@@ -70,7 +70,7 @@ one_found files packages first (one ∷ kept) (link ∷ all) h e =
 refused_at : (loader : Loader) (kept : code.Link) (link : Link) (rule : Rule) (place : Place) (by : Rule) → IsLink loader.files.items kept link → RefusesAt loader kept rule (Refused place by) → (place ≡ link.place) × (by ≡ rule)
 refused_at loader kept link rule place by h r =
     let here : Refuses (place_in h.file.path h.file.bytes (min kept.at.offset (length h.file.bytes))) rule (Refused place by) =
-        subst (λ (o : Option SourceFile). IfSome o (λ file. Refuses (place_in file.path file.bytes (min kept.at.offset (length file.bytes))) rule (Refused place by))) h.file_is r in
+    subst (λ (o : Option SourceFile). IfSome o (λ file. Refuses (place_in file.path file.bytes (min kept.at.offset (length file.bytes))) rule (Refused place by))) h.file_is r in
     (here.0 ∙ sym h.place, here.1)
 
 links_now : (project : Project) (packages : List Package) (loader : Loader) → Holds project loader packages → loader.found.paths ≡ known project packages → AllZip (IsLink loader.files.items) loader.links.items (links project packages)
@@ -113,7 +113,7 @@ in_links seen edges index e h =
 pub program_refused : (loader : Loader) (seen : List code.Link) (programs : List Bool) (first : code.Link) (error : LoadError) → seen ≡ loader.links.items → programs ≡ loader.programs.items → Some first ≡ find (is_of_program programs) seen → RefusesAt loader first rules.ImportOfAProgram error → ChecksImports loader (Err error)
 program_refused loader seen programs first (Refused place rule) s b e r = λ project packages h p.
     let found : find (is_of_program (map (λ one. are_program one.files) packages)) loader.links.items ≡ Some first =
-        (λ i. find (is_of_program (sym h.programs i)) loader.links.items) ∙ (λ i. find (is_of_program (sym b i)) (sym s i)) ∙ sym e in
+    (λ i. find (is_of_program (sym h.programs i)) loader.links.items) ∙ (λ i. find (is_of_program (sym b i)) (sym s i)) ∙ sym e in
     let pair : Pair loader.files.items (tests packages) (links project packages) first = one_found loader.files.items packages first loader.links.items (links project packages) (links_now project packages loader h p) found in
     let at : (place ≡ pair.link.place) × (rule ≡ rules.ImportOfAProgram) = refused_at loader first pair.link rules.ImportOfAProgram place rule pair.same r in
     inl (record { link = pair.link; first = pair.found; place_is = at.0 }, at.1)
@@ -133,14 +133,17 @@ cycle_refused loader seen programs edges index kept (Refused place rule) s b e d
     let there : slice_get loader.links.items index ≡ Some kept = ap (λ all. slice_get all index) (sym s) ∙ k in
     let at : At loader.files.items (links project packages) index kept = at_index loader.files.items loader.links.items (links project packages) index kept (links_now project packages loader h p) there in
     let place_at : (place ≡ at.link.place) × (rule ≡ rules.ImportCycle) = refused_at loader kept at.link rules.ImportCycle place rule at.same r in
-    inr (record {
+    inr (
+      record {
         index = index;
         link = at.link;
         no_program = no_program project packages loader h p (none_here loader seen programs s b e);
         first = subst (λ (all : List Edge). IsFirstOnCycle all (Some index)) (edges_here project packages loader seen edges s d h p) cycle;
         link_is = at.is;
         place_is = place_at.0;
-    }, place_at.1)
+      },
+      place_at.1,
+    )
 cycle_refused loader seen programs edges index kept ReadFault s b e d cycle k r = λ project packages h p. tt
 cycle_refused loader seen programs edges index kept OutOfMemory s b e d cycle k r = λ project packages h p. tt
 

@@ -1,5 +1,5 @@
 -- What a go.mod breaks asks nothing of Go files.
-use Rattle.std.proofs.Common.{◌≡◌, ℕ, ◌+◌, Bool, true, false, Option, Some, None, is_some, IfSome, Result, Ok, Err, IfErr, List, [], ◌∷◌, length, if◌then◌else◌, nat_lt, unwrap_or, refl, subst}
+use Rattle.std.proofs.Common.{◌≡◌, ℕ, ◌+◌, Bool, true, false, Option, Some, None, is_some, IfSome, Result, Err, IfErr, List, [], ◌∷◌, length, if◌then◌else◌, nat_lt, unwrap_or, refl, subst}
 use Rattle.go_base.specs.declared.rule.Rule.{Rule}
 use Rattle.go_base.specs.declared.rule.Rule.TheVariants as rules
 use Rattle.go_base.specs.Devices.{Tree}

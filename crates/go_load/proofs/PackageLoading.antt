@@ -1,7 +1,6 @@
 -- What the loading of one package answers.
-use Rattle.std.proofs.Common.{◌≡◌, ℕ, zero, suc, ◌<◌, ◌≤◌, Bool, true, false, List, [], ◌∷◌, ◌++◌, length, map, if◌then◌else◌, Option, Some, None, option_map, IfSome, Result, Ok, Err, Vec, string_bytes, slice_get, refl, sym, ap, ◌∙◌, subst, arith}
+use Rattle.std.proofs.Common.{◌≡◌, ℕ, zero, suc, ◌<◌, Bool, List, [], ◌∷◌, length, map, if◌then◌else◌, Option, Some, None, option_map, IfSome, Result, Ok, Err, Vec, string_bytes, slice_get, refl, sym, ap, ◌∙◌, subst, arith}
 use Rattle.std.proofs.lemmas.Option.{slice_get-map}
-use Rattle.std.specs.List.{fold}
 use Rattle.std.specs.declared.alloc.Global.{Global}
 use Rattle.go_base.specs.Devices.{Tree}
 use Rattle.go_base.specs.declared.place.Place.{Place}
@@ -18,8 +17,8 @@ use Rattle.go_load.specs.FileReading.{AreOf, Says, view_files}
 use Rattle.go_load.specs.Finding.{view_file, view_origin, AreRight, IsRightAt}
 use Rattle.go_load.specs.Loading.{broken, Checks, ChecksFiles, FindsImportsOf, Holds, IfEntry, LoadsFiles, LoadsPackage, PackageImportsFound, PackageLoaded, AddsPackage, told_package}
 use Rattle.go_load.specs.Modules.{Broken}
-use Rattle.go_load.specs.Programs.{File, Package, Loads, Unread, Faulty, Sound, LoadsNext, IsPackage, BreaksPackage, ReadsAll, name_fault, package_fault, or_else, unfound, import_files, room_for}
-use Rattle.go_load.specs.Projects.{Project, Origin, texts_of, is_built_in, IsOriginAt}
+use Rattle.go_load.specs.Programs.{File, Package, Loads, Unread, Faulty, Sound, LoadsNext, ReadsAll, name_fault, package_fault, or_else, unfound, import_files}
+use Rattle.go_load.specs.Projects.{Project, Origin, texts_of, is_built_in}
 use Rattle.go_load.specs.Reading.{max_file_bytes}
 use Rattle.go_load.proofs.Holding.{holds_more, package_at}
 
@@ -151,14 +150,17 @@ loaded_here (Some files) now number old new found sources imports told same with
     let told_finds : FindsImportsOf files number old.found found sources.items (Ok imports) = subst (λ (t : Option Tree). IfSome t (λ files. FindsImportsOf files number old.found found sources.items (Ok imports))) same finds in
     let answer : PackageImportsFound project old.found found (built_in_at entry) (map view_file sources.items) (Ok imports) = imports_in_entry project files number packages old found entry sources.items (Ok imports) files_are holds at e told_finds in
     let sound : LoadsAt project old entry (Ok (map view_file sources.items)) = Sound (map view_file sources.items) reads (no_fault project entry (map view_file sources.items) None names answer.0) in
-    let header_is : told ≡ told_package number (length old.files.items) entry (map view_file sources.items) = at_entry old.found number entry (λ entry. told ≡ told_package number (length old.files.items) entry (map view_file sources.items)) (ap (slice_get old.found.entries.items) at ∙ e) header in
-    (package_at entry sources.items, path_at project old (length packages) entry holds.right e, next_is project packages old entry (Ok (map view_file sources.items)) holds e sound,
-    holds_more project packages old new found entry told sources.items imports.items holds
-    (subst (λ n. AreOf n sources.items) at of)
-    (header_is ∙ ap (λ n. told_package n (length old.files.items) entry (map view_file sources.items)) at)
-    answer.1 answer.2 answer.3
-    (subst (λ n. AddsPackage n told (record old { found = found }) new sources.items imports.items) at adds),
-    ap (λ (f : Found). f.paths) (new_found adds) ∙ answer.2))
+    let header_is : told ≡ told_package number (length old.files.items) entry (map view_file sources.items) = at_entry old.found number entry (λ entry. told ≡ told_package number (length old.files.items) entry (map view_file sources.items)) (ap (slice_get old.found.entries.items) at ∙ e) header in (
+      package_at entry sources.items,
+      path_at project old (length packages) entry holds.right e,
+      next_is project packages old entry (Ok (map view_file sources.items)) holds e sound,
+      holds_more project packages old new found entry told sources.items imports.items holds
+          (subst (λ n. AreOf n sources.items) at of)
+          (header_is ∙ ap (λ n. told_package n (length old.files.items) entry (map view_file sources.items)) at)
+          answer.1 answer.2 answer.3
+          (subst (λ n. AddsPackage n told (record old { found = found }) new sources.items imports.items) at adds),
+      ap (λ (f : Found). f.paths) (new_found adds) ∙ answer.2,
+    ))
   where
     new_found : AddsPackage number told (record old { found = found }) new sources.items imports.items → new.found ≡ found
     new_found adds = adds.found

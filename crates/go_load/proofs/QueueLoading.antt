@@ -1,5 +1,5 @@
 -- What the loading of all packages answers.
-use Rattle.std.proofs.Common.{◌≡◌, ℕ, ◌+◌, ◌<◌, ◌≤◌, List, [], ◌∷◌, ◌++◌, length, map, Option, Some, None, IfSome, Result, Ok, Err, string_bytes, slice_get, refl, sym, ap, ◌∙◌, subst, arith}
+use Rattle.std.proofs.Common.{◌≡◌, ℕ, ◌+◌, ◌≤◌, List, [], ◌∷◌, ◌++◌, length, Option, Some, None, IfSome, Result, Ok, Err, string_bytes, slice_get, refl, sym, ap, ◌∙◌, subst, arith}
 use Rattle.std.proofs.lemmas.List.{length-map}
 use Rattle.std.specs.List.{fold}
 use Rattle.go_base.specs.Devices.{Tree}
@@ -7,8 +7,8 @@ use Rattle.go_load.specs.declared.error.LoadError.{LoadError}
 use Rattle.go_load.specs.declared.error.LoadError.TheVariants.{Refused, ReadFault, OutOfMemory}
 use Rattle.go_load.specs.declared.found.Entry.{Entry}
 use Rattle.go_load.specs.declared.loader.Loader.{Loader}
-use Rattle.go_load.specs.Loading.{headers_from, Holds, IsAt, IsBrokenBehind, IsDone, LoadsPackage, LoadsQueue, PackageLoaded, broken}
-use Rattle.go_load.specs.Programs.{Package, BreaksPackage, IsNext, known, imports_of_package, with_import, More}
+use Rattle.go_load.specs.Loading.{headers_from, IsAt, LoadsPackage, LoadsQueue, PackageLoaded}
+use Rattle.go_load.specs.Programs.{Package, IsNext, known, imports_of_package, with_import, More}
 use Rattle.go_load.specs.Projects.{Project}
 use Rattle.go_load.proofs.Fronts.{known_more, front_known}
 
@@ -41,12 +41,14 @@ next_path : (project : Project) (packages : List Package) (old : Loader) (path :
 next_path project packages old path at h = ap (λ paths. slice_get paths (length packages)) (sym at.paths) ∙ h
 
 one_more : (project : Project) (packages : List Package) (old new : Loader) → IsAt project old packages → PackageLoaded project packages old new (Ok tt) → IsAtSome project new
-one_more project packages old new at h =
-    (packages ++ h.0 ∷ [], record {
-        holds = h.3;
-        paths = h.4 ∙ ap (λ paths. fold with_import paths (imports_of_package h.0)) at.paths ∙ sym (known_more project packages h.0);
-        front = More packages h.0 at.front (next_path project packages old h.0.path at h.1) h.2;
-    })
+one_more project packages old new at h = (
+  packages ++ h.0 ∷ [],
+  record {
+    holds = h.3;
+    paths = h.4 ∙ ap (λ paths. fold with_import paths (imports_of_package h.0)) at.paths ∙ sym (known_more project packages h.0);
+    front = More packages h.0 at.front (next_path project packages old h.0.path at h.1) h.2;
+  },
+)
 
 pub at_next : (tree now : Option Tree) (number : ℕ) (first old new : Loader) → now ≡ tree → number ≡ length old.packages.items → IfSome tree (λ files. KeepsOn files first old) → IfSome now (λ files. LoadsPackage files number old new (Ok tt)) → IfSome tree (λ files. KeepsOn files first new)
 at_next None now number first old new same e keeps loads = tt

@@ -1,10 +1,8 @@
 -- The target is found, and what is loaded from there.
-use Rattle.std.proofs.Common.{◌≡◌, ◌⊎◌, ℕ, zero, suc, ◌-◌, Bool, true, false, List, [], ◌∷◌, length, map, Option, Some, None, option_map, IfSome, IfOk, IfErr, Result, Ok, Err, Vec, String, string_bytes, slice_get, inl, inr, refl, sym, ap, ◌∙◌, subst, arith}
+use Rattle.std.proofs.Common.{◌≡◌, ℕ, zero, suc, ◌-◌, List, [], ◌∷◌, map, Option, Some, None, option_map, IfSome, Result, Ok, Err, Vec, String, string_bytes, slice_get, inl, inr, refl, sym, ap, ◌∙◌, subst, arith}
 use Rattle.std.specs.List.{AllZip}
 use Rattle.std.specs.declared.alloc.Global.{Global}
 use Rattle.go_base.specs.Devices.{Tree}
-use Rattle.go_base.specs.declared.place.Place.{Place}
-use Rattle.go_base.specs.declared.rule.Rule.{Rule}
 use Rattle.go_base.specs.declared.target.Target.{Target}
 use Rattle.go_base.specs.declared.target.Target.TheVariants as targets
 use Rattle.go_load.specs.declared.error.LoadError.{LoadError}
@@ -12,19 +10,17 @@ use Rattle.go_load.specs.declared.error.LoadError.TheVariants.{Refused, ReadFaul
 use Rattle.go_load.specs.declared.find_module.Module as modules
 use Rattle.go_load.specs.declared.found.Entry.{Entry}
 use Rattle.go_load.specs.declared.found.Found.{Found}
-use Rattle.go_load.specs.declared.found.Origin.TheVariants as code
 use Rattle.go_load.specs.declared.links.Link.{Link}
 use Rattle.go_load.specs.declared.loader.Loader.{Loader}
-use Rattle.go_load.specs.declared.sources.SourceFile.{SourceFile}
 use Rattle.go_load.specs.declared.sources.Sources.{Sources}
-use Rattle.go_load.specs.Answers.{max_program_bytes, sound_module, AreProgramFiles, AreSourcesOf, Breaks, BreaksFirst, HasBadModule, HasStopped, IsAnswer, IsBadProject, IsLoaded, IsProjectOf, IsSourcesOf}
+use Rattle.go_load.specs.Answers.{max_program_bytes, sound_module, HasStopped, IsAnswer, IsLoaded, IsProjectOf}
 use Rattle.go_load.specs.Finding.{listed, view_origin, AreRight, BeginsWith, IsRightAt}
 use Rattle.go_load.specs.GoPaths.{ListsGoPaths}
-use Rattle.go_load.specs.Loading.{broken, view_source, Holds, IsAt, IsLink}
-use Rattle.go_load.specs.Modules.{view_module, AnswersModule, Broken, Governs, IsTargetDir}
-use Rattle.go_load.specs.Programs.{Package, IsResult, Nothing, path_asked}
-use Rattle.go_load.specs.Projects.{Project, Origin, Paths, IsOriginOfTarget, path_of_target, target_path}
-use Rattle.go_load.specs.Refusals.{Justifies, Stops}
+use Rattle.go_load.specs.Loading.{view_source, IsAt, IsLink}
+use Rattle.go_load.specs.Modules.{view_module, AnswersModule, Governs, IsTargetDir}
+use Rattle.go_load.specs.Programs.{Nothing, path_asked}
+use Rattle.go_load.specs.Projects.{Project, Paths, IsOriginOfTarget, path_of_target, target_path}
+use Rattle.go_load.specs.Refusals.{Stops}
 use Rattle.go_load.specs.Sources.{AreTold, files_of}
 use Rattle.go_load.specs.Starting.{project_with, BeginsProject, FindsTarget, Finishes, IsAnswerIn, ListsTarget}
 
@@ -50,10 +46,10 @@ lists_file (Some files) target file seen one paths e s b p =
 begins : (project : Project) (found : Found) (root : Option modules.Module) (path : List ℕ) (files : Vec (String Global) Global) → project.root ≡ option_map view_module root → path ≡ target_path project → IsOriginOfTarget project.files project.target (Paths (map string_bytes files.items)) → BeginsWith root path files found → BeginsProject project found
 begins project found root path files r p origin b = record {
   right = record {
-      root = ap (option_map view_module) b.same ∙ sym r;
-      paths = b.paths ∙ ap (λ q. q ∷ []) (sym b.path_is) ∙ sym (ap (map (λ (entry : Entry). string_bytes entry.path)) b.entries);
-      target = ap (λ ps. slice_get ps 0) b.paths ∙ ap Some p;
-      entries = λ index. subst (λ (entries : List Entry). IfSome (slice_get entries index) (IsRightAt project index)) (sym b.entries) (at index);
+    root = ap (option_map view_module) b.same ∙ sym r;
+    paths = b.paths ∙ ap (λ q. q ∷ []) (sym b.path_is) ∙ sym (ap (map (λ (entry : Entry). string_bytes entry.path)) b.entries);
+    target = ap (λ ps. slice_get ps 0) b.paths ∙ ap Some p;
+    entries = λ index. subst (λ (entries : List Entry). IfSome (slice_get entries index) (IsRightAt project index)) (sym b.entries) (at index);
   };
   paths = b.paths ∙ ap (λ q. q ∷ []) p;
 }
@@ -92,15 +88,15 @@ less_none limit = omega arith
 starts_at : (project : Project) (loader : Loader) (found : Found) → BeginsProject project found → IsNew loader found (path_asked project.target) project.limit → IsAt project loader []
 starts_at project loader found b n = record {
   holds = record {
-      right = subst (AreRight project) (sym n.found_is) b.right;
-      target = n.target_is;
-      files = ap (map view_source) n.files;
-      headers = n.headers;
-      imports = ap listed n.imports;
-      links = subst (λ (kept : List Link). AllZip (IsLink loader.files.items) kept []) (sym n.links) tt;
-      programs = n.programs;
-      left = n.left ∙ less_none project.limit;
-      met = tt;
+    right = subst (AreRight project) (sym n.found_is) b.right;
+    target = n.target_is;
+    files = ap (map view_source) n.files;
+    headers = n.headers;
+    imports = ap listed n.imports;
+    links = subst (λ (kept : List Link). AllZip (IsLink loader.files.items) kept []) (sym n.links) tt;
+    programs = n.programs;
+    left = n.left ∙ less_none project.limit;
+    met = tt;
   };
   paths = ap (λ (f : Found). f.paths) n.found_is ∙ b.paths;
   front = Nothing;

@@ -1,6 +1,6 @@
 -- What the imports of a file name. Go specification, "Import declarations".
-use Rattle.std.specs.Prelude.{ℕ, Bool, true, false, not, ◌&&◌, ◌||◌, ◌==◌, if◌then◌else◌, List, [], ◌∷◌, length, drop, map, Option, Some, None, is_none, is_some, unwrap_or, codes, bytes_eq, nat_eq}
-use Rattle.std.specs.List.{flat_map, list_all, list_any, slice_split, starts_with}
+use Rattle.std.specs.Prelude.{ℕ, Bool, true, false, not, ◌&&◌, ◌||◌, ◌==◌, if◌then◌else◌, List, [], length, drop, map, Option, Some, None, is_none, unwrap_or, codes, bytes_eq, nat_eq}
+use Rattle.std.specs.List.{flat_map, list_all, slice_split, starts_with}
 use Rattle.std.specs.Option.{option_and_then}
 use Rattle.go_ast.specs.declared.token.Kind.{Kind}
 use Rattle.go_ast.specs.declared.token.Kind.TheVariants as kinds

@@ -1,5 +1,5 @@
 -- What a program that was loaded holds.
-use Rattle.std.specs.Prelude.{◌≡◌, ℕ, ◌<◌, ◌≤◌, List, length, slice_get, IfSome}
+use Rattle.std.specs.Prelude.{◌≡◌, ◌<◌, ◌≤◌, List, length, slice_get, IfSome}
 use Rattle.go_base.specs.declared.place.Place.{Place}
 use Rattle.go_base.specs.declared.place.Pos.{Pos}
 use Rattle.go_load.specs.declared.sources.SourceFile.{SourceFile}

@@ -1,15 +1,11 @@
 -- What the loading of packages answers.
-use Rattle.std.specs.Prelude.{◌≡◌, ◌⊎◌, ℕ, ◌+◌, ◌-◌, ◌<◌, ◌≤◌, min, Bool, true, false, if◌then◌else◌, List, [], ◌∷◌, ◌++◌, length, map, Option, Some, None, IfSome, unwrap_or, Result, Ok, Err, Vec, slice_get, bytes_eq, ◌&&◌, ◌==◌, codes, string_bytes}
+use Rattle.std.specs.Prelude.{◌≡◌, ◌⊎◌, ℕ, ◌+◌, ◌-◌, min, Bool, true, false, if◌then◌else◌, List, [], ◌∷◌, ◌++◌, length, map, Option, Some, None, IfSome, unwrap_or, Result, Ok, Err, Vec, slice_get, bytes_eq, ◌&&◌, ◌==◌, codes, string_bytes}
 use Rattle.std.specs.List.{AllByRecursion, AllZip, flat_map, fold, list_any, sum_by}
 use Rattle.std.specs.declared.alloc.Global.{Global}
-use Rattle.go_ast.specs.declared.token.Token.{Token}
 use Rattle.go_base.specs.Devices.{Tree}
-use Rattle.go_base.specs.NameTable.{with_text}
 use Rattle.go_base.specs.declared.place.Place.{Place}
 use Rattle.go_base.specs.declared.rule.Rule.{Rule}
 use Rattle.go_base.specs.declared.rule.Rule.TheVariants as rules
-use Rattle.go_base.specs.declared.target.Target.{Target}
-use Rattle.import_graph.specs.declared.edges.Edge.{Edge}
 use Rattle.go_load.specs.declared.error.LoadError.{LoadError}
 use Rattle.go_load.specs.declared.error.LoadError.TheVariants.{Refused, ReadFault, OutOfMemory}
 use Rattle.go_load.specs.declared.found.Entry.{Entry}
@@ -20,12 +16,12 @@ use Rattle.go_load.specs.declared.sources.Import as numbers
 use Rattle.go_load.specs.declared.sources.SourceFile.{SourceFile}
 use Rattle.go_load.specs.declared.sources.SourcePackage.{SourcePackage}
 use Rattle.go_load.specs.FileReading.{Says, view_files}
-use Rattle.go_load.specs.Finding.{view_file, view_origin, AreRight, AllFound, listed, numbered, numbered_files}
+use Rattle.go_load.specs.Finding.{view_file, view_origin, AreRight, listed, numbered_files}
 use Rattle.go_load.specs.GoMod.{newest_minor}
 use Rattle.go_load.specs.Imports.{Import, import_path}
 use Rattle.go_load.specs.Modules.{Broken, Module}
 use Rattle.go_load.specs.Places.{place_in}
-use Rattle.go_load.specs.Programs.{File, Package, Link, LoadsNext, IsPackage, BreaksPackage, IsFront, IsComplete, ReadsAll, name_fault, path_asked, first_of_program, links, AreImportsSound, IsNext, IsOnCycleFirst, unfound, import_files, imports_in, imports_of_files, imports_of_package, with_import, known, links_from, room_for, size, are_program, name_of}
+use Rattle.go_load.specs.Programs.{File, Package, Link, IsPackage, BreaksPackage, IsFront, ReadsAll, name_fault, path_asked, first_of_program, links, AreImportsSound, IsNext, IsOnCycleFirst, unfound, import_files, imports_of_files, imports_of_package, with_import, known, links_from, room_for, are_program}
 use Rattle.go_load.specs.Projects.{Project, Origin, texts_of, is_built_in}
 use Rattle.go_load.specs.Reading.{max_file_bytes}
 

@@ -1,9 +1,8 @@
 -- Places in files, and what is said of them.
-use Rattle.std.specs.Prelude.{◌≡◌, ℕ, ◌≤◌, List, [], length, Option, Some, None, IfSome, Vec, slice_get, min}
+use Rattle.std.specs.Prelude.{◌≡◌, ℕ, ◌≤◌, List, [], length, Option, Some, None, Vec, min}
 use Rattle.std.specs.declared.alloc.Global.{Global}
 use Rattle.go_base.specs.Lines.{line_at, column_at}
 use Rattle.go_base.specs.declared.place.Place.{Place}
-use Rattle.go_base.specs.declared.place.Pos.{Pos}
 use Rattle.go_base.specs.declared.rule.Rule.{Rule}
 use Rattle.go_ast.specs.declared.token.Token.{Token}
 use Rattle.go_load.specs.declared.error.LoadError.{LoadError}

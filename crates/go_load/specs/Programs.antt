@@ -1,5 +1,5 @@
 -- Programs: packages in the order in which they are found, or the first rule that they break.
-use Rattle.std.specs.Prelude.{◌≡◌, ℕ, zero, suc, ◌+◌, ◌-◌, ◌<◌, ◌≤◌, min, Bool, true, false, if◌then◌else◌, List, [], ◌∷◌, ◌++◌, length, map, Option, Some, None, IfSome, Result, Ok, Err, slice_get, codes, bytes_eq}
+use Rattle.std.specs.Prelude.{◌≡◌, ℕ, zero, suc, ◌+◌, ◌-◌, ◌<◌, ◌≤◌, min, Bool, true, false, if◌then◌else◌, List, [], ◌∷◌, ◌++◌, length, map, Option, Some, None, Result, Ok, Err, slice_get, codes, bytes_eq}
 use Rattle.std.specs.List.{flat_map, find, fold, list_any, sum_by}
 use Rattle.go_ast.specs.declared.token.Token.{Token}
 use Rattle.go_base.specs.NameTable.{place_of, with_text}

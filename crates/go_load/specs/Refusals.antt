@@ -4,7 +4,6 @@ use Rattle.go_base.specs.Devices.{Tree, file_at}
 use Rattle.go_base.specs.declared.place.Place.{Place}
 use Rattle.go_base.specs.declared.rule.Rule.{Rule}
 use Rattle.go_base.specs.declared.rule.Rule.TheVariants as rules
-use Rattle.go_base.specs.declared.target.Target.{Target}
 use Rattle.go_ast.specs.declared.token.Token.{Token}
 use Rattle.go_ast.specs.Lexical.{IsTokenList, IsFault}
 use Rattle.go_grammar.specs.Files.{IsUnexpected}

@@ -2,7 +2,6 @@
 use Rattle.std.specs.Prelude.{◌≡◌, ℕ, List, Option, Some, None, Vec, IfSome, All, ◌⊎◌}
 use Rattle.std.specs.declared.alloc.Global.{Global}
 use Rattle.go_base.specs.Devices.{Tree, file_at}
-use Rattle.go_base.specs.declared.target.Target.{Target}
 use Rattle.go_load.specs.declared.sources.SourceFile.{SourceFile}
 use Rattle.go_load.specs.declared.sources.SourcePackage.{SourcePackage}
 use Rattle.go_load.specs.declared.sources.Sources.{Sources}

@@ -1,5 +1,5 @@
 -- What the finding of the target answers, and the loading of all that it imports.
-use Rattle.std.specs.Prelude.{◌≡◌, ◌⊎◌, ℕ, false, List, [], ◌∷◌, length, map, Option, Some, None, option_map, IfSome, Result, Ok, Err, Vec, String, string_bytes}
+use Rattle.std.specs.Prelude.{◌≡◌, ℕ, false, List, [], ◌∷◌, length, map, Option, option_map, Result, Ok, Err, Vec, String, string_bytes}
 use Rattle.std.specs.declared.alloc.Global.{Global}
 use Rattle.go_base.specs.Devices.{Tree}
 use Rattle.go_base.specs.declared.target.Target.{Target}
@@ -13,7 +13,7 @@ use Rattle.go_load.specs.Answers.{IsSourcesOf}
 use Rattle.go_load.specs.Finding.{AreRight, listed}
 use Rattle.go_load.specs.Loading.{Holds, IsAt, all_imports, broken}
 use Rattle.go_load.specs.Modules.{view_module}
-use Rattle.go_load.specs.Programs.{Package, AreImportsSound, BreaksPackage, IsResult, IsWithRuntime, has_runtime, known, runtime_path}
+use Rattle.go_load.specs.Programs.{Package, BreaksPackage, IsResult, IsWithRuntime, has_runtime, known, runtime_path}
 use Rattle.go_load.specs.Projects.{Project, Paths, IsOriginOfTarget, target_path}
 
 -- the project of a target in these files, whose module is this one

@@ -106,11 +106,7 @@ fn target_files<F: Files>(
 }
 
 /// The path of the package of the target.
-fn package_path(
-    alloc: Global,
-    root: &Option<Module>,
-    target: &Target,
-) -> Result<String, NoMemory>
+fn package_path(alloc: Global, root: &Option<Module>, target: &Target) -> Result<String, NoMemory>
     ensures { IfOk result (λ path. string_bytes path ≡ path_of_target (option_map view_module root.now) target.now) }
 {
     match target {

@@ -1,4 +1,4 @@
-use Rattle.std.proofs.Common.{◌≡◌, Some, None, Option, List, ℕ, rules}
+use Rattle.std.proofs.Common.{rules}
 use Rattle.std.proofs.lemmas.Result.{err_from_is_err_and}
 use Rattle.go_load.proofs.Governing.{own_found, none_found, next_above, broken_found}
 use Rattle.go_load.proofs.find_module.find_module.Goals as goal

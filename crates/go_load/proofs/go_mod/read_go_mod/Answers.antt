@@ -1,4 +1,4 @@
-use Rattle.std.proofs.Common.{◌≡◌, ◌<◌, ◌∙◌, sym, arith, length, drop}
+use Rattle.std.proofs.Common.{◌≡◌, ◌<◌, ◌∙◌, arith, length}
 use Rattle.std.specs.List.{slice_split}
 use Rattle.go_load.specs.Words.{is_newline}
 use Rattle.go_load.specs.GoMod.{take_lines, nothing_said}

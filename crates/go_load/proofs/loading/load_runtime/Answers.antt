@@ -1,4 +1,4 @@
-use Rattle.std.proofs.Common.{rules, arith, ◌≡◌, ◌+◌, ◌-◌, Bool, true, false, length, refl}
+use Rattle.std.proofs.Common.{rules, arith, ◌≡◌, ◌+◌, ◌-◌, true, false, length, refl}
 use Rattle.go_load.proofs.Finishing.{runtime_added, runtime_kept}
 use Rattle.go_load.proofs.loading.load_runtime.Goals as goal
 

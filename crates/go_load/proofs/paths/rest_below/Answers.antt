@@ -1,4 +1,4 @@
-use Rattle.std.proofs.Common.{◌≡◌, ◌∙◌, ◌∷◌, ◌++◌, false, bytes_eq, codes, ap, sym, lit<, rules}
+use Rattle.std.proofs.Common.{◌∙◌, ◌++◌, ap, sym, lit<, rules}
 use Rattle.std.proofs.lemmas.Str.Pattern.{strip_prefix_char}
 use Rattle.go_load.proofs.ImportPaths.{rest_below-none, rest_below-stripped}
 use Rattle.go_load.proofs.paths.rest_below.Goals as goal

@@ -1,7 +1,5 @@
-use Rattle.std.proofs.Common.{rules, ◌≡◌, ◌<◌, ◌∙◌, length, map, Some, None, subst}
+use Rattle.std.proofs.Common.{rules, ◌<◌, ◌∙◌, length, subst}
 use Rattle.import_graph.specs.Cycles.{IsFirstOnCycle}
-use Rattle.import_graph.specs.declared.edges.Edge.{Edge}
-use Rattle.go_load.specs.declared.links.Link.{Link}
 use Rattle.go_load.proofs.ImportChecks.{cycle_refused_at, imports_sound, in_links, program_refused}
 use Rattle.go_load.proofs.loader.Loader.check_imports.Goals as goal
 

@@ -1,6 +1,6 @@
 use Rattle.std.proofs.Common.{rules, arith, ◌≡◌, ◌∙◌, length}
 use Rattle.std.proofs.lemmas.Result.{err_from_is_err_and}
-use Rattle.go_load.proofs.QueueLoading.{at_next, ended, out_of_memory, stopped}
+use Rattle.go_load.proofs.QueueLoading.{at_next, ended, stopped}
 use Rattle.go_load.proofs.loader.Loader.load_queue.Goals as goal
 
 pub returns-then-number-len-clause-exact : goal.returns-then-number-len-clause-exact
@@ -19,8 +19,8 @@ pub packages-preserved : goal.packages-preserved
 packages-preserved g c =
     let number : c.len-number.result ≡ length c.packages.self.packages.items = search rules in
     record {
-        later = search (rules, c.packages.invariant.later, c.in_ok-load_package.ensures.later);
-        told = λ told. rw c.packages.invariant.same at (c.in_ok-load_package.ensures.told (rw (← c.packages.invariant.same) at (c.packages.invariant.told told)));
-        same = c.in_ok-load_package.ensures.same ∙ c.packages.invariant.same;
-        keeps = at_next (g.F.Files.tree c.args.files.now) (g.F.Files.tree c.packages.files) c.len-number.result c.args.self.now c.packages.self c.load_package.new.self c.packages.invariant.same number c.packages.invariant.keeps c.in_ok-load_package.ensures.exact;
+      later = search (rules, c.packages.invariant.later, c.in_ok-load_package.ensures.later);
+      told = λ told. rw c.packages.invariant.same at (c.in_ok-load_package.ensures.told (rw (← c.packages.invariant.same) at (c.packages.invariant.told told)));
+      same = c.in_ok-load_package.ensures.same ∙ c.packages.invariant.same;
+      keeps = at_next (g.F.Files.tree c.args.files.now) (g.F.Files.tree c.packages.files) c.len-number.result c.args.self.now c.packages.self c.load_package.new.self c.packages.invariant.same number c.packages.invariant.keeps c.in_ok-load_package.ensures.exact;
     }
