@@ -37,7 +37,7 @@ pub fn type_start(form: &TypeExpr) -> u32
 }
 
 /// The first byte of an expression.
-#[tactic(auto, using(go_grammar::proofs::Views::expr_views, crate::proofs::Starts::node_begins, crate::proofs::Starts::begins_with))]
+#[tactic(auto, using(go_grammar::proofs::Views::expr_views, crate::proofs::Fronts::node_begins, crate::proofs::Fronts::begins_with))]
 pub fn expr_start(expr: &Expr) -> u32
     ensures { start_of (view_expr expr.now) ≡ Some result }
 {
@@ -75,7 +75,7 @@ pub fn decl_start(decl: &Decl) -> u32
 }
 
 /// The first byte of a statement; 0 for one that is written with no token, which no file holds.
-#[tactic(auto, using(go_grammar::proofs::Views::stmt_views, crate::proofs::Starts::node_begins, crate::proofs::Starts::begins_with))]
+#[tactic(auto, using(go_grammar::proofs::Views::stmt_views, crate::proofs::Fronts::node_begins, crate::proofs::Fronts::begins_with))]
 pub fn stmt_start(stmt: &Stmt) -> u32
     ensures { result ≡ unwrap_or (start_of (view_stmt stmt.now)) 0 }
 {
