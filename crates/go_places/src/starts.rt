@@ -1,10 +1,11 @@
 //! The first bytes of trees.
 
 ghost use Rattle.std.specs.Prelude.{◌≡◌, Some, unwrap_or};
-ghost use Rattle.go_grammar.specs.View.{view_decl, view_expr, view_if_arm, view_named, view_stmt, view_type_expr};
+ghost use Rattle.go_grammar.specs.View.{◌⊕◌, each, one, view_decl, view_expr, view_if_arm, view_listed_expr, view_named, view_stmt, view_type_expr};
 ghost use Rattle.go_places.specs.Begins.{start_of};
 
-use go_syntax::{Decl, Expr, IfArm, NamedType, Stmt, TypeExpr};
+use go_ast::Token;
+use go_syntax::{Decl, Expr, IfArm, ListedExpr, NamedType, Stmt, TypeExpr};
 
 fn named_start(name: &NamedType) -> u32
     ensures { start_of (view_named name.now) ≡ Some result }
@@ -37,7 +38,7 @@ pub fn type_start(form: &TypeExpr) -> u32
 }
 
 /// The first byte of an expression.
-#[tactic(auto, using(go_grammar::proofs::Views::expr_views, crate::proofs::Fronts::node_begins, crate::proofs::Fronts::begins_with))]
+#[tactic(auto, using(go_grammar::proofs::Views::expr_views))]
 pub fn expr_start(expr: &Expr) -> u32
     ensures { start_of (view_expr expr.now) ≡ Some result }
 {
@@ -46,18 +47,16 @@ pub fn expr_start(expr: &Expr) -> u32
         Expr::Paren { open, .. } => open.start,
         Expr::Function { word, .. } => word.start,
         Expr::TypeForm(form) => type_start(form),
-        Expr::Composite {
-            form: Some(form), ..
-        } => type_start(form),
-        Expr::Composite {
-            form: None, open, ..
-        } => open.start,
+        Expr::Composite { form, open, .. } => match form {
+            Some(form) => type_start(form),
+            None => open.start,
+        },
         Expr::Unary { operator, .. } => operator.start,
-        Expr::Selector { operand, .. }
-        | Expr::Assertion { operand, .. }
-        | Expr::Index { operand, .. }
-        | Expr::Slice { operand, .. }
-        | Expr::FullSlice { operand, .. } => expr_start(operand),
+        Expr::Selector { operand, .. } => expr_start(operand),
+        Expr::Assertion { operand, .. } => expr_start(operand),
+        Expr::Index { operand, .. } => expr_start(operand),
+        Expr::Slice { operand, .. } => expr_start(operand),
+        Expr::FullSlice { operand, .. } => expr_start(operand),
         Expr::Call { callee, .. } => expr_start(callee),
         Expr::Binary { left, .. } => expr_start(left),
     }
@@ -69,35 +68,39 @@ pub fn decl_start(decl: &Decl) -> u32
     ensures { start_of (view_decl decl.now) ≡ Some result }
 {
     match decl {
-        Decl::Const { word, .. } | Decl::TypeDecl { word, .. } | Decl::Var { word, .. } => word.start,
+        Decl::Const { word, .. } | Decl::TypeDecl { word, .. } | Decl::Var { word, .. } =>
+            word.start,
         Decl::Func(func) => func.word.start,
     }
 }
 
 /// The first byte of a statement; 0 for one that is written with no token, which no file holds.
-#[tactic(auto, using(go_grammar::proofs::Views::stmt_views, crate::proofs::Fronts::node_begins, crate::proofs::Fronts::begins_with))]
+#[tactic(auto, using(go_grammar::proofs::Views::stmt_views))]
 pub fn stmt_start(stmt: &Stmt) -> u32
     ensures { result ≡ unwrap_or (start_of (view_stmt stmt.now)) 0 }
 {
     match stmt {
         Stmt::Decl(decl) => decl_start(decl),
-        Stmt::Labeled { labels, stmt } => match (labels.first(), stmt) {
-            (Some(label), _) => label.name.start,
-            (None, Some(stmt)) => stmt_start(stmt),
-            (None, None) => 0,
+        Stmt::Labeled { labels, stmt } => match labels.first() {
+            Some(label) => label.name.start,
+            None => match stmt {
+                Some(stmt) => stmt_start(stmt),
+                None => 0,
+            },
         },
         Stmt::Expr(expr) => expr_start(expr),
         Stmt::Send { channel, .. } => expr_start(channel),
         Stmt::Step { operand, .. } => expr_start(operand),
         Stmt::Assign {
-            targets, operator, ..
-        }
-        | Stmt::Define {
-            targets, operator, ..
-        } => match targets.first() {
-            Some(target) => expr_start(&target.expr),
-            None => operator.start,
-        },
+            targets,
+            operator,
+            ..
+        } => list_start(targets.as_slice(), *operator),
+        Stmt::Define {
+            targets,
+            operator,
+            ..
+        } => list_start(targets.as_slice(), *operator),
         Stmt::Go { word, .. }
         | Stmt::Defer { word, .. }
         | Stmt::Return { word, .. }
@@ -111,11 +114,13 @@ pub fn stmt_start(stmt: &Stmt) -> u32
             arms,
             else_word,
             otherwise,
-        } => match (arms.first(), else_word, otherwise) {
-            (Some(arm), _, _) => arm_start(arm),
-            (None, Some(word), _) => word.start,
-            (None, None, Some(block)) => block.open.start,
-            (None, None, None) => 0,
+        } => match arms.first() {
+            Some(arm) => arm_start(arm),
+            None => match (else_word, otherwise) {
+                (Some(word), _) => word.start,
+                (None, Some(block)) => block.open.start,
+                (None, None) => 0,
+            },
         },
         Stmt::Switch(switch) => switch.word.start,
         Stmt::TypeSwitch(switch) => switch.word.start,
@@ -124,7 +129,16 @@ pub fn stmt_start(stmt: &Stmt) -> u32
     }
 }
 
-#[tactic(auto, using(go_grammar::proofs::Views::stmt_views))]
+/// The first byte of expressions and of the operator behind them.
+fn list_start(exprs: &[ListedExpr], operator: Token) -> u32
+    ensures { start_of (each view_listed_expr exprs.now ⊕ one operator) ≡ Some result }
+{
+    match exprs.first() {
+        Some(first) => expr_start(&first.expr),
+        None => operator.start,
+    }
+}
+
 fn arm_start(arm: &IfArm) -> u32
     ensures { start_of (view_if_arm arm.now) ≡ Some result }
 {
