@@ -4,9 +4,10 @@ ghost use Rattle.std.specs.Prelude.{◌≡◌, ◌==◌, ◌<◌, ◌↔◌, IsT
 ghost use Rattle.std.specs.List.{list_any, IsDistinct, fold};
 ghost use Rattle.go_type.specs.Conditions.{is_holdable, CanDefine, takes_method};
 ghost use Rattle.go_type.specs.Identity.{Identical};
-ghost use Rattle.go_type.specs.Table.{FieldsFit, predeclared, with_basic, basic_types, with_error, exported_method, place_of, with_term, with_next, same_term, underlying_of, with_underlying, with_method, term_at, definition_at};
-ghost use Rattle.go_type.specs.declared.term.TypeTerm.TheVariants.{Declared};
+ghost use Rattle.go_type.specs.Table.{FieldsFit, predeclared, with_basic, basic_id, text_function, first_definitions, exported_method, place_of, id_of, with_term, with_next, same_term, underlying_of, with_underlying, with_method, term_at, definition_at};
+ghost use Rattle.go_type.specs.declared.term.TypeTerm.TheVariants.{Basic as Plain, Declared, Func};
 
+use crate::kinds::basic;
 use crate::lists::{MethodTypes, TypeIds};
 use crate::methods::{MethodEntry, MethodSet};
 use crate::term::{ALL_BASIC, Basic, EXPORTED, MethodType, Signature, TypeName, TypeTerm};
@@ -14,6 +15,13 @@ use go_base::{NameId, NoMemory, TypeId};
 use indexmap::IndexSet;
 use std::alloc::Global;
 use std::marker::Model;
+
+/// The predeclared types that are not basic: `func() string`, the interface of `error`, and `error`.
+const TEXT_FUNCTION: TypeId = TypeId { number: 17 };
+
+const ERROR_INTERFACE: TypeId = TypeId { number: 18 };
+
+const ERROR: TypeId = TypeId { number: 19 };
 
 /// What is declared of a type.
 #[derive(Debug, Drop)]
@@ -44,7 +52,7 @@ impl Model for Types {
 
     ghost use Rattle.go_type.specs.Held.{IsHeld};
 
-    ghost invariant = { λ t. IsHeld t.terms.keys t.definitions.items };
+    ghost invariant = { λ t. IsHeld (record { terms = t.terms.keys; definitions = t.definitions.items; error = t.error }) };
 }
 
 impl Definition {
@@ -64,50 +72,20 @@ impl Types {
     pub fn new(alloc: Global, error: NameId, method: NameId) -> Result<Types, NoMemory>
         ensures { IfOk result (λ types. types ≡ predeclared error method) }
     {
-        let mut types = Types::with_basic(alloc)?;
-        let text = types.enter(TypeTerm::Basic(Basic::Text))?;
-        let signature = types.enter(TypeTerm::Func(text_of_nothing(alloc, text)?))?;
-        let interface = types.enter(TypeTerm::Interface(one_method(alloc, method, signature)?))?;
-        types.declare_error(error, interface)?;
-        Ok(types)
-    }
-
-    /// The basic types.
-    fn with_basic(alloc: Global) -> Result<Types, NoMemory>
-        ensures { IfOk result (λ types. types ≡ basic_types) }
-    {
-        let mut types = Types {
-            alloc,
-            terms: IndexSet::new(alloc),
-            definitions: Vec::new(alloc),
-            error: TypeId { number: 0 },
-        };
-        types.hold_all(&ALL_BASIC)?;
-        Ok(types)
-    }
-
-    fn hold_all(&mut self, basics: &[Basic]) -> Result<(), NoMemory>
-        ensures { OnOk result (self.new ≡ fold with_basic self.old basics.now) }
-    {
-        for basic in basics {
-            self.enter(TypeTerm::Basic(*basic))?;
-        }
-        Ok(())
-    }
-
-    /// Declares the type `error` of an interface.
-    #[tactic(auto, unfolding(crate::specs::Table::with_error))]
-    fn declare_error(&mut self, name: NameId, interface: TypeId) -> Result<(), NoMemory>
-        ensures { OnOk result (self.new ≡ with_error name interface self.old) }
-    {
-        let id = self.enter(TypeTerm::Declared(TypeName {
-            name,
+        let mut terms = basic_terms(alloc, &ALL_BASIC)?;
+        terms.insert(TypeTerm::Func(text_of_nothing(alloc)?))?;
+        terms.insert(TypeTerm::Interface(one_method(alloc, method)?))?;
+        terms.insert(TypeTerm::Declared(TypeName {
+            name: error,
             package: EXPORTED,
             number: 0,
         }))?;
-        self.set_underlying(id, interface);
-        self.error = id;
-        Ok(())
+        Ok(Types {
+            alloc,
+            terms,
+            definitions: first_definitions(alloc)?,
+            error: ERROR,
+        })
     }
 
     /// The id of a type: that which it has, or else the next. Types that are held keep their ids, and identical types
@@ -170,6 +148,19 @@ impl Types {
         ensures err { OnErr result (self.new ≡ self.old) }
     {
         self.add(TypeTerm::Declared(name))
+    }
+
+    /// The id of a type's term. None where that is not held.
+    pub fn find(&self, term: &TypeTerm) -> Option<TypeId>
+        ensures id { result ≡ id_of term.now self.now }
+        ensures named { IfSome result (λ id. term_at self.now id ≡ Some term.now) }
+    {
+        match self.terms.get_index_of(term) {
+            Some(index) => Some(TypeId {
+                number: index as u64,
+            }),
+            None => None,
+        }
     }
 
     /// Whether a declared type has this name.
@@ -240,6 +231,14 @@ impl Types {
         ensures { result ≡ self.now.error }
     {
         self.error
+    }
+
+    /// The term of a basic type, which stands at its place.
+    pub fn basic_term(&self, kind: Basic) -> &TypeTerm
+        ensures term { result.now ≡ Plain kind }
+        ensures place { term_at self.now (basic_id kind) ≡ Some (Plain kind) }
+    {
+        &self.terms.as_slice()[basic(kind).number as usize]
     }
 
     /// The term of a type.
@@ -317,12 +316,41 @@ pub fn identical(types: &Types, a: TypeId, b: TypeId) -> bool
     a == b
 }
 
-/// `func() string`, of the type `string`.
-fn text_of_nothing(alloc: Global, text: TypeId) -> Result<Signature, NoMemory>
-    ensures { IfOk result (λ signature. signature ≡ record { params = []; results = text ∷ []; variadic = false }) }
+/// The terms of basic types.
+fn basic_terms(alloc: Global, basics: &[Basic]) -> Result<IndexSet<TypeTerm>, NoMemory>
+    ensures { IfOk result (λ terms. terms.keys ≡ fold with_basic [] basics.now) }
+{
+    let mut terms = IndexSet::new(alloc);
+    for basic in basics {
+        terms.insert(TypeTerm::Basic(*basic))?;
+    }
+    Ok(terms)
+}
+
+/// The definitions of the predeclared types, of which `error` alone has one.
+fn first_definitions(alloc: Global) -> Result<Vec<Definition>, NoMemory>
+    ensures { IfOk result (λ definitions. definitions.items ≡ first_definitions) }
+{
+    let mut definitions = Vec::new(alloc);
+    for _ in 0..ERROR.number {
+        definitions.push(Definition {
+            underlying: None,
+            methods: MethodSet::new(alloc),
+        })?;
+    }
+    definitions.push(Definition {
+        underlying: Some(ERROR_INTERFACE),
+        methods: MethodSet::new(alloc),
+    })?;
+    Ok(definitions)
+}
+
+/// `func() string`.
+fn text_of_nothing(alloc: Global) -> Result<Signature, NoMemory>
+    ensures { IfOk result (λ signature. Func signature ≡ text_function) }
 {
     let mut results = TypeIds::new(alloc);
-    results.push(text)?;
+    results.push(basic(Basic::Text))?;
     Ok(Signature {
         params: TypeIds::new(alloc),
         results,
@@ -330,15 +358,15 @@ fn text_of_nothing(alloc: Global, text: TypeId) -> Result<Signature, NoMemory>
     })
 }
 
-/// An exported method alone.
-fn one_method(alloc: Global, name: NameId, of: TypeId) -> Result<MethodTypes, NoMemory>
-    ensures { IfOk result (λ methods. methods ≡ exported_method name of ∷ []) }
+/// The method of `error`.
+fn one_method(alloc: Global, name: NameId) -> Result<MethodTypes, NoMemory>
+    ensures { IfOk result (λ methods. methods ≡ exported_method name (record { number = 17 }) ∷ []) }
 {
     let mut methods = MethodTypes::new(alloc);
     methods.push(MethodType {
         name,
         package: EXPORTED,
-        of,
+        of: TEXT_FUNCTION,
     })?;
     Ok(methods)
 }
