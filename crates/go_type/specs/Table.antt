@@ -1,5 +1,5 @@
 -- The types that are held. Go specification, "Types" and "Underlying types".
-use Rattle.std.specs.Prelude.{ℕ, ◌<◌, ◌^◌, Bool, List, [], ◌∷◌, ◌++◌, if◌then◌else◌, false, length, Option, Some, None, slice_get, slice_set, unwrap_or, map}
+use Rattle.std.specs.Prelude.{ℕ, ◌==◌, ◌<◌, ◌^◌, Bool, List, [], ◌∷◌, ◌++◌, if◌then◌else◌, false, length, Option, Some, None, slice_get, slice_set, unwrap_or, map}
 use Rattle.std.specs.List.{list_any, position_or_len, repeat}
 use Rattle.go_base.specs.declared.ids.NameId.{NameId}
 use Rattle.go_base.specs.declared.ids.TypeId.{TypeId}
@@ -12,11 +12,12 @@ use Rattle.go_type.specs.declared.methods.MethodEntry.{MethodEntry}
 use Rattle.go_type.specs.declared.types.Definition.{Definition}
 use Rattle.go_type.specs.contracts.term.TypeTermPartialEq.TheImpl as generated
 
--- the number of a type's id is the place of its term; a declared type has a definition too
+-- the number of a type's id is the place of its term; a declared type has a definition too; `blank` is the id of the name `_`, once it is known
 pub record Table : Type 0 where
   pub terms : List TypeTerm
   pub definitions : List Definition
   pub error : TypeId
+  pub blank : Option NameId
 
 abbrev pub same_term : TypeTerm → TypeTerm → Bool
 same_term = generated.ghosts.eq
@@ -38,6 +39,7 @@ with_next term types = record {
   terms = types.terms ++ term ∷ [];
   definitions = types.definitions ++ no_definition ∷ [];
   error = types.error;
+  blank = types.blank;
 }
 
 abbrev pub with_term : TypeTerm → Table → Table
@@ -68,6 +70,17 @@ with_method id method types =
 abbrev pub FieldsFit : TypeTerm → Type 0
 FieldsFit (Struct fields) = length fields < 2 ^ 32
 FieldsFit _ = Unit {0}
+
+abbrev pub is_name : Option NameId → NameId → Bool
+is_name None name = false
+is_name (Some blank) name = blank.number == name.number
+
+-- whether a name is `_`
+abbrev pub is_blank : Table → NameId → Bool
+is_blank types name = is_name types.blank name
+
+abbrev pub with_blank : NameId → Table → Table
+with_blank name types = record types { blank = Some name }
 
 -- ---- the predeclared types
 
@@ -130,4 +143,4 @@ first_definitions = repeat 19 (no_definition ∷ []) ++ record { underlying = So
 
 -- the basic types, `func() string`, the interface of `error`, and `error`
 unfoldable pub predeclared : NameId → NameId → Table
-predeclared error method = record { terms = first_terms error method; definitions = first_definitions; error = record { number = 19 } }
+predeclared error method = record { terms = first_terms error method; definitions = first_definitions; error = record { number = 19 }; blank = None }

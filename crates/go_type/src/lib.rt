@@ -15,13 +15,9 @@ mod methods;
 mod operators;
 mod representable;
 mod selectors;
-#[cfg(test)]
-mod shapes;
 mod sights;
 mod sizes;
 mod term;
-#[cfg(test)]
-mod tests;
 mod types;
 
 pub use assigning::{assignable, implements};

@@ -159,7 +159,7 @@ fn add_method(
     named: TypeId,
     entry: MethodEntry,
 ) -> Result<TypeId, Fail> {
-    assert!(rt; types.can_add_method(named, entry.name, entry.package));
+    assert!(rt; types.can_add_method(named, &entry));
     types.add_method(named, entry)?;
     Ok(named)
 }

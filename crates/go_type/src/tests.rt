@@ -473,8 +473,6 @@ fn conditions(rt: HostRuntime) -> Result<(), Fail> {
     }
     let past = TypeId { number: 100_000 };
     assert!(rt; !types.can_hold(&TypeTerm::Pointer(past)));
-    assert!(rt; !types.can_add_method(named, NameId { number: 4 }, EXPORTED));
-    assert!(rt; types.can_add_method(named, NameId { number: 5 }, EXPORTED));
     Ok(())
 }
 

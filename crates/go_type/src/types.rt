@@ -1,10 +1,11 @@
 //! The types of a program, each held once. Go specification, "Types", "Type identity" and "Underlying types".
 
-ghost use Rattle.std.specs.Prelude.{◌≡◌, ◌==◌, ◌<◌, ◌↔◌, IsTrue, length, IfOk, OnOk, OnErr, Some, None, false, [], ◌∷◌, slice_get, option_copied, IfSome, is_some};
+ghost use Rattle.std.specs.Prelude.{◌≡◌, ◌==◌, ◌<◌, ◌↔◌, IsTrue, length, IfOk, OnOk, OnErr, Some, None, false, true, [], ◌∷◌, slice_get, option_copied, IfSome, is_some};
 ghost use Rattle.std.specs.List.{list_any, IsDistinct, fold};
 ghost use Rattle.go_type.specs.Conditions.{is_holdable, CanDefine, takes_method};
+ghost use Rattle.go_type.specs.Held.{IsHeld, names_below, is_ordered};
 ghost use Rattle.go_type.specs.Identity.{Identical};
-ghost use Rattle.go_type.specs.Table.{FieldsFit, predeclared, with_basic, basic_id, text_function, first_definitions, exported_method, place_of, id_of, with_term, with_next, same_term, underlying_of, with_underlying, with_method, term_at, definition_at};
+ghost use Rattle.go_type.specs.Table.{FieldsFit, predeclared, with_basic, basic_id, text_function, first_definitions, exported_method, is_blank, with_blank, place_of, id_of, with_term, with_next, same_term, underlying_of, with_underlying, with_method, term_at, definition_at};
 ghost use Rattle.go_type.specs.declared.term.TypeTerm.TheVariants.{Basic as Plain, Declared, Func};
 
 use crate::kinds::basic;
@@ -40,6 +41,8 @@ pub struct Types {
     terms: IndexSet<TypeTerm>,
     definitions: Vec<Definition>,
     error: TypeId,
+    /// The id of the name `_`.
+    blank: Option<NameId>,
 }
 
 impl Model for Types {
@@ -48,11 +51,11 @@ impl Model for Types {
 
     ghost Value = { Table };
 
-    ghost view = { λ t. record { terms = t.terms.keys; definitions = t.definitions.items; error = t.error } };
+    ghost view = { λ t. record { terms = t.terms.keys; definitions = t.definitions.items; error = t.error; blank = t.blank } };
 
     ghost use Rattle.go_type.specs.Held.{IsHeld};
 
-    ghost invariant = { λ t. IsHeld (record { terms = t.terms.keys; definitions = t.definitions.items; error = t.error }) };
+    ghost invariant = { λ t. IsHeld (record { terms = t.terms.keys; definitions = t.definitions.items; error = t.error; blank = t.blank }) };
 }
 
 impl Definition {
@@ -85,24 +88,31 @@ impl Types {
             terms,
             definitions: first_definitions(alloc)?,
             error: ERROR,
+            blank: None,
         })
+    }
+
+    /// Tells which name is `_`. Until then none is.
+    pub fn set_blank(&mut self, name: NameId)
+        ensures { self.new ≡ with_blank name self.old }
+    {
+        self.blank = Some(name);
+    }
+
+    /// Whether a name is `_`.
+    pub fn is_blank(&self, name: NameId) -> bool
+        ensures { result ≡ is_blank self.now name }
+    {
+        match self.blank {
+            Some(blank) => blank == name,
+            None => false,
+        }
     }
 
     /// The id of a type: that which it has, or else the next. Types that are held keep their ids, and identical types
     /// have one id. After `NoMemory` the types are as before. `can_hold` tells whether a type may be held.
     pub fn hold(&mut self, term: TypeTerm) -> Result<TypeId, NoMemory>
         requires { IsTrue (is_holdable self.old term) }
-        ensures ok { IfOk result (λ id. id.number ≡ place_of term self.old) }
-        ensures named { IfOk result (λ id. term_at self.new id ≡ Some term) }
-        ensures held { OnOk result (self.new ≡ with_term term self.old) }
-        ensures err { OnErr result (self.new ≡ self.old) }
-    {
-        self.enter(term)
-    }
-
-    /// The id of a type: that which it has, or else the next. After `NoMemory` the types are as before.
-    fn enter(&mut self, term: TypeTerm) -> Result<TypeId, NoMemory>
-        requires { FieldsFit term }
         ensures ok { IfOk result (λ id. id.number ≡ place_of term self.old) }
         ensures named { IfOk result (λ id. term_at self.new id ≡ Some term) }
         ensures held { OnOk result (self.new ≡ with_term term self.old) }
@@ -119,6 +129,8 @@ impl Types {
     /// Holds a type that is not held.
     fn add(&mut self, term: TypeTerm) -> Result<TypeId, NoMemory>
         requires fields { FieldsFit term }
+        requires parts { names_below (length self.old.terms) term ≡ true }
+        requires ordered { is_ordered term ≡ true }
         requires next { list_any (same_term term) self.old.terms ≡ false }
         ensures ok { IfOk result (λ id. id.number ≡ length self.old.terms) }
         ensures held { OnOk result (self.new ≡ with_next term self.old) }
@@ -175,34 +187,26 @@ impl Types {
         requires { CanDefine self.old id underlying }
         ensures { self.new ≡ with_underlying id underlying self.old }
     {
-        self.set_underlying(id, underlying);
-    }
-
-    fn set_underlying(&mut self, id: TypeId, underlying: TypeId)
-        requires { id.number < length self.old.terms }
-        ensures { self.new ≡ with_underlying id underlying self.old }
-    {
         let definition = &mut self.definitions[id.number as usize];
         definition.underlying = Some(underlying);
     }
 
     /// Gives a declared type one more method. After `NoMemory` the types are as before. `can_add_method` tells whether
-    /// it may have a method of that name.
+    /// it may have it.
     pub fn add_method(&mut self, id: TypeId, method: MethodEntry) -> Result<(), NoMemory>
-        requires { IsTrue (takes_method self.old id method.name method.«package») }
-        ensures ok { OnOk result (self.new ≡ with_method id method self.old) }
-        ensures err { OnErr result (self.new ≡ self.old) }
-    {
-        self.push_method(id, method)
-    }
-
-    fn push_method(&mut self, id: TypeId, method: MethodEntry) -> Result<(), NoMemory>
-        requires { id.number < length self.old.terms }
+        requires { IsTrue (takes_method self.old id method) }
         ensures ok { OnOk result (self.new ≡ with_method id method self.old) }
         ensures err { OnErr result (self.new ≡ self.old) }
     {
         let definition = &mut self.definitions[id.number as usize];
         definition.methods.push(method)
+    }
+
+    /// What holds of all types that are held.
+    pub fn laws(&self)
+        ensures { IsHeld self.now }
+    {
+        let _held = &self.terms;
     }
 
     /// What the types take their memory from.
@@ -244,7 +248,8 @@ impl Types {
     /// The term of a type.
     pub fn term(&self, id: TypeId) -> &TypeTerm
         requires { id.number < length self.now.terms }
-        ensures { term_at self.now id ≡ Some result.now }
+        ensures term { term_at self.now id ≡ Some result.now }
+        ensures parts { names_below id.number result.now ≡ true }
     {
         &self.terms.as_slice()[id.number as usize]
     }
@@ -303,6 +308,7 @@ impl Types {
             terms: copy_terms(alloc, self.terms.as_slice())?,
             definitions: copy_definitions(alloc, self.definitions.as_slice())?,
             error: self.error,
+            blank: self.blank,
         })
     }
 }
