@@ -24,18 +24,18 @@ use Rattle.go_type.proofs.Places.{at_place}
 use Rattle.go_type.proofs.Comparables.{comparable_in_bound}
 use Rattle.go_type.proofs.Reaching.{reaches_in_bound}
 
-self_same : (id : TypeId) → same_id id id ≡ true
+pub self_same : (id : TypeId) → same_id id id ≡ true
 self_same id = (same_id-Decides id id).1 refl
 
-or_left : (b c : Bool) → b ≡ true → b || c ≡ true
+pub or_left : (b c : Bool) → b ≡ true → b || c ≡ true
 or_left true c h = refl
 or_left false c h = absurd (true≢false (sym h))
 
-or_right : (b c : Bool) → c ≡ true → b || c ≡ true
+pub or_right : (b c : Bool) → c ≡ true → b || c ≡ true
 or_right true c h = refl
 or_right false c h = h
 
-which : (b c : Bool) → b || c ≡ true → (b ≡ true) ⊎ (c ≡ true)
+pub which : (b c : Bool) → b || c ≡ true → (b ≡ true) ⊎ (c ≡ true)
 which true c h = inl refl
 which false c h = inr h
 
@@ -48,7 +48,7 @@ seen_after old more x h = list_any-append (same_id x) old more ∙ or_right _ _ 
 seen_which : (old more : List TypeId) (x : TypeId) → is_seen (old ++ more) x ≡ true → (is_seen old x ≡ true) ⊎ (is_seen more x ≡ true)
 seen_which old more x h = which (is_seen old x) (is_seen more x) (sym (list_any-append (same_id x) old more) ∙ h)
 
-all_mono : {X : Type 0} (p q : X → Bool) → ((x : X) → p x ≡ true → q x ≡ true) → (xs : List X) → list_all p xs ≡ true → list_all q xs ≡ true
+pub all_mono : {X : Type 0} (p q : X → Bool) → ((x : X) → p x ≡ true → q x ≡ true) → (xs : List X) → list_all p xs ≡ true → list_all q xs ≡ true
 all_mono p q h [] e = refl
 all_mono p q h (x ∷ xs) e = let parts = both (p x) (list_all p xs) e in each (q x) (list_all q xs) (h x parts.0) (all_mono p q h xs parts.1)
 
@@ -56,7 +56,7 @@ all_append : {X : Type 0} (p : X → Bool) (xs ys : List X) → list_all p xs �
 all_append p [] ys h k = k
 all_append p (x ∷ xs) ys h k = let parts = both (p x) (list_all p xs) h in each (p x) (list_all p (xs ++ ys)) parts.0 (all_append p xs ys parts.1 k)
 
-all_at : (p : TypeId → Bool) (ids : List TypeId) (x : TypeId) → list_all p ids ≡ true → is_seen ids x ≡ true → p x ≡ true
+pub all_at : (p : TypeId → Bool) (ids : List TypeId) (x : TypeId) → list_all p ids ≡ true → is_seen ids x ≡ true → p x ≡ true
 all_at p [] x h at = absurd (true≢false (sym at))
 all_at p (y ∷ ids) x h at = by (which (same_id x y) (is_seen ids x) at) (all_at p ids x (both (p y) (list_all p ids) h).1)
   where
@@ -64,12 +64,12 @@ all_at p (y ∷ ids) x h at = by (which (same_id x y) (is_seen ids x) at) (all_a
     by (inl same) rest = ap p ((same_id-Decides x y).0 same) ∙ (both (p y) (list_all p ids) h).0
     by (inr later) rest = rest later
 
-seen_at : (ids : List TypeId) (k : ℕ) (x : TypeId) → slice_get ids k ≡ Some x → is_seen ids x ≡ true
+pub seen_at : (ids : List TypeId) (k : ℕ) (x : TypeId) → slice_get ids k ≡ Some x → is_seen ids x ≡ true
 seen_at [] k x h = cc
 seen_at (y ∷ ids) zero x h = let is : y ≡ x = cc in or_left _ _ (ap (same_id x) is ∙ self_same x)
 seen_at (y ∷ ids) (suc k) x h = or_right (same_id x y) _ (seen_at ids k x h)
 
-get_before : (old more : List TypeId) (k : ℕ) → k < length old → slice_get (old ++ more) k ≡ slice_get old k
+pub get_before : {X : Type 0} (old more : List X) (k : ℕ) → k < length old → slice_get (old ++ more) k ≡ slice_get old k
 get_before [] more k h = absurd (omega arith)
 get_before (y ∷ old) more zero h = refl
 get_before (y ∷ old) more (suc k) h = let less : k < length old = omega arith in get_before old more k less
@@ -174,7 +174,7 @@ reached_all types a n ids reached most = record {
 
 -- ---- what is comparable
 
-any_seen : (p : TypeId → Bool) (ids : List TypeId) → list_any p ids ≡ true → (x : TypeId) × ((is_seen ids x ≡ true) × (p x ≡ true))
+pub any_seen : (p : TypeId → Bool) (ids : List TypeId) → list_any p ids ≡ true → (x : TypeId) × ((is_seen ids x ≡ true) × (p x ≡ true))
 any_seen p [] h = absurd (true≢false (sym h))
 any_seen p (y ∷ ids) h = by (which (p y) (list_any p ids) h) (any_seen p ids)
   where
@@ -208,7 +208,7 @@ by_part p (Some (Plain kind)) h = inl (plain_alone p kind h)
 by_part p (Some _) h = inl h
 by_part p None h = inl h
 
-any_at : (p : TypeId → Bool) (ids : List TypeId) (y : TypeId) → is_seen ids y ≡ true → p y ≡ true → list_any p ids ≡ true
+pub any_at : (p : TypeId → Bool) (ids : List TypeId) (y : TypeId) → is_seen ids y ≡ true → p y ≡ true → list_any p ids ≡ true
 any_at p [] y at py = absurd (true≢false (sym at))
 any_at p (z ∷ ids) y at py = side (which (same_id y z) (is_seen ids y) at) (λ later. any_at p ids y later py)
   where
@@ -262,12 +262,12 @@ module _ (types : Table) (counts : length types.definitions ≡ length types.ter
 
 -- ---- what may be defined
 
-by_inline : (id : TypeId) (p : TypeId → Bool) (t : Option TypeTerm) → has_inline id p t ≡ true → list_any (λ y. same_id id y || p y) (inline_parts t) ≡ true
+pub by_inline : (id : TypeId) (p : TypeId → Bool) (t : Option TypeTerm) → has_inline id p t ≡ true → list_any (λ y. same_id id y || p y) (inline_parts t) ≡ true
 by_inline id p (Some (Array len elem)) h = or_left _ _ h
 by_inline id p (Some (Struct fields)) h = sym (any_field (λ y. same_id id y || p y) fields) ∙ h
 by_inline id p _ h = h
 
-inline_of : (id : TypeId) (p : TypeId → Bool) (t : Option TypeTerm) (y : TypeId) → is_seen (inline_parts t) y ≡ true → same_id id y || p y ≡ true → has_inline id p t ≡ true
+pub inline_of : (id : TypeId) (p : TypeId → Bool) (t : Option TypeTerm) (y : TypeId) → is_seen (inline_parts t) y ≡ true → same_id id y || p y ≡ true → has_inline id p t ≡ true
 inline_of id p (Some (Array len elem)) y at py = part_of (λ z. same_id id z || p z) (Some (Array len elem)) y at py
 inline_of id p (Some (Struct fields)) y at py = part_of (λ z. same_id id z || p z) (Some (Struct fields)) y at py
 inline_of id p _ y at py = absurd (true≢false (sym at))

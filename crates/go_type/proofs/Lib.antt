@@ -3,6 +3,8 @@ pub mod SameTerm
 pub mod Places
 pub mod Distinct
 pub mod Predeclared
+pub mod Leading
+pub mod Kept
 pub mod IdenticalTypes
 pub mod Saturate
 pub mod Comparables

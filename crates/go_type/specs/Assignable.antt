@@ -1,13 +1,15 @@
 -- When a value of one type may be assigned to another, and which types implement an interface. Go specification,
 -- "Assignability" and "Implementing an interface".
-use Rattle.std.specs.Prelude.{Bool, true, false, not, ◌&&◌, Option, Some, IsTrue, ◌⊎◌}
+use Rattle.std.specs.Prelude.{Bool, true, false, not, ◌&&◌, Option, Some, None, IsTrue, ◌⊎◌}
 use Rattle.std.specs.List.{All}
 use Rattle.go_base.specs.declared.ids.TypeId.{TypeId}
 use Rattle.go_type.specs.declared.members.Member.{Member}
+use Rattle.go_type.specs.declared.term.Basic.{Basic}
+use Rattle.go_type.specs.declared.term.Basic.TheVariants as basic
 use Rattle.go_type.specs.declared.term.Dir.TheVariants as dir
 use Rattle.go_type.specs.declared.term.MethodType.{MethodType}
 use Rattle.go_type.specs.declared.term.TypeTerm.{TypeTerm}
-use Rattle.go_type.specs.declared.term.TypeTerm.TheVariants.{Basic as Plain, Declared, Chan, Interface}
+use Rattle.go_type.specs.declared.term.TypeTerm.TheVariants.{Basic as Plain, Declared, Chan, Interface, Tuple, Iter}
 use Rattle.go_type.specs.Identity.{Identical}
 use Rattle.go_type.specs.MethodSets.{HasMember}
 use Rattle.go_type.specs.Table.{Table, term_at, underlying_of}
@@ -46,6 +48,26 @@ HasLikeUnderlying types from to =
 abbrev pub IsOneUnnamed : Table → TypeId → TypeId → Type 0
 IsOneUnnamed types from to = IsTrue (not (is_named (term_at types from) && is_named (term_at types to)))
 
-abbrev pub Assignable : Table → TypeId → TypeId → Type 0
-Assignable types from to =
+-- values of tuples, of the states of ranges and of untyped constants are no typed values
+abbrev pub is_untyped : Basic → Bool
+is_untyped basic.UntypedBool = true
+is_untyped basic.UntypedInt = true
+is_untyped basic.UntypedRune = true
+is_untyped basic.UntypedText = true
+is_untyped basic.UntypedNil = true
+is_untyped _ = false
+
+abbrev pub has_values : Option TypeTerm → Bool
+has_values (Some (Plain kind)) = not (is_untyped kind)
+has_values (Some (Tuple parts)) = false
+has_values (Some (Iter over)) = false
+has_values (Some _) = true
+has_values None = false
+
+abbrev pub Fits : Table → TypeId → TypeId → Type 0
+Fits types from to =
     Identical types from to ⊎ ((HasLikeUnderlying types from to × IsOneUnnamed types from to) ⊎ Implements types from to)
+
+-- whether a typed value of one type may be assigned to another
+abbrev pub Assignable : Table → TypeId → TypeId → Type 0
+Assignable types from to = IsTrue (has_values (term_at types from)) × Fits types from to

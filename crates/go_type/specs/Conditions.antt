@@ -1,9 +1,12 @@
 -- What may be held, defined and added. Go specification, "Types", "Type declarations" and "Method declarations".
-use Rattle.std.specs.Prelude.{◌≡◌, ℕ, zero, suc, ◌^◌, nat_lt, Bool, true, false, not, ◌&&◌, ◌||◌, List, [], ◌∷◌, length, Option, Some, is_some, IsTrue}
+use Rattle.std.specs.Prelude.{◌≡◌, ℕ, zero, suc, ◌^◌, ◌==◌, nat_lt, Bool, true, false, not, ◌&&◌, ◌||◌, List, [], ◌∷◌, length, Option, Some, is_some, IsTrue}
 use Rattle.std.specs.List.{list_any, list_all}
 use Rattle.std.specs.Ordering.{is_lt}
 use Rattle.go_base.specs.declared.ids.NameId.{NameId}
 use Rattle.go_base.specs.declared.ids.TypeId.{TypeId}
+use Rattle.go_type.specs.declared.methods.MethodEntry.{MethodEntry}
+use Rattle.go_type.specs.declared.methods.SelectionKind.{SelectionKind}
+use Rattle.go_type.specs.declared.methods.SelectionKind.TheVariants as kind
 use Rattle.go_type.specs.declared.term.Field.{Field}
 use Rattle.go_type.specs.declared.term.MethodType.{MethodType}
 use Rattle.go_type.specs.declared.term.TypeTerm.{TypeTerm}
@@ -12,7 +15,7 @@ use Rattle.go_type.specs.MethodSets.{by_name}
 use Rattle.go_type.specs.Same.{same_id}
 use Rattle.go_type.specs.Selector.{is_wanted}
 use Rattle.go_type.specs.Sizes.{is_declared}
-use Rattle.go_type.specs.Table.{Table, term_at, definition_at, underlying_of}
+use Rattle.go_type.specs.Table.{Table, term_at, definition_at, underlying_of, is_blank}
 
 -- ---- what may be held
 
@@ -71,8 +74,23 @@ is_definable types id underlying =
 abbrev pub CanDefine : Table → TypeId → TypeId → Type 0
 CanDefine types id underlying = IsTrue (is_definable types id underlying) × ((n : ℕ) → reaches_to n types id underlying ≡ false)
 
--- ---- what may be added: a method of a name that a declared type has none of
+-- ---- what may be added: a method of a name that a declared type has none of, or of the name `_`
 
-abbrev pub takes_method : Table → TypeId → NameId → ℕ → Bool
-takes_method types id name of =
-    is_declared (term_at types id) && not (list_any (λ m. is_wanted (record { name = name; «package» = of }) m.name m.package) (definition_at types id).methods)
+abbrev pub is_function : Option TypeTerm → Bool
+is_function (Some (Func signature)) = true
+is_function _ = false
+
+abbrev pub is_method_kind : SelectionKind → Bool
+is_method_kind (kind.Method function) = true
+is_method_kind _ = false
+
+-- a method that is declared of a type: a function, by an empty path, whose type is a function type
+abbrev pub is_own_method : Table → MethodEntry → Bool
+is_own_method types method = is_method_kind method.kind && (length method.path == 0) && is_function (term_at types method.of)
+
+abbrev pub has_name : NameId → ℕ → List MethodEntry → Bool
+has_name name of methods = list_any (λ m. is_wanted (record { name = name; «package» = of }) m.name m.package) methods
+
+abbrev pub takes_method : Table → TypeId → MethodEntry → Bool
+takes_method types id method =
+    is_declared (term_at types id) && is_own_method types method && (is_blank types method.name || not (has_name method.name method.package (definition_at types id).methods))

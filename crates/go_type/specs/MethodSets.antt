@@ -12,12 +12,13 @@ use Rattle.go_type.specs.declared.methods.SelectionKind.TheVariants as kind
 use Rattle.go_type.specs.declared.term.TypeTerm.{TypeTerm}
 use Rattle.go_type.specs.declared.term.TypeTerm.TheVariants.{Interface}
 use Rattle.go_type.specs.Selector.{is_wanted, Finds, is_declared_pointer}
-use Rattle.go_type.specs.Table.{Table, term_at, definition_at, underlying_of}
+use Rattle.go_type.specs.Table.{Table, term_at, definition_at, underlying_of, is_blank}
 
--- a method that a name selects belongs to the set; one with a pointer receiver, where the type is a pointer or an embedded pointer leads to it
+-- a method that a name other than `_` selects belongs to the set; one with a pointer receiver, where the type is a pointer or an embedded pointer leads to it
 abbrev pub HasMember : Table → TypeId → Wanted → Member → Type 0
 HasMember types a wanted member =
     Finds types wanted a (Ok member) × (member.kind ≢ kind.Field) × (is_declared_pointer types a ≡ false) × (member.pointer ≡ true → member.indirect ≡ true)
+    × (is_blank types wanted.name ≡ false)
 
 abbrev pub name_of : MethodEntry → Wanted
 name_of entry = record { name = entry.name; «package» = entry.package }

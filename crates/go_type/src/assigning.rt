@@ -3,7 +3,7 @@
 
 ghost use Rattle.std.specs.Prelude.{◌≡◌, ◌↔◌, IsTrue};
 ghost use Rattle.std.specs.List.{All};
-ghost use Rattle.go_type.specs.Assignable.{Assignable, Implements, HasMethodOf, is_named, underlying_term_of, Narrows};
+ghost use Rattle.go_type.specs.Assignable.{Assignable, Fits, has_values, is_untyped, Implements, HasMethodOf, is_named, underlying_term_of, Narrows};
 ghost use Rattle.go_type.specs.Table.{term_at, underlying_of};
 ghost use Rattle.go_type.specs.Identity.{Identical};
 
@@ -11,15 +11,46 @@ use crate::members::Wanted;
 use crate::methods::SelectionKind;
 use crate::selectors::is_declared_pointer;
 use crate::sights::{Sight, sight_of};
-use crate::term::{Dir, MethodType, TypeTerm};
+use crate::term::{Basic, Dir, MethodType, TypeTerm};
 use crate::types::{Types, identical};
 use go_base::TypeId;
 
-/// Whether a value of one type may be assigned to a variable of another: the types are identical; or their underlying
+/// Whether a typed value of one type may be assigned to a variable of another: the types are identical; or their underlying
 /// types are and one is not named; or the second is an interface that the first implements; or the first is a channel
-/// for both directions, the second a channel of an identical element type, and one of them is not named.
+/// for both directions, the second a channel of an identical element type, and one of them is not named. A tuple and an
+/// untyped constant are no typed values.
 pub fn assignable(types: &Types, from: TypeId, to: TypeId) -> bool
     ensures { IsTrue result ↔ Assignable types.now from to }
+{
+    has_values(types, from) && fits(types, from, to)
+}
+
+/// Whether a type is that of typed values: no tuple, no state of a range and no kind of untyped constants.
+fn has_values(types: &Types, id: TypeId) -> bool
+    ensures { result ≡ has_values (term_at types.now id) }
+{
+    match types.get(id) {
+        Some(TypeTerm::Basic(basic)) => !is_untyped(*basic),
+        Some(TypeTerm::Tuple(_) | TypeTerm::Iter(_)) | None => false,
+        Some(_) => true,
+    }
+}
+
+fn is_untyped(basic: Basic) -> bool
+    ensures { result ≡ is_untyped basic }
+{
+    matches!(
+        basic,
+        Basic::UntypedBool
+            | Basic::UntypedInt
+            | Basic::UntypedRune
+            | Basic::UntypedText
+            | Basic::UntypedNil
+    )
+}
+
+fn fits(types: &Types, from: TypeId, to: TypeId) -> bool
+    ensures { IsTrue result ↔ Fits types.now from to }
 {
     identical(types, from, to)
         || ((has_underlying_of(types, from, to) || is_narrowing(types, from, to))
@@ -87,6 +118,9 @@ fn has_methods(types: &Types, a: TypeId, methods: &[MethodType]) -> bool
 fn has_method(types: &Types, a: TypeId, method: &MethodType) -> bool
     ensures { IsTrue result ↔ HasMethodOf types.now a method.now }
 {
+    if types.is_blank(method.name) {
+        return false;
+    }
     let wanted = Wanted {
         name: method.name,
         package: method.package,

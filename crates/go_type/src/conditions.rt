@@ -2,15 +2,14 @@
 
 ghost use Rattle.std.specs.Prelude.{◌≡◌, ◌↔◌, ◌||◌, IsTrue};
 ghost use Rattle.std.specs.List.{list_any, list_all};
-ghost use Rattle.go_type.specs.Conditions.{is_held, are_fields, are_methods, ascends, precedes, is_holdable, is_definable, reaches_to, CanDefine, takes_method};
+ghost use Rattle.go_type.specs.Conditions.{is_held, are_fields, are_methods, ascends, precedes, is_holdable, is_definable, reaches_to, CanDefine, takes_method, is_own_method, has_name};
 ghost use Rattle.go_type.specs.Same.{same_id};
-ghost use Rattle.go_type.specs.Selector.{is_wanted};
 ghost use Rattle.go_type.specs.Sizes.{is_declared};
 ghost use Rattle.go_type.specs.Table.{term_at};
 
 use crate::inline::inline_types;
 use crate::members::Wanted;
-use crate::methods::MethodEntry;
+use crate::methods::{MethodEntry, SelectionKind};
 use crate::term::{Field, MethodType, TypeTerm};
 use crate::types::Types;
 use go_base::{NameId, TypeId};
@@ -83,11 +82,23 @@ impl Types {
         is_ascending(methods)
     }
 
-    /// Whether a type is a declared one without a method of a name.
-    pub fn can_add_method(&self, id: TypeId, name: NameId, of: u32) -> bool
-        ensures { result ≡ takes_method self.now id name of }
+    /// Whether a type may have one more method: it is a declared type without a method of that name, which is no
+    /// constraint on the name `_`, and the method is a function, with an empty path, whose type is a function type.
+    pub fn can_add_method(&self, id: TypeId, method: &MethodEntry) -> bool
+        ensures { result ≡ takes_method self.now id method.now }
     {
-        self.is_declared_type(id) && !has_name(self.methods(id), name, of)
+        self.is_declared_type(id)
+            && self.is_own_method(method)
+            && (self.is_blank(method.name)
+                || !has_name(self.methods(id), method.name, method.package))
+    }
+
+    fn is_own_method(&self, method: &MethodEntry) -> bool
+        ensures { result ≡ is_own_method self.now method.now }
+    {
+        matches!(method.kind, SelectionKind::Method(_))
+            && method.path.is_empty()
+            && matches!(self.get(method.of), Some(TypeTerm::Func(_)))
     }
 
     /// Whether a type is a declared one.
@@ -146,7 +157,7 @@ fn is_below(method: &MethodType, rest: &[MethodType]) -> bool
 }
 
 fn has_name(methods: &[MethodEntry], name: NameId, of: u32) -> bool
-    ensures { result ≡ list_any (λ m. is_wanted (record { name = name; «package» = of }) m.name m.«package») methods.now }
+    ensures { result ≡ has_name name of methods.now }
 {
     let wanted = Wanted { name, package: of };
     for method in methods {

@@ -1,6 +1,7 @@
 //! Widths and signs of integer types. Go specification, "Numeric types".
 
 ghost use Rattle.std.specs.Prelude.{◌≡◌, true, false};
+ghost use Rattle.go_type.specs.Table.{basic_id};
 ghost use Rattle.go_type.specs.Kinds.{kind_of, kind_of_basic};
 
 use crate::term::{Basic, TypeTerm};
@@ -28,6 +29,15 @@ impl IntKind {
             bits,
             signed: false,
         }
+    }
+}
+
+/// The id of a basic type, which is the same in all `Types`.
+pub const fn basic(kind: Basic) -> TypeId
+    ensures { result ≡ basic_id kind }
+{
+    TypeId {
+        number: kind as u64,
     }
 }
 

@@ -15,13 +15,9 @@ mod methods;
 mod operators;
 mod representable;
 mod selectors;
-#[cfg(test)]
-mod shapes;
 mod sights;
 mod sizes;
 mod term;
-#[cfg(test)]
-mod tests;
 mod types;
 
 pub use assigning::{assignable, implements};
@@ -29,7 +25,7 @@ pub use comparing::comparable;
 pub use constants::{
     Const, ConstError, ConstOp, IntFault, int_binary, int_shift, join, same_value, value_order,
 };
-pub use kinds::{IntKind, int_kind};
+pub use kinds::{IntKind, basic, int_kind};
 pub use lists::{Fields, MethodTypes, TypeIds};
 pub use method_sets::method_set;
 pub use methods::{MethodEntry, MethodSet, Path, SelectError, Selection, SelectionKind};
@@ -37,5 +33,5 @@ pub use operators::{BinaryOp, Builtin, CompareOp, UnaryOp};
 pub use representable::represent;
 pub use selectors::find_selector;
 pub use sizes::{MAX_LEAVES, MAX_NESTING, is_nested_within, leaves_up_to};
-pub use term::{Basic, Dir, EXPORTED, Field, MethodType, Signature, TypeName, TypeTerm};
+pub use term::{ALL_BASIC, Basic, Dir, EXPORTED, Field, MethodType, Signature, TypeName, TypeTerm};
 pub use types::{Definition, Types, identical};

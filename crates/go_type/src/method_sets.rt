@@ -20,7 +20,7 @@ use std::collections::BTreeSet;
 
 /// The methods of a type, its own and those of embedded fields, ascending by the number of the name's id, then by
 /// package. A method whose receiver is a pointer is one of the method set where the type is a pointer, or an embedded
-/// pointer leads to it.
+/// pointer leads to it. Methods named `_` are in no method set.
 pub fn method_set(alloc: Global, types: &Types, a: TypeId) -> Result<MethodSet, NoMemory>
     ensures sound { IfOk result (All (IsMethod types.now a)) }
     ensures complete { IfOk result (HasEach types.now a) }
@@ -53,6 +53,9 @@ fn method_of(
 ) -> Result<Option<MethodEntry>, NoMemory>
     ensures { IfOk result (IsEntryOf types.now a wanted) }
 {
+    if types.is_blank(wanted.name) {
+        return Ok(None);
+    }
     let member = match find_member(alloc, types, a, wanted) {
         Ok(member) => member,
         Err(SelectError::OutOfMemory) => return Err(NoMemory),

@@ -1,6 +1,7 @@
 //! What a selector selects. Go specification, "Selectors" and "Struct types".
 
-ghost use Rattle.std.specs.Prelude.{◌≡◌, ◌<◌, zero, length, map, IfOk};
+ghost use Rattle.std.specs.Prelude.{◌≡◌, ◌<◌, zero, length, map, IfOk, true, false};
+ghost use Rattle.go_type.specs.Table.{is_blank};
 ghost use Rattle.go_type.specs.Selector.{SelectsFrom, Finds, IsFirst, is_declared_pointer};
 ghost use Rattle.go_type.specs.Levels.{found_of};
 
@@ -15,7 +16,7 @@ use std::alloc::Global;
 /// The field or method of a name at the least depth of a type, or of what a pointer type points to. `Absent` exactly
 /// where there is none, and `Ambiguous` exactly where there are two or more at the least depth, with the paths of the
 /// first two. A declared type that is a pointer has the fields of what it points to, and no methods. The name belongs
-/// to the package `of`.
+/// to the package `of`. The name `_` selects nothing.
 pub fn find_selector(
     alloc: Global,
     types: &Types,
@@ -23,9 +24,18 @@ pub fn find_selector(
     name: NameId,
     of: u32,
 ) -> Result<Selection, SelectError>
-    ensures { SelectsFrom types.now (record { name = name; «package» = of }) a result }
+    ensures blank { is_blank types.now name ≡ true → result ≡ Err SelectError.Absent }
+    ensures found { is_blank types.now name ≡ false → SelectsFrom types.now (record { name = name; «package» = of }) a result }
 {
-    let wanted = Wanted { name, package: of };
+    if types.is_blank(name) {
+        return Err(SelectError::Absent);
+    }
+    select(alloc, types, a, Wanted { name, package: of })
+}
+
+fn select(alloc: Global, types: &Types, a: TypeId, wanted: Wanted) -> Result<Selection, SelectError>
+    ensures { SelectsFrom types.now wanted a result }
+{
     let member = match find_member(alloc, types, a, wanted) {
         Ok(member) => member,
         Err(error) => return Err(error),

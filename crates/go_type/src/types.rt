@@ -1,12 +1,14 @@
 //! The types of a program, each held once. Go specification, "Types", "Type identity" and "Underlying types".
 
-ghost use Rattle.std.specs.Prelude.{◌≡◌, ◌==◌, ◌<◌, ◌↔◌, IsTrue, length, IfOk, OnOk, OnErr, Some, None, false, [], ◌∷◌, slice_get, option_copied, IfSome, is_some};
+ghost use Rattle.std.specs.Prelude.{◌≡◌, ◌==◌, ◌<◌, ◌↔◌, IsTrue, length, IfOk, OnOk, OnErr, Some, None, false, true, [], ◌∷◌, slice_get, option_copied, IfSome, is_some};
 ghost use Rattle.std.specs.List.{list_any, IsDistinct, fold};
 ghost use Rattle.go_type.specs.Conditions.{is_holdable, CanDefine, takes_method};
+ghost use Rattle.go_type.specs.Held.{IsHeld, names_below, is_ordered};
 ghost use Rattle.go_type.specs.Identity.{Identical};
-ghost use Rattle.go_type.specs.Table.{FieldsFit, predeclared, with_basic, basic_types, with_error, exported_method, place_of, with_term, with_next, same_term, underlying_of, with_underlying, with_method, term_at, definition_at};
-ghost use Rattle.go_type.specs.declared.term.TypeTerm.TheVariants.{Declared};
+ghost use Rattle.go_type.specs.Table.{FieldsFit, predeclared, with_basic, basic_id, text_function, first_definitions, exported_method, is_blank, with_blank, place_of, id_of, with_term, with_next, same_term, underlying_of, with_underlying, with_method, term_at, definition_at};
+ghost use Rattle.go_type.specs.declared.term.TypeTerm.TheVariants.{Basic as Plain, Declared, Func};
 
+use crate::kinds::basic;
 use crate::lists::{MethodTypes, TypeIds};
 use crate::methods::{MethodEntry, MethodSet};
 use crate::term::{ALL_BASIC, Basic, EXPORTED, MethodType, Signature, TypeName, TypeTerm};
@@ -14,6 +16,13 @@ use go_base::{NameId, NoMemory, TypeId};
 use indexmap::IndexSet;
 use std::alloc::Global;
 use std::marker::Model;
+
+/// The predeclared types that are not basic: `func() string`, the interface of `error`, and `error`.
+const TEXT_FUNCTION: TypeId = TypeId { number: 17 };
+
+const ERROR_INTERFACE: TypeId = TypeId { number: 18 };
+
+const ERROR: TypeId = TypeId { number: 19 };
 
 /// What is declared of a type.
 #[derive(Debug, Drop)]
@@ -32,6 +41,8 @@ pub struct Types {
     terms: IndexSet<TypeTerm>,
     definitions: Vec<Definition>,
     error: TypeId,
+    /// The id of the name `_`.
+    blank: Option<NameId>,
 }
 
 impl Model for Types {
@@ -40,11 +51,11 @@ impl Model for Types {
 
     ghost Value = { Table };
 
-    ghost view = { λ t. record { terms = t.terms.keys; definitions = t.definitions.items; error = t.error } };
+    ghost view = { λ t. record { terms = t.terms.keys; definitions = t.definitions.items; error = t.error; blank = t.blank } };
 
     ghost use Rattle.go_type.specs.Held.{IsHeld};
 
-    ghost invariant = { λ t. IsHeld t.terms.keys t.definitions.items };
+    ghost invariant = { λ t. IsHeld (record { terms = t.terms.keys; definitions = t.definitions.items; error = t.error; blank = t.blank }) };
 }
 
 impl Definition {
@@ -64,67 +75,44 @@ impl Types {
     pub fn new(alloc: Global, error: NameId, method: NameId) -> Result<Types, NoMemory>
         ensures { IfOk result (λ types. types ≡ predeclared error method) }
     {
-        let mut types = Types::with_basic(alloc)?;
-        let text = types.enter(TypeTerm::Basic(Basic::Text))?;
-        let signature = types.enter(TypeTerm::Func(text_of_nothing(alloc, text)?))?;
-        let interface = types.enter(TypeTerm::Interface(one_method(alloc, method, signature)?))?;
-        types.declare_error(error, interface)?;
-        Ok(types)
-    }
-
-    /// The basic types.
-    fn with_basic(alloc: Global) -> Result<Types, NoMemory>
-        ensures { IfOk result (λ types. types ≡ basic_types) }
-    {
-        let mut types = Types {
-            alloc,
-            terms: IndexSet::new(alloc),
-            definitions: Vec::new(alloc),
-            error: TypeId { number: 0 },
-        };
-        types.hold_all(&ALL_BASIC)?;
-        Ok(types)
-    }
-
-    fn hold_all(&mut self, basics: &[Basic]) -> Result<(), NoMemory>
-        ensures { OnOk result (self.new ≡ fold with_basic self.old basics.now) }
-    {
-        for basic in basics {
-            self.enter(TypeTerm::Basic(*basic))?;
-        }
-        Ok(())
-    }
-
-    /// Declares the type `error` of an interface.
-    #[tactic(auto, unfolding(crate::specs::Table::with_error))]
-    fn declare_error(&mut self, name: NameId, interface: TypeId) -> Result<(), NoMemory>
-        ensures { OnOk result (self.new ≡ with_error name interface self.old) }
-    {
-        let id = self.enter(TypeTerm::Declared(TypeName {
-            name,
+        let mut terms = basic_terms(alloc, &ALL_BASIC)?;
+        terms.insert(TypeTerm::Func(text_of_nothing(alloc)?))?;
+        terms.insert(TypeTerm::Interface(one_method(alloc, method)?))?;
+        terms.insert(TypeTerm::Declared(TypeName {
+            name: error,
             package: EXPORTED,
             number: 0,
         }))?;
-        self.set_underlying(id, interface);
-        self.error = id;
-        Ok(())
+        Ok(Types {
+            alloc,
+            terms,
+            definitions: first_definitions(alloc)?,
+            error: ERROR,
+            blank: None,
+        })
+    }
+
+    /// Tells which name is `_`. Until then none is.
+    pub fn set_blank(&mut self, name: NameId)
+        ensures { self.new ≡ with_blank name self.old }
+    {
+        self.blank = Some(name);
+    }
+
+    /// Whether a name is `_`.
+    pub fn is_blank(&self, name: NameId) -> bool
+        ensures { result ≡ is_blank self.now name }
+    {
+        match self.blank {
+            Some(blank) => blank == name,
+            None => false,
+        }
     }
 
     /// The id of a type: that which it has, or else the next. Types that are held keep their ids, and identical types
     /// have one id. After `NoMemory` the types are as before. `can_hold` tells whether a type may be held.
     pub fn hold(&mut self, term: TypeTerm) -> Result<TypeId, NoMemory>
         requires { IsTrue (is_holdable self.old term) }
-        ensures ok { IfOk result (λ id. id.number ≡ place_of term self.old) }
-        ensures named { IfOk result (λ id. term_at self.new id ≡ Some term) }
-        ensures held { OnOk result (self.new ≡ with_term term self.old) }
-        ensures err { OnErr result (self.new ≡ self.old) }
-    {
-        self.enter(term)
-    }
-
-    /// The id of a type: that which it has, or else the next. After `NoMemory` the types are as before.
-    fn enter(&mut self, term: TypeTerm) -> Result<TypeId, NoMemory>
-        requires { FieldsFit term }
         ensures ok { IfOk result (λ id. id.number ≡ place_of term self.old) }
         ensures named { IfOk result (λ id. term_at self.new id ≡ Some term) }
         ensures held { OnOk result (self.new ≡ with_term term self.old) }
@@ -141,6 +129,8 @@ impl Types {
     /// Holds a type that is not held.
     fn add(&mut self, term: TypeTerm) -> Result<TypeId, NoMemory>
         requires fields { FieldsFit term }
+        requires parts { names_below (length self.old.terms) term ≡ true }
+        requires ordered { is_ordered term ≡ true }
         requires next { list_any (same_term term) self.old.terms ≡ false }
         ensures ok { IfOk result (λ id. id.number ≡ length self.old.terms) }
         ensures held { OnOk result (self.new ≡ with_next term self.old) }
@@ -172,6 +162,19 @@ impl Types {
         self.add(TypeTerm::Declared(name))
     }
 
+    /// The id of a type's term. None where that is not held.
+    pub fn find(&self, term: &TypeTerm) -> Option<TypeId>
+        ensures id { result ≡ id_of term.now self.now }
+        ensures named { IfSome result (λ id. term_at self.now id ≡ Some term.now) }
+    {
+        match self.terms.get_index_of(term) {
+            Some(index) => Some(TypeId {
+                number: index as u64,
+            }),
+            None => None,
+        }
+    }
+
     /// Whether a declared type has this name.
     pub fn is_declared(&self, name: TypeName) -> bool
         ensures { result ≡ list_any (same_term (Declared name)) self.now.terms }
@@ -184,34 +187,26 @@ impl Types {
         requires { CanDefine self.old id underlying }
         ensures { self.new ≡ with_underlying id underlying self.old }
     {
-        self.set_underlying(id, underlying);
-    }
-
-    fn set_underlying(&mut self, id: TypeId, underlying: TypeId)
-        requires { id.number < length self.old.terms }
-        ensures { self.new ≡ with_underlying id underlying self.old }
-    {
         let definition = &mut self.definitions[id.number as usize];
         definition.underlying = Some(underlying);
     }
 
     /// Gives a declared type one more method. After `NoMemory` the types are as before. `can_add_method` tells whether
-    /// it may have a method of that name.
+    /// it may have it.
     pub fn add_method(&mut self, id: TypeId, method: MethodEntry) -> Result<(), NoMemory>
-        requires { IsTrue (takes_method self.old id method.name method.«package») }
-        ensures ok { OnOk result (self.new ≡ with_method id method self.old) }
-        ensures err { OnErr result (self.new ≡ self.old) }
-    {
-        self.push_method(id, method)
-    }
-
-    fn push_method(&mut self, id: TypeId, method: MethodEntry) -> Result<(), NoMemory>
-        requires { id.number < length self.old.terms }
+        requires { IsTrue (takes_method self.old id method) }
         ensures ok { OnOk result (self.new ≡ with_method id method self.old) }
         ensures err { OnErr result (self.new ≡ self.old) }
     {
         let definition = &mut self.definitions[id.number as usize];
         definition.methods.push(method)
+    }
+
+    /// What holds of all types that are held.
+    pub fn laws(&self)
+        ensures { IsHeld self.now }
+    {
+        let _held = &self.terms;
     }
 
     /// What the types take their memory from.
@@ -242,10 +237,19 @@ impl Types {
         self.error
     }
 
+    /// The term of a basic type, which stands at its place.
+    pub fn basic_term(&self, kind: Basic) -> &TypeTerm
+        ensures term { result.now ≡ Plain kind }
+        ensures place { term_at self.now (basic_id kind) ≡ Some (Plain kind) }
+    {
+        &self.terms.as_slice()[basic(kind).number as usize]
+    }
+
     /// The term of a type.
     pub fn term(&self, id: TypeId) -> &TypeTerm
         requires { id.number < length self.now.terms }
-        ensures { term_at self.now id ≡ Some result.now }
+        ensures term { term_at self.now id ≡ Some result.now }
+        ensures parts { names_below id.number result.now ≡ true }
     {
         &self.terms.as_slice()[id.number as usize]
     }
@@ -304,6 +308,7 @@ impl Types {
             terms: copy_terms(alloc, self.terms.as_slice())?,
             definitions: copy_definitions(alloc, self.definitions.as_slice())?,
             error: self.error,
+            blank: self.blank,
         })
     }
 }
@@ -317,12 +322,41 @@ pub fn identical(types: &Types, a: TypeId, b: TypeId) -> bool
     a == b
 }
 
-/// `func() string`, of the type `string`.
-fn text_of_nothing(alloc: Global, text: TypeId) -> Result<Signature, NoMemory>
-    ensures { IfOk result (λ signature. signature ≡ record { params = []; results = text ∷ []; variadic = false }) }
+/// The terms of basic types.
+fn basic_terms(alloc: Global, basics: &[Basic]) -> Result<IndexSet<TypeTerm>, NoMemory>
+    ensures { IfOk result (λ terms. terms.keys ≡ fold with_basic [] basics.now) }
+{
+    let mut terms = IndexSet::new(alloc);
+    for basic in basics {
+        terms.insert(TypeTerm::Basic(*basic))?;
+    }
+    Ok(terms)
+}
+
+/// The definitions of the predeclared types, of which `error` alone has one.
+fn first_definitions(alloc: Global) -> Result<Vec<Definition>, NoMemory>
+    ensures { IfOk result (λ definitions. definitions.items ≡ first_definitions) }
+{
+    let mut definitions = Vec::new(alloc);
+    for _ in 0..ERROR.number {
+        definitions.push(Definition {
+            underlying: None,
+            methods: MethodSet::new(alloc),
+        })?;
+    }
+    definitions.push(Definition {
+        underlying: Some(ERROR_INTERFACE),
+        methods: MethodSet::new(alloc),
+    })?;
+    Ok(definitions)
+}
+
+/// `func() string`.
+fn text_of_nothing(alloc: Global) -> Result<Signature, NoMemory>
+    ensures { IfOk result (λ signature. Func signature ≡ text_function) }
 {
     let mut results = TypeIds::new(alloc);
-    results.push(text)?;
+    results.push(basic(Basic::Text))?;
     Ok(Signature {
         params: TypeIds::new(alloc),
         results,
@@ -330,15 +364,15 @@ fn text_of_nothing(alloc: Global, text: TypeId) -> Result<Signature, NoMemory>
     })
 }
 
-/// An exported method alone.
-fn one_method(alloc: Global, name: NameId, of: TypeId) -> Result<MethodTypes, NoMemory>
-    ensures { IfOk result (λ methods. methods ≡ exported_method name of ∷ []) }
+/// The method of `error`.
+fn one_method(alloc: Global, name: NameId) -> Result<MethodTypes, NoMemory>
+    ensures { IfOk result (λ methods. methods ≡ exported_method name (record { number = 17 }) ∷ []) }
 {
     let mut methods = MethodTypes::new(alloc);
     methods.push(MethodType {
         name,
         package: EXPORTED,
-        of,
+        of: TEXT_FUNCTION,
     })?;
     Ok(methods)
 }

@@ -1,6 +1,10 @@
-use Rattle.go_type.specs.Same.{both}
-use Rattle.go_type.proofs.Held.{declared_held}
+use Rattle.go_type.proofs.Kept.{held_either, writes_either}
 use Rattle.go_type.proofs.types.Types.add_method.Goals as goal
 
-pub push_method-requires : goal.push_method-requires
-push_method-requires c = declared_held c.args.self.now c.args.id (both _ _ c.requires).0
+pub invariant_of-self : goal.invariant_of-self
+invariant_of-self c =
+    held_either _ c.args.self.now c.self.view_is c.self.invariant c.args.id c.args.method c.index_mut-definition.result.now c.push.new.self c.push.result c.requires c.index_mut-definition.ensures.value c.push.ensures.ok c.push.ensures.err
+
+pub returns-clause-ok : goal.returns-clause-ok
+returns-clause-ok c =
+    writes_either _ c.args.self.now c.self.view_is c.self.invariant c.args.id c.args.method c.index_mut-definition.result.now c.push.new.self c.push.result c.requires c.index_mut-definition.ensures.value c.push.ensures.ok

@@ -1,6 +1,12 @@
-use Rattle.go_type.specs.Same.{both}
-use Rattle.go_type.proofs.Held.{declared_held}
+use Rattle.std.proofs.Common.{sym, subst}
+use Rattle.go_type.specs.Held.{IsHeld}
+use Rattle.go_type.proofs.Kept.{writes_underlying, held_underlying}
 use Rattle.go_type.proofs.types.Types.define.Goals as goal
 
-pub set_underlying-requires : goal.set_underlying-requires
-set_underlying-requires c = declared_held c.args.self.now c.args.id (both _ _ (both _ _ (both _ _ c.requires.0).0).0).0
+pub invariant_of-self : goal.invariant_of-self
+invariant_of-self c =
+    subst IsHeld (sym (writes_underlying _ c.args.self.now c.self.view_is c.self.invariant c.args.id c.args.underlying c.index_mut-definition.result.now c.requires (λ h. c.index_mut-definition.ensures.value)))
+    (held_underlying _ c.args.self.now c.self.view_is c.self.invariant c.args.id c.args.underlying c.requires)
+
+pub returns : goal.returns
+returns c = writes_underlying _ c.args.self.now c.self.view_is c.self.invariant c.args.id c.args.underlying c.index_mut-definition.result.now c.requires (λ h. c.index_mut-definition.ensures.value)

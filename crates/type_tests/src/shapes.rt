@@ -1,10 +1,10 @@
 //! Tables of types for the tests.
 
-use crate::{
+use go_base::{Bytes, FuncId, NameId, TypeId};
+use go_type::{
     Basic, Dir, EXPORTED, Field, Fields, MethodEntry, MethodType, MethodTypes, Path, SelectionKind,
     Signature, TypeIds, TypeName, TypeTerm, Types,
 };
-use go_base::{Bytes, FuncId, NameId, TypeId};
 use std::alloc::Global;
 use std::process::Abort;
 use std::test::Fail;
@@ -84,7 +84,28 @@ pub fn build(
     alloc: Global,
     table: &[Shape],
 ) -> Result<(Types, Vec<TypeId>), Fail> {
+    build_on(rt, alloc, Types::new(alloc, ERROR, ERROR_METHOD)?, table)
+}
+
+/// The same, where a name is `_`.
+pub fn build_with_blank(
+    rt: &impl Abort,
+    alloc: Global,
+    blank: NameId,
+    table: &[Shape],
+) -> Result<(Types, Vec<TypeId>), Fail> {
     let mut types = Types::new(alloc, ERROR, ERROR_METHOD)?;
+    types.set_blank(blank);
+    build_on(rt, alloc, types, table)
+}
+
+fn build_on(
+    rt: &impl Abort,
+    alloc: Global,
+    types: Types,
+    table: &[Shape],
+) -> Result<(Types, Vec<TypeId>), Fail> {
+    let mut types = types;
     let mut ids = Vec::new(alloc);
     for shape in table {
         let id = add(rt, alloc, &mut types, ids.as_slice(), shape)?;
@@ -142,7 +163,8 @@ fn define(
     Ok(named)
 }
 
-fn method(alloc: Global, name: u64, of: TypeId, pointer: bool) -> MethodEntry {
+/// A method of a function type.
+pub fn method(alloc: Global, name: u64, of: TypeId, pointer: bool) -> MethodEntry {
     MethodEntry {
         name: NameId { number: name },
         package: EXPORTED,
@@ -159,7 +181,7 @@ fn add_method(
     named: TypeId,
     entry: MethodEntry,
 ) -> Result<TypeId, Fail> {
-    assert!(rt; types.can_add_method(named, entry.name, entry.package));
+    assert!(rt; types.can_add_method(named, &entry));
     types.add_method(named, entry)?;
     Ok(named)
 }

@@ -1,0 +1,6 @@
+//! The Go specification's examples, by concern.
+
+mod constants;
+mod relations;
+mod selections;
+mod tables;
