@@ -7,8 +7,6 @@ mod flags;
 mod packages;
 mod reader;
 mod settings;
-#[cfg(test)]
-mod tests;
 mod values;
 
 pub use command::{Choices, Command, CommandError, Graph, Letters, LoadCommand};

@@ -8,6 +8,3 @@ mod stop;
 
 pub use parser::parse;
 pub use stop::ParseError;
-
-#[cfg(test)]
-mod tests;

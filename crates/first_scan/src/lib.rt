@@ -8,6 +8,3 @@ mod scanner;
 
 pub use error::ScanError;
 pub use scanner::{one_cut, scan};
-
-#[cfg(test)]
-mod tests;

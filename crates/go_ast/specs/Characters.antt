@@ -4,7 +4,7 @@ use Rattle.std.specs.List.{list_all}
 use Rattle.bstr.specs.Utf8.{decoded}
 use Rattle.unicode.specs.GeneralCategory.{general_category, general_category_eq}
 use Rattle.unicode.specs.GeneralCategoryGroup.{in_group}
-use Rattle.unicode.specs.declared.properties.GeneralCategory.TheVariants.{DecimalNumber}
+use Rattle.unicode.specs.declared.properties.GeneralCategory.TheVariants.{DecimalNumber, UppercaseLetter}
 use Rattle.unicode.specs.declared.properties.GeneralCategoryGroup.TheVariants.{Letter}
 
 -- the categories Lu, Ll, Lt, Lm and Lo, and `_`
@@ -31,6 +31,14 @@ is_source_character c = not (c == 0) && not (c == 65279)
 abbrev pub passes : (ℕ → Bool) → Option ℕ → Bool
 passes test None = false
 passes test (Some c) = test c
+
+-- the category Lu
+abbrev pub is_capital : ℕ → Bool
+is_capital c = general_category_eq (general_category c) UppercaseLetter
+
+-- whether a name is exported: it begins with a capital. Go specification, "Exported identifiers"
+abbrev pub is_exported : List ℕ → Bool
+is_exported name = passes is_capital (decoded name).char
 
 -- the number of bytes of the character at the head of a text, where it passes
 abbrev pub passing : (ℕ → Bool) → List ℕ → Option ℕ

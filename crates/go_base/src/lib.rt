@@ -16,8 +16,6 @@ mod real_files;
 mod real_sink;
 mod rule;
 mod target;
-#[cfg(test)]
-mod tests;
 mod text;
 
 pub use devices::{FileError, Files, PrintError, Sink, SinkError};

@@ -1,6 +1,7 @@
 //! The names of a program, each held once.
 
-ghost use Rattle.std.specs.Prelude.{◌≡◌, [], ◌++◌, ◌∷◌, List, ℕ, Some, IfOk, OnErr, OnOk, slice_get, option_map};
+ghost use Rattle.std.specs.Prelude.{◌≡◌, ◌==◌, [], ◌++◌, ◌∷◌, List, ℕ, Some, IfOk, OnErr, OnOk, slice_get, option_map, length, map, position, string_bytes};
+ghost use Rattle.std.specs.Str.{bytes_eq};
 ghost use Rattle.go_base.specs.NameTable.{with_text, place_of, AreDistinct};
 
 use crate::ids::NameId;
@@ -69,4 +70,51 @@ impl Names {
         let text = self.texts.get_index(id.number as usize)?;
         Some(text.as_str())
     }
+
+    /// How many names there are.
+    pub fn len(&self) -> usize
+        ensures { result ≡ length self.now }
+    {
+        self.texts.len()
+    }
+
+    /// Whether there are none.
+    pub fn is_empty(&self) -> bool
+        ensures { result ≡ (length self.now == 0) }
+    {
+        self.texts.len() == 0
+    }
+
+    /// The id of a text. None exactly where it is not held.
+    pub fn find(&self, text: &str) -> Option<NameId>
+        ensures { option_map (λ id. id.number) result ≡ position (bytes_eq text.now) self.now }
+    {
+        match self.texts.get_index_of(text) {
+            Some(index) => Some(NameId {
+                number: index as u64,
+            }),
+            None => None,
+        }
+    }
+
+    /// The same names, with the same ids.
+    pub fn copy(&self, alloc: Global) -> Result<Names, NoMemory>
+        ensures { IfOk result (λ copy. copy ≡ self.now) }
+    {
+        Ok(Names {
+            alloc,
+            texts: copy_texts(alloc, self.texts.as_slice())?,
+        })
+    }
+}
+
+fn copy_texts(alloc: Global, texts: &[String]) -> Result<IndexSet<String>, NoMemory>
+    requires { AreDistinct (map string_bytes texts.now) }
+    ensures { IfOk result (λ copy. map string_bytes copy.keys ≡ map string_bytes texts.now) }
+{
+    let mut copy = IndexSet::new(alloc);
+    for text in texts {
+        copy.insert(String::from_str(alloc, text.as_str())?)?;
+    }
+    Ok(copy)
 }

@@ -1,7 +1,7 @@
 //! The rules that a program can break, each with its code and its text.
 
 ghost use Rattle.std.specs.Prelude.{◌≡◌};
-ghost use Rattle.go_base.specs.Rules.{code_of, text_of};
+ghost use Rattle.go_base.specs.Rules.{code_of, row_of, text_of};
 
 /// A rule that a program can break. The groups come in the order of the codes: lexical (`L`), loading (`M`),
 /// syntax (`S`), names and types (`N`), constants (`K`), expressions and statements (`E`), bodies (`B`), the whole
@@ -308,6 +308,85 @@ impl Rule {
             Rule::NoMainFunction => "O2",
             Rule::NotAMainPackage => "O3",
             Rule::NotBuiltYet => "X1",
+        }
+    }
+
+    /// The row of the rule in the table of rules, from 0: of two rules that are broken at one place, the lower row is named.
+    pub fn row(self) -> u32
+        ensures { result ≡ row_of self }
+    {
+        match self {
+            Rule::InvalidSourceByte => 0,
+            Rule::UnexpectedCharacter => 1,
+            Rule::CommentNotClosed => 2,
+            Rule::NotAnIntegerLiteral => 3,
+            Rule::BadRuneLiteral => 4,
+            Rule::StringLiteralNotClosed => 5,
+            Rule::BadEscape => 6,
+            Rule::MalformedGoMod => 7,
+            Rule::GoVersionNotSupported => 8,
+            Rule::NoSuchPackage => 9,
+            Rule::NoGoFiles => 10,
+            Rule::FileTooLarge => 11,
+            Rule::ProgramTooLarge => 12,
+            Rule::SecondPackageName => 13,
+            Rule::ImportOfAProgram => 14,
+            Rule::ImportCycle => 15,
+            Rule::SyntaxError => 16,
+            Rule::NestedTooDeeply => 17,
+            Rule::RedeclaredInThisBlock => 18,
+            Rule::Undefined => 19,
+            Rule::WrongKindOfName => 20,
+            Rule::BadInitOrMain => 21,
+            Rule::BadReceiver => 22,
+            Rule::DuplicateFieldOrMethod => 23,
+            Rule::InvalidRecursiveType => 24,
+            Rule::BadEmbeddedType => 25,
+            Rule::MapKeyNotComparable => 26,
+            Rule::BadArrayLength => 27,
+            Rule::TypeTooLarge => 28,
+            Rule::DeclarationRefersToItself => 29,
+            Rule::NotAConstant => 30,
+            Rule::FunctionWithoutBody => 31,
+            Rule::ConstantOutOfRange => 32,
+            Rule::DivisionByZero => 33,
+            Rule::BadShift => 34,
+            Rule::NotAssignable => 35,
+            Rule::BadOperand => 36,
+            Rule::NotComparable => 37,
+            Rule::CannotAssign => 38,
+            Rule::CannotTakeAddress => 39,
+            Rule::NotAFunction => 40,
+            Rule::WrongNumberOfValues => 41,
+            Rule::NoSuchFieldOrMethod => 42,
+            Rule::AmbiguousSelector => 43,
+            Rule::ReceiverNotAddressable => 44,
+            Rule::BadIndex => 45,
+            Rule::BadSlice => 46,
+            Rule::BadTypeAssertion => 47,
+            Rule::BadConversion => 48,
+            Rule::BadCompositeLiteral => 49,
+            Rule::UseOfUntypedNil => 50,
+            Rule::BadBuiltInCall => 51,
+            Rule::ResultNotUsed => 52,
+            Rule::NoNewVariable => 53,
+            Rule::ResultHiddenAtReturn => 54,
+            Rule::BadRange => 55,
+            Rule::BadCase => 56,
+            Rule::BadChannelOperation => 57,
+            Rule::BadGoOrDefer => 58,
+            Rule::ConditionNotBoolean => 59,
+            Rule::BadUseOfDots => 60,
+            Rule::LabelNotUsed => 61,
+            Rule::BadLabel => 62,
+            Rule::MissingReturn => 63,
+            Rule::VariableNotUsed => 64,
+            Rule::ImportNotUsed => 65,
+            Rule::BreakOrContinueMisplaced => 66,
+            Rule::InitialisationCycle => 67,
+            Rule::NoMainFunction => 68,
+            Rule::NotAMainPackage => 69,
+            Rule::NotBuiltYet => 70,
         }
     }
 }

@@ -141,10 +141,9 @@ finished (Some files) now target limit dir root result same d m h =
 
 -- ---- what `load` says
 
-pub loaded_is : (tree : Option Tree) (target : Target) (sources : Sources) → AreTold tree (files_of sources) → IfSome tree (λ files. IsAnswer files target max_program_bytes (Ok sources)) → IsLoaded tree target (files_of sources)
+pub loaded_is : (tree : Option Tree) (target : Target) (sources : Sources) → AreTold tree (files_of sources) → IfSome tree (λ files. IsAnswer files target max_program_bytes (Ok sources)) → IsLoaded tree target sources
 loaded_is None target sources told h = record { told = told; program = tt }
-loaded_is (Some files) target sources told h =
-    record { told = told; program = record { project = h.project; packages = h.packages; project_is = h.project_is; result = h.result; files_are = h.sources_are.files } }
+loaded_is (Some files) target sources told h = record { told = told; program = h }
 
 pub stopped_is : (tree : Option Tree) (target : Target) (error : LoadError) → Stops tree error → IfSome tree (λ files. IsAnswer files target max_program_bytes (Err error)) → HasStopped tree target error
 stopped_is None target (Refused place rule) why h = record { cause = why; first = tt }

@@ -7,7 +7,6 @@ use Rattle.go_base.specs.declared.target.Target.{Target}
 use Rattle.go_base.specs.declared.target.Target.TheVariants as targets
 use Rattle.go_load.specs.declared.error.LoadError.{LoadError}
 use Rattle.go_load.specs.declared.error.LoadError.TheVariants.{Refused, ReadFault, OutOfMemory}
-use Rattle.go_load.specs.declared.sources.SourceFile.{SourceFile}
 use Rattle.go_load.specs.declared.program.Sources.{Sources}
 use Rattle.go_load.specs.Finding.{listed}
 use Rattle.go_load.specs.Loading.{broken, minor_of, view_source, files_from, headers_from, all_imports}
@@ -84,18 +83,11 @@ lone_project name bytes = record { files = (name, bytes) ∷ []; root = None; ta
 
 -- ---- of files alone, and of those that are not told
 
--- files are those of the program that the target has
-pub record AreProgramFiles (files : Tree) (target : Target) (sources : List SourceFile) : Type 0 where
-  pub project : Project
-  pub packages : List Package
-  pub project_is : IsProjectOf files target max_program_bytes project
-  pub result : IsResult project (Ok packages)
-  pub files_are : map view_source sources ≡ files_from 0 packages
-
--- what a program that was loaded is
-pub record IsLoaded (files : Option Tree) (target : Target) (sources : List SourceFile) : Type 0 where
-  pub told : AreTold files sources
-  pub program : IfSome files (λ tree. AreProgramFiles tree target sources)
+-- What a program that was loaded is: each file has the bytes that the files tell for its path, or is that of a built-in
+-- package; and where files are told, these are the packages of the target's program, with their files and imports.
+pub record IsLoaded (files : Option Tree) (target : Target) (sources : Sources) : Type 0 where
+  pub told : AreTold files (files_of sources)
+  pub program : IfSome files (λ tree. AreSourcesOf tree target max_program_bytes sources)
 
 -- the rule that the files break first, and the place
 pub record Breaks (files : Option Tree) (target : Target) (place : Place) (rule : Rule) : Type 0 where

@@ -22,7 +22,7 @@ use std::alloc::Global;
 
 /// Loads the target and all that it imports.
 pub fn load<F: Files>(alloc: Global, files: &mut F, target: &Target) -> Result<Sources, LoadError>
-    ensures loaded { IfOk result (λ sources. IsLoaded (F.tree files.old) target.now (files_of sources)) }
+    ensures loaded { IfOk result (IsLoaded (F.tree files.old) target.now) }
     ensures stopped { IfErr result (HasStopped (F.tree files.old) target.now) }
     ensures fault { IsErrOf result LoadError.ReadFault → HasFaulted (F.faults files.old) (F.faults files.new) }
     ensures later { F.faults files.old ≤ F.faults files.new }

@@ -1,7 +1,7 @@
 //! Letters, digits, and runs of them. Go specification, "Letters and digits".
 
 ghost use Rattle.std.specs.Prelude.{◌≡◌, is_some};
-ghost use Rattle.go_ast.specs.Characters.{is_letter, is_digit, passing};
+ghost use Rattle.go_ast.specs.Characters.{is_letter, is_digit, is_capital, is_exported, passing};
 ghost use Rattle.go_scan.specs.Reach.{run_length};
 ghost use Rattle.go_scan.specs.Runs.{allows};
 
@@ -29,6 +29,23 @@ pub fn is_digit(c: char) -> bool
     ensures { result ≡ is_digit c }
 {
     GeneralCategory::for_char(c) == GeneralCategory::DecimalNumber
+}
+
+/// Whether a character is a capital: of the category Lu.
+fn is_capital(c: char) -> bool
+    ensures { result ≡ is_capital c }
+{
+    GeneralCategory::for_char(c) == GeneralCategory::UppercaseLetter
+}
+
+/// Whether a name is exported: a capital begins it. Go specification, "Exported identifiers".
+pub fn is_exported(name: &[u8]) -> bool
+    ensures { result ≡ is_exported name.now }
+{
+    match decode_utf8(name) {
+        (Some(c), _) => is_capital(c),
+        (None, _) => false,
+    }
 }
 
 /// Whether a run may hold a character.

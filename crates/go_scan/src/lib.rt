@@ -14,10 +14,8 @@ mod runes;
 mod scanner;
 mod words;
 
+pub use characters::is_exported;
 pub use integers::int_value;
 pub use pieces::is_literal;
 pub use runes::{rune_value, string_value};
 pub use scanner::{ScanError, scan};
-
-#[cfg(test)]
-mod tests;

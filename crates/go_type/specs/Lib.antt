@@ -13,3 +13,6 @@ pub mod MethodSets
 pub mod Assignable
 pub mod Sizes
 pub mod Conditions
+pub mod Operators
+pub mod Kinds
+pub mod Values

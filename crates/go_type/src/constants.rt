@@ -2,18 +2,66 @@
 
 ghost use Rattle.std.specs.Prelude.{◌≡◌, ◌↔◌, ◌+◌, ◌<◌, ◌^◌, ℕ, pos, ◌*ℤ◌, ◌≤ℤ◌, ◌++◌, length, IfOk, IsErrOf, ok_or, unsigned_abs};
 ghost use Rattle.std.specs.Int.{int_shr};
+ghost use Rattle.go_type.specs.Values.{order_of, rank_of, is_same_value};
 ghost use Rattle.go_type.specs.Constants.{in_range, int_result, shifted, value_of, max_text};
 
 use go_base::{Bytes, NoMemory};
 use std::alloc::Global;
+use std::cmp::Ordering;
 
-/// The value of a constant.
-#[derive(Debug, Drop)]
+/// The value of a constant. `==` tells an integer from a rune; `same_value` does not.
+#[derive(Debug, Drop, PartialEq, Eq)]
 pub enum Const {
     Int(i128),
     Rune(i128),
     Text(Bytes),
     Truth(bool),
+}
+
+impl Const {
+    /// The same constant once more.
+    pub fn copy(&self, alloc: Global) -> Result<Const, NoMemory>
+        ensures { IfOk result (λ copy. copy ≡ self.now) }
+    {
+        Ok(match self {
+            Const::Int(number) => Const::Int(*number),
+            Const::Rune(number) => Const::Rune(*number),
+            Const::Text(bytes) => {
+                Const::Text(Bytes::new(Vec::from_slice(alloc, bytes.as_slice())?))
+            }
+            Const::Truth(truth) => Const::Truth(*truth),
+        })
+    }
+}
+
+/// The order of the values of constants: integers and runes by their numbers, then texts by their bytes, then `false`
+/// and `true`. The integer 97 and the rune 'a' are one value.
+pub fn value_order(a: &Const, b: &Const) -> Ordering
+    ensures { result ≡ order_of a.now b.now }
+{
+    match (a, b) {
+        (Const::Int(x) | Const::Rune(x), Const::Int(y) | Const::Rune(y)) => x.cmp(y),
+        (Const::Text(x), Const::Text(y)) => x.as_slice().cmp(&y.as_slice()),
+        (Const::Truth(x), Const::Truth(y)) => x.cmp(y),
+        _ => rank(a).cmp(&rank(b)),
+    }
+}
+
+fn rank(value: &Const) -> u8
+    ensures { result ≡ rank_of value.now }
+{
+    match value {
+        Const::Int(_) | Const::Rune(_) => 0,
+        Const::Text(_) => 1,
+        Const::Truth(_) => 2,
+    }
+}
+
+/// Whether two constants are one value, as two typed constants that are 97 and 'a' are.
+pub fn same_value(a: &Const, b: &Const) -> bool
+    ensures { result ≡ is_same_value a.now b.now }
+{
+    value_order(a, b).is_eq()
 }
 
 /// The operators on integers.

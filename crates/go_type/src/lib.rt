@@ -6,11 +6,13 @@ mod comparing;
 mod conditions;
 mod constants;
 mod inline;
+mod kinds;
 mod levels;
 mod lists;
 mod members;
 mod method_sets;
 mod methods;
+mod operators;
 mod representable;
 mod selectors;
 #[cfg(test)]
@@ -24,10 +26,14 @@ mod types;
 
 pub use assigning::{assignable, implements};
 pub use comparing::comparable;
-pub use constants::{Const, ConstError, ConstOp, IntFault, int_binary, int_shift, join};
+pub use constants::{
+    Const, ConstError, ConstOp, IntFault, int_binary, int_shift, join, same_value, value_order,
+};
+pub use kinds::{IntKind, int_kind};
 pub use lists::{Fields, MethodTypes, TypeIds};
 pub use method_sets::method_set;
 pub use methods::{MethodEntry, MethodSet, Path, SelectError, Selection, SelectionKind};
+pub use operators::{BinaryOp, Builtin, CompareOp, UnaryOp};
 pub use representable::represent;
 pub use selectors::find_selector;
 pub use sizes::{MAX_LEAVES, MAX_NESTING, is_nested_within, leaves_up_to};

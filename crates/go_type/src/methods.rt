@@ -1,6 +1,6 @@
 //! Methods and selections. Go specification, "Method sets" and "Selectors".
 
-ghost use Rattle.std.specs.Prelude.{◌≡◌, ◌++◌, ◌∷◌, [], OnOk, OnErr, IfOk, reverse};
+ghost use Rattle.std.specs.Prelude.{◌≡◌, ◌==◌, ◌<◌, ◌+◌, ◌-◌, ◌^◌, ◌↔◌, IsTrue, length, slice_get, slice_index, slice_set, ◌++◌, ◌∷◌, [], OnOk, OnErr, IfOk, reverse};
 
 use go_base::{FuncId, NameId, NoMemory, TypeId};
 use std::alloc::Global;
@@ -44,6 +44,48 @@ impl Path {
         ensures { result.now ≡ self.now }
     {
         self.steps.as_slice()
+    }
+
+    /// How many steps there are.
+    pub fn len(&self) -> usize
+        ensures { result ≡ length self.now }
+    {
+        self.steps.len()
+    }
+
+    /// Whether there are none.
+    pub fn is_empty(&self) -> bool
+        ensures { result ≡ (length self.now == 0) }
+    {
+        self.steps.is_empty()
+    }
+
+    /// The last step.
+    pub fn last(&self) -> Option<u32>
+        ensures { result ≡ slice_get self.now (length self.now - 1) }
+    {
+        self.steps.last().copied()
+    }
+
+    /// Adds a number to the last step. `can_add_to_last` tells whether there is one and the sum fits.
+    pub fn add_to_last(&mut self, by: u32)
+        requires some { 0 < length self.old }
+        requires fits { slice_index self.old (length self.old - 1) + by < 2 ^ 32 }
+        ensures { let last = length self.old - 1 in self.new ≡ slice_set self.old last (slice_index self.old last + by) }
+    {
+        let last = self.steps.len() - 1;
+        self.steps[last] += by;
+    }
+
+    /// Whether there is a last step, and its sum with a number has 32 bits.
+    pub fn can_add_to_last(&self, by: u32) -> bool
+        ensures { IsTrue result ↔ ((0 < length self.now) × (slice_index self.now (length self.now - 1) + by < 2 ^ 32)) }
+    {
+        if self.steps.is_empty() {
+            return false;
+        }
+        let last = self.steps.len() - 1;
+        self.steps[last] <= u32::MAX - by
     }
 
     /// The path of steps that begin with the last.

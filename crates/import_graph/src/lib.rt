@@ -4,8 +4,6 @@
 mod cycles;
 mod edges;
 mod ranks;
-#[cfg(test)]
-mod tests;
 mod walk;
 
 pub use cycles::first_on_cycle;

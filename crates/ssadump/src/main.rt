@@ -1,19 +1,7 @@
 //! The command `ssadump`: words and files in, standard output, standard error and an exit status out.
 #![tactic(auto)]
 
-mod call;
-mod first_form;
-mod outcome;
-mod output;
-mod perform;
-mod report;
-mod status;
-#[cfg(test)]
-mod tests;
-mod work;
-
-use crate::call::ssadump;
-use crate::status::status;
+use driver::{ssadump, status};
 use go_base::{RealFiles, RealSink};
 use std::io::ErrorKind;
 use std::process::ExitCode;

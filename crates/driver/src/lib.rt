@@ -1,0 +1,16 @@
+//! The call of the program: words and files in, an outcome, standard output and standard error out, and the exit status
+//! of an outcome. It meets `WholeAnswer`.
+#![tactic(auto)]
+
+mod call;
+mod first_form;
+mod outcome;
+mod output;
+mod perform;
+mod report;
+mod statuses;
+mod work;
+
+pub use call::ssadump;
+pub use outcome::Outcome;
+pub use statuses::status;

@@ -1,0 +1,5 @@
+//! Tests of the call of the program, over files and sinks in memory.
+#![tactic(auto)]
+
+#[cfg(test)]
+mod calls;
