@@ -14,7 +14,7 @@ use Rattle.go_base.specs.declared.rule.Rule.TheVariants as rules
 use Rattle.go_load.specs.declared.error.LoadError.{LoadError}
 use Rattle.go_load.specs.declared.error.LoadError.TheVariants as errors
 use Rattle.go_load.specs.declared.sources.SourceFile.{SourceFile}
-use Rattle.go_load.specs.declared.sources.Sources.{Sources}
+use Rattle.go_load.specs.declared.program.Sources.{Sources}
 use Rattle.go_load.specs.Sources.{files_of}
 use Rattle.go_load.specs.Answers.{IsLoaded, HasStopped}
 use Rattle.driver.specs.declared.outcome.Outcome.{Outcome}

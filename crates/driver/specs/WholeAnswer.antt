@@ -10,7 +10,7 @@ use Rattle.go_base.specs.declared.ending.Ending.{Ending}
 use Rattle.go_base.specs.declared.place.Place.{Place}
 use Rattle.go_base.specs.declared.rule.Rule.{Rule}
 use Rattle.go_base.specs.declared.rule.Rule.TheVariants as rules
-use Rattle.go_load.specs.declared.sources.Sources.{Sources}
+use Rattle.go_load.specs.declared.program.Sources.{Sources}
 use Rattle.go_load.specs.Sources.{files_of}
 use Rattle.go_load.specs.Answers.{IsLoaded, Breaks}
 use Rattle.driver.specs.declared.outcome.Outcome.{Outcome}

@@ -11,7 +11,7 @@ use Rattle.go_load.specs.declared.error.LoadError.TheVariants.{Refused, ReadFaul
 use Rattle.go_load.specs.declared.found.Entry.{Entry}
 use Rattle.go_load.specs.declared.found.Found.{Found}
 use Rattle.go_load.specs.declared.loader.Loader.{Loader}
-use Rattle.go_load.specs.declared.sources.Sources.{Sources}
+use Rattle.go_load.specs.declared.program.Sources.{Sources}
 use Rattle.go_load.specs.Answers.{IsSourcesOf}
 use Rattle.go_load.specs.Entries.{RuntimeFound}
 use Rattle.go_load.specs.Finding.{AreRight, listed}

@@ -12,8 +12,8 @@ use Rattle.go_load.specs.declared.found.Entry.{Entry}
 use Rattle.go_load.specs.declared.found.Found.{Found}
 use Rattle.go_load.specs.declared.links.Link.{Link}
 use Rattle.go_load.specs.declared.loader.Loader.{Loader}
-use Rattle.go_load.specs.declared.sources.Sources.{Sources}
-use Rattle.go_load.specs.Answers.{max_program_bytes, sound_module, HasStopped, IsAnswer, IsLoaded, IsProjectOf}
+use Rattle.go_load.specs.declared.program.Sources.{Sources}
+use Rattle.go_load.specs.Answers.{max_program_bytes, sound_module, HasStopped, IsAnswer, IsAnswerIn, IsLoaded, IsProjectOf}
 use Rattle.go_load.specs.Finding.{listed, view_origin, AreRight, BeginsWith, IsRightAt}
 use Rattle.go_load.specs.GoPaths.{ListsGoPaths}
 use Rattle.go_load.specs.Loading.{view_source, IsAt, IsLink}
@@ -22,7 +22,7 @@ use Rattle.go_load.specs.Programs.{Nothing, path_asked}
 use Rattle.go_load.specs.Projects.{Project, Paths, IsOriginOfTarget, path_of_target, target_path}
 use Rattle.go_load.specs.Refusals.{Stops}
 use Rattle.go_load.specs.Sources.{AreTold, files_of}
-use Rattle.go_load.specs.Starting.{project_with, BeginsProject, FindsTarget, Finishes, IsAnswerIn, ListsTarget}
+use Rattle.go_load.specs.Starting.{project_with, AnswersProject, BeginsProject, FindsTarget, Finishes, ListsTarget}
 
 -- ---- the files of the target
 
@@ -117,27 +117,27 @@ module_bad (Some files) target limit dir (Refused place rule) d h = inl (record 
 module_bad (Some files) target limit dir ReadFault d h = tt
 module_bad (Some files) target limit dir OutOfMemory d h = tt
 
-pub target_bad : (tree now : Option Tree) (root : Option modules.Module) (target : Target) (limit : ℕ) (error : LoadError) → now ≡ tree → IfSome now (λ files. FindsTarget files root target (Err error)) → IfSome tree (λ files. IsAnswer files target limit (Err error))
-target_bad None now root target limit error same h = tt
-target_bad (Some files) now root target limit (Refused place rule) same h =
-    absurd (subst (λ (t : Option Tree). IfSome t (λ files. FindsTarget files root target (Err (Refused place rule)))) same h)
-target_bad (Some files) now root target limit ReadFault same h = tt
-target_bad (Some files) now root target limit OutOfMemory same h = tt
-
 answer_of : (files : Tree) (target : Target) (limit : ℕ) (project : Project) (result : Result Sources LoadError) → IsProjectOf files target limit project → IsAnswerIn project result → IsAnswer files target limit result
 answer_of files target limit project (Ok sources) p h = record { project = project; packages = h.0; project_is = p; result = h.1; sources_are = h.2 }
 answer_of files target limit project (Err (Refused place rule)) p h = inr (record { project = project; project_is = p; result = h })
 answer_of files target limit project (Err ReadFault) p h = tt
 answer_of files target limit project (Err OutOfMemory) p h = tt
 
-pub finished : (tree now after : Option Tree) (target : Target) (limit : ℕ) (dir : List ℕ) (root : Option modules.Module) (found : Found) (loader : Loader) (result : Result Sources LoadError) → now ≡ tree → after ≡ now → IsTargetDir target dir → IfSome tree (λ files. AnswersModule (Ok root) (Governs files dir))
-    → IfSome now (λ files. FindsTarget files root target (Ok found)) → IsNew loader found (path_asked target) limit → IfSome after (λ files. Finishes files loader result) → IfSome tree (λ files. IsAnswer files target limit result)
-finished None now after target limit dir root found loader result same still d m f n h = tt
-finished (Some files) now after target limit dir root found loader result same still d m f n h =
-    let begins_here : FindsTarget files root target (Ok found) = subst (λ (t : Option Tree). IfSome t (λ files. FindsTarget files root target (Ok found))) same f in
-    let finishes : Finishes files loader result = subst (λ (t : Option Tree). IfSome t (λ files. Finishes files loader result)) (still ∙ same) h in
-    answer_of files target limit (project_with files root target limit) result (project_is files target limit dir root d m)
-    (finishes (project_with files root target limit) refl (starts_at (project_with files root target limit) loader found (begins_here limit) n))
+-- what is loaded of the target is the answer for its project
+pub project_answered : (tree now : Option Tree) (target : Target) (limit : ℕ) (root : Option modules.Module) (found : Found) (loader : Loader) (result : Result Sources LoadError) → now ≡ tree
+    → IfSome tree (λ files. FindsTarget files root target (Ok found)) → IsNew loader found (path_asked target) limit → IfSome now (λ files. Finishes files loader result) → IfSome tree (λ files. AnswersProject files root target limit result)
+project_answered None now target limit root found loader result same f n h = tt
+project_answered (Some files) now target limit root found loader result same f n h =
+    let finishes : Finishes files loader result = subst (λ (t : Option Tree). IfSome t (λ files. Finishes files loader result)) same h in
+    finishes (project_with files root target limit) refl (starts_at (project_with files root target limit) loader found (f limit) n)
+
+-- the module is sound: the answer is that for the project of the target
+pub finished : (tree now : Option Tree) (target : Target) (limit : ℕ) (dir : List ℕ) (root : Option modules.Module) (result : Result Sources LoadError) → now ≡ tree → IsTargetDir target dir → IfSome tree (λ files. AnswersModule (Ok root) (Governs files dir))
+    → IfSome now (λ files. AnswersProject files root target limit result) → IfSome tree (λ files. IsAnswer files target limit result)
+finished None now target limit dir root result same d m h = tt
+finished (Some files) now target limit dir root result same d m h =
+    let answer : AnswersProject files root target limit result = subst (λ (t : Option Tree). IfSome t (λ files. AnswersProject files root target limit result)) same h in
+    answer_of files target limit (project_with files root target limit) result (project_is files target limit dir root d m) answer
 
 -- ---- what `load` says
 

@@ -1,12 +1,13 @@
 -- What loading answers.
-use Rattle.std.specs.Prelude.{◌≡◌, ◌⊎◌, ℕ, List, map, Option, Some, option_map, IfSome, Result, Ok, Err}
+use Rattle.std.specs.Prelude.{◌≡◌, ◌⊎◌, ℕ, List, [], ◌∷◌, map, Option, Some, None, option_map, IfSome, Result, Ok, Err}
 use Rattle.go_base.specs.Devices.{Tree}
 use Rattle.go_base.specs.declared.place.Place.{Place}
 use Rattle.go_base.specs.declared.rule.Rule.{Rule}
 use Rattle.go_base.specs.declared.target.Target.{Target}
+use Rattle.go_base.specs.declared.target.Target.TheVariants as targets
 use Rattle.go_load.specs.declared.error.LoadError.{LoadError}
 use Rattle.go_load.specs.declared.error.LoadError.TheVariants.{Refused, ReadFault, OutOfMemory}
-use Rattle.go_load.specs.declared.sources.Sources.{Sources}
+use Rattle.go_load.specs.declared.program.Sources.{Sources}
 use Rattle.go_load.specs.Finding.{listed}
 use Rattle.go_load.specs.Loading.{broken, minor_of, view_source, files_from, headers_from, all_imports}
 use Rattle.go_load.specs.Modules.{Broken, Module, Governs, IsTargetDir}
@@ -68,6 +69,17 @@ IsAnswer files target limit (Ok sources) = AreSourcesOf files target limit sourc
 IsAnswer files target limit (Err (Refused place rule)) = BreaksFirst files target limit (broken place rule)
 IsAnswer files target limit (Err ReadFault) = Unit {0}
 IsAnswer files target limit (Err OutOfMemory) = Unit {0}
+
+-- an answer of the code for a project whose module breaks no rule
+abbrev pub IsAnswerIn : Project → Result Sources LoadError → Type 0
+IsAnswerIn project (Ok sources) = (packages : List Package) × IsResult project (Ok packages) × IsSourcesOf project packages sources
+IsAnswerIn project (Err (Refused place rule)) = IsResult project (Err (broken place rule))
+IsAnswerIn project (Err ReadFault) = Unit {0}
+IsAnswerIn project (Err OutOfMemory) = Unit {0}
+
+-- the program of one file, which lies in no module, whatever its name
+abbrev pub lone_project : List ℕ → List ℕ → Project
+lone_project name bytes = record { files = (name, bytes) ∷ []; root = None; target = targets.File name; limit = max_program_bytes }
 
 -- ---- of files alone, and of those that are not told
 

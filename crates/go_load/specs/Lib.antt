@@ -8,6 +8,7 @@ pub mod Listing
 pub mod Paths
 pub mod Modules
 pub mod BuiltIns
+pub mod Soundness
 pub mod Sources
 pub mod Refusals
 pub mod Reading

@@ -11,7 +11,7 @@ use Rattle.go_load.specs.declared.error.LoadError.{LoadError}
 use Rattle.go_load.specs.declared.error.LoadError.TheVariants.{Refused, ReadFault, OutOfMemory}
 use Rattle.go_load.specs.declared.find_module.Module as code
 use Rattle.go_load.specs.declared.go_mod.Fault.{Fault}
-use Rattle.go_load.specs.declared.sources.Sources.{Sources}
+use Rattle.go_load.specs.declared.program.Sources.{Sources}
 use Rattle.go_load.specs.GoMod.{Contents, go_mod}
 use Rattle.go_load.specs.Paths.{path_in, LiesIn}
 use Rattle.go_load.specs.Places.{place_in, first_place}

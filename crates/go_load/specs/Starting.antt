@@ -8,12 +8,12 @@ use Rattle.go_load.specs.declared.error.LoadError.TheVariants.{Refused, ReadFaul
 use Rattle.go_load.specs.declared.find_module.Module as modules
 use Rattle.go_load.specs.declared.found.Found.{Found}
 use Rattle.go_load.specs.declared.loader.Loader.{Loader}
-use Rattle.go_load.specs.declared.sources.Sources.{Sources}
-use Rattle.go_load.specs.Answers.{IsSourcesOf}
+use Rattle.go_load.specs.declared.program.Sources.{Sources}
+use Rattle.go_load.specs.Answers.{IsAnswerIn}
 use Rattle.go_load.specs.Finding.{AreRight, listed}
 use Rattle.go_load.specs.Loading.{Holds, IsAt, all_imports, broken}
 use Rattle.go_load.specs.Modules.{view_module}
-use Rattle.go_load.specs.Programs.{Package, BreaksPackage, IsResult, IsWithRuntime, has_runtime, known, runtime_path}
+use Rattle.go_load.specs.Programs.{Package, BreaksPackage, IsWithRuntime, has_runtime, known, runtime_path}
 use Rattle.go_load.specs.Projects.{Project, Paths, IsOriginOfTarget, target_path}
 
 -- the project of a target in these files, whose module is this one
@@ -59,12 +59,9 @@ LoadsRuntime files old new result =
     (project : Project) (packages : List Package) → project.files ≡ files → IsAt project old packages → length old.found.entries.items ≡ length packages
     → RuntimeLoaded project packages new result
 
--- the answer for a project
-abbrev pub IsAnswerIn : Project → Result Sources LoadError → Type 0
-IsAnswerIn project (Ok sources) = (packages : List Package) × IsResult project (Ok packages) × IsSourcesOf project packages sources
-IsAnswerIn project (Err (Refused place rule)) = IsResult project (Err (broken place rule))
-IsAnswerIn project (Err ReadFault) = Unit {0}
-IsAnswerIn project (Err OutOfMemory) = Unit {0}
+-- the answer for the program of a target whose module is this one
+abbrev pub AnswersProject : Tree → Option modules.Module → Target → ℕ → Result Sources LoadError → Type 0
+AnswersProject files root target limit result = IsAnswerIn (project_with files root target limit) result
 
 abbrev pub Finishes : Tree → Loader → Result Sources LoadError → Type 0
 Finishes files loader result = (project : Project) → project.files ≡ files → IsAt project loader [] → IsAnswerIn project result

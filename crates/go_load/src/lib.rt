@@ -19,15 +19,16 @@ mod loading;
 mod one_file;
 mod package_files;
 mod paths;
+mod program;
 mod read;
+mod soundness;
 mod sources;
 mod target;
-#[cfg(test)]
-mod tests;
 mod versions;
 mod words;
 
 pub use error::LoadError;
 pub use go_base::Target;
 pub use loading::{from_text, load};
-pub use sources::{Import, SourceFile, SourcePackage, Sources};
+pub use program::Sources;
+pub use sources::{Import, SourceFile, SourcePackage};

@@ -18,8 +18,9 @@ use crate::find_module::Module;
 use crate::found::{Entry, Found, Origin, number_after};
 use crate::links::{Link, push_links};
 use crate::package_files::{Slot, read_built_in, read_paths};
+use crate::program::Sources;
 use crate::read::refuse_first;
-use crate::sources::{Import, SourceFile, SourcePackage, Sources};
+use crate::sources::{Import, SourceFile, SourcePackage};
 use crate::versions::NEWEST_MINOR;
 use go_base::{Files, NoMemory, Pos, Rule, Text};
 use std::alloc::Global;
@@ -75,19 +76,14 @@ impl Loader {
     }
 
     /// All that was loaded.
-    pub fn into_sources(self) -> Sources
-        ensures files { files_of result ≡ self.files.items }
-        ensures packages { packages_of result ≡ self.packages.items }
-        ensures imports { result.imports.items ≡ self.imports.items }
-        ensures minor { result.minor ≡ minor_of (option_map view_module self.found.root) }
+    pub fn into_sources(self) -> Result<Sources, NoMemory>
+        ensures files { IfOk result (λ sources. files_of sources ≡ self.files.items) }
+        ensures packages { IfOk result (λ sources. packages_of sources ≡ self.packages.items) }
+        ensures imports { IfOk result (λ sources. sources.imports.items ≡ self.imports.items) }
+        ensures minor { IfOk result (λ sources. sources.minor ≡ minor_of (option_map view_module self.found.root)) }
     {
         let minor = minor_version_of(&self.found.root);
-        Sources {
-            files: self.files,
-            packages: self.packages,
-            imports: self.imports,
-            minor,
-        }
+        Sources::new(self.alloc, self.files, self.packages, self.imports, minor)
     }
 
     /// Loads the packages that were found, and those that they import.

@@ -1,13 +1,13 @@
 //! Loading of a program.
 
-ghost use Rattle.std.specs.Prelude.{◌≡◌, ◌≤◌, [], ◌∷◌, string_bytes, option_map, IfOk, IfErr, IfSome, IsErrOf, OnOk};
+ghost use Rattle.std.specs.Prelude.{◌≡◌, ◌≤◌, string_bytes, option_map, IfOk, IfErr, IfSome, IsErrOf, OnOk};
 ghost use Rattle.go_base.specs.Devices.{HasFaulted};
 ghost use Rattle.go_load.specs.Modules.{view_module, MindsTarget};
-ghost use Rattle.go_load.specs.Answers.{max_program_bytes, HasStopped, IsAnswer, IsLoaded};
+ghost use Rattle.go_load.specs.Answers.{lone_project, max_program_bytes, HasStopped, IsAnswer, IsAnswerIn, IsLoaded};
 ghost use Rattle.go_load.specs.Sources.{files_of, AreTold};
 ghost use Rattle.go_load.specs.Refusals.{Stops};
 ghost use Rattle.go_load.specs.Projects.{no_import_path, path_of_target};
-ghost use Rattle.go_load.specs.Starting.{FindsTarget, Finishes, ListsTarget, LoadsRuntime};
+ghost use Rattle.go_load.specs.Starting.{AnswersProject, FindsTarget, Finishes, ListsTarget, LoadsRuntime};
 
 use crate::error::LoadError;
 use crate::find_module::{Module, find_module};
@@ -15,7 +15,7 @@ use crate::found::Found;
 use crate::listing::list_go_files;
 use crate::loader::{Loader, MAX_PROGRAM_BYTES};
 use crate::one_file::OneFile;
-use crate::sources::Sources;
+use crate::program::Sources;
 use crate::target::{target_dir, target_path};
 use go_base::{Files, NoMemory, Target, Text};
 use std::alloc::Global;
@@ -50,7 +50,25 @@ pub(crate) fn load_within<F: Files>(
     ensures exact { IfSome (F.tree files.old) (λ tree. IsAnswer tree target.now limit result) }
 {
     let module = find_module(alloc, files, target_dir(target))?;
-    let found = find_target(alloc, files, module, target)?;
+    load_project(alloc, files, module, target, limit)
+}
+
+/// Loads a program whose target belongs to this module.
+fn load_project<F: Files>(
+    alloc: Global,
+    files: &mut F,
+    root: Option<Module>,
+    target: &Target,
+    limit: usize,
+) -> Result<Sources, LoadError>
+    ensures told { IfOk result (λ sources. AreTold (F.tree files.old) (files_of sources)) }
+    ensures why { IfErr result (Stops (F.tree files.old)) }
+    ensures fault { IsErrOf result LoadError.ReadFault → HasFaulted (F.faults files.old) (F.faults files.new) }
+    ensures later { F.faults files.old ≤ F.faults files.new }
+    ensures same { F.tree files.new ≡ F.tree files.old }
+    ensures exact { IfSome (F.tree files.old) (λ tree. AnswersProject tree root target.now limit result) }
+{
+    let found = find_target(alloc, files, root, target)?;
     let path = Text::new(alloc, target_path(target))?;
     finish(files, Loader::new(alloc, path, found, limit))
 }
@@ -58,11 +76,12 @@ pub(crate) fn load_within<F: Files>(
 /// Loads a program of one file, which lies in no module, from its bytes. `name` is the path of the file.
 pub fn from_text(alloc: Global, name: &str, bytes: &[u8]) -> Result<Sources, LoadError>
     ensures no_fault { IsErrOf result LoadError.ReadFault → ⊥ }
-    // The program that one file makes.
-    ensures exact { IsAnswer ((name.now, bytes.now) ∷ []) (Target.File name.now) max_program_bytes result }
+    // The program that one file makes, or the first rule that it breaks.
+    ensures exact { IsAnswerIn (lone_project name.now bytes.now) result }
 {
     let target = Target::File(Text::new(alloc, name)?);
-    load(alloc, &mut OneFile { path: name, bytes }, &target)
+    let mut files = OneFile { path: name, bytes };
+    load_project(alloc, &mut files, None, &target, MAX_PROGRAM_BYTES)
 }
 
 /// The package of the target, which is found first.
@@ -138,7 +157,7 @@ fn finish<F: Files>(files: &mut F, loader: Loader) -> Result<Sources, LoadError>
     loader.load_queue(files)?;
     loader.check_imports()?;
     load_runtime(files, &mut loader)?;
-    Ok(loader.into_sources())
+    Ok(loader.into_sources()?)
 }
 
 /// Loads the package `runtime`, unless it was imported.

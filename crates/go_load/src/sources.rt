@@ -1,12 +1,12 @@
-//! A program that was loaded.
+//! What a program is loaded from: files, packages and imports.
 
-ghost use Rattle.std.specs.Prelude.{◌≡◌, ◌≤◌, length, IfOk, Option, slice_get};
-ghost use Rattle.std.specs.Option.{option_copied};
+ghost use Rattle.std.specs.Prelude.{◌≡◌, ◌≤◌, length, Option};
+ghost use Rattle.go_load.specs.Reading.{HasTree};
 
 use crate::error::LoadError;
-use crate::read::{place_at, refuse_at};
+use crate::read::refuse_at;
 use go_ast::Token;
-use go_base::{Bytes, NoMemory, Place, Pos, Rule, Text};
+use go_base::{Bytes, Rule, Text};
 use go_syntax::FileTree;
 use std::alloc::Global;
 
@@ -19,6 +19,8 @@ pub struct SourceFile {
     /// The number of its package, from 0.
     pub package: u32,
     pub ghost small: { length bytes ≤ 4194304 },
+    // The tree is that of the bytes.
+    pub ghost read: { ∥ HasTree bytes tree ∥₁ },
 }
 
 impl SourceFile {
@@ -81,68 +83,4 @@ pub struct Import {
     pub literal: Token,
     /// The number of the package.
     pub package: u32,
-}
-
-/// A program that was loaded: its packages in the order in which they were found, and their files in that order.
-#[derive(Drop)]
-pub struct Sources {
-    pub(crate) files: Vec<SourceFile>,
-    pub(crate) packages: Vec<SourcePackage>,
-    /// For each file its imports, in order.
-    pub(crate) imports: Vec<Vec<Import>>,
-    /// The N of Go 1.N.
-    pub(crate) minor: u32,
-}
-
-impl Sources {
-    ghost use Rattle.go_load.specs.Sources.{files_of, packages_of};
-    ghost use Rattle.go_load.specs.Loaded.{IsWithin, Locates};
-
-    /// How many packages there are.
-    pub fn package_count(&self) -> usize
-        ensures { result ≡ length (packages_of self.now) }
-    {
-        self.packages.len()
-    }
-
-    /// The package with a number, from 0. None exactly where there is no such package.
-    pub fn package(&self, number: u32) -> Option<&SourcePackage>
-        ensures { option_copied result ≡ slice_get (packages_of self.now) number }
-    {
-        self.packages.get(number as usize)
-    }
-
-    /// The file with a number, from 0. None exactly where there is no such file.
-    pub fn file(&self, number: u32) -> Option<&SourceFile>
-        ensures { option_copied result ≡ slice_get (files_of self.now) number }
-    {
-        self.files.get(number as usize)
-    }
-
-    /// The imports of a file, in order.
-    pub fn imports(&self, file: u32) -> &[Import] {
-        match self.imports.get(file as usize) {
-            Some(imports) => imports.as_slice(),
-            None => &[],
-        }
-    }
-
-    /// The N of Go 1.N, whose rules the program follows.
-    pub fn minor_version(&self) -> u32 {
-        self.minor
-    }
-
-    /// A place as users see it.
-    pub fn place(&self, alloc: Global, pos: Pos) -> Result<Place, NoMemory>
-        requires { IsWithin (files_of self.now) pos }
-        ensures { IfOk result (Locates (files_of self.now) pos) }
-    {
-        let file = &self.files[pos.file as usize];
-        place_at(
-            alloc,
-            file.path.as_str(),
-            file.bytes.as_slice(),
-            pos.offset as usize,
-        )
-    }
 }

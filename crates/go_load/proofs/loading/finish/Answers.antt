@@ -25,8 +25,8 @@ returns-in_err-load_runtime-clause-exact g c =
 
 pub returns-clause-exact : goal.returns-clause-exact
 returns-clause-exact g c =
-    all_loaded (g.F.Files.tree c.args.files.now) (g.F.Files.tree c.load_queue.new.files) c.args.loader c.load_queue.new.self c.load_runtime.new.loader c.into_sources.result c.in_ok-load_queue.ensures.same c.in_ok-load_queue.ensures.exact c.in_ok-check_imports.ensures.exact c.in_ok-load_runtime.ensures.exact
-    c.into_sources.ensures.files c.into_sources.ensures.packages c.into_sources.ensures.imports c.into_sources.ensures.minor
+    all_loaded (g.F.Files.tree c.args.files.now) (g.F.Files.tree c.load_queue.new.files) c.args.loader c.load_queue.new.self c.load_runtime.new.loader c.in_ok-into_sources.field-0 c.in_ok-load_queue.ensures.same c.in_ok-load_queue.ensures.exact c.in_ok-check_imports.ensures.exact c.in_ok-load_runtime.ensures.exact
+    c.in_ok-into_sources.ensures.files c.in_ok-into_sources.ensures.packages c.in_ok-into_sources.ensures.imports c.in_ok-into_sources.ensures.minor
 
 pub returns-clause-told : goal.returns-clause-told
 returns-clause-told g c = λ told.
@@ -34,4 +34,4 @@ returns-clause-told g c = λ told.
     let first : AreTold (g.F.Files.tree c.load_queue.new.files) c.load_queue.new.self.files.items = rw same (c.in_ok-load_queue.ensures.told told) in
     let last : AreTold (g.F.Files.tree c.load_queue.new.files) c.load_runtime.new.loader.files.items = c.in_ok-load_runtime.ensures.told first in
     let there : AreTold (g.F.Files.tree c.args.files.now) c.load_runtime.new.loader.files.items = rw same at last in
-    rw c.into_sources.ensures.files there
+    rw c.in_ok-into_sources.ensures.files there

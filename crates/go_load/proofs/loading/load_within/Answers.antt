@@ -1,23 +1,11 @@
-use Rattle.std.proofs.Common.{◌∙◌}
 use Rattle.go_load.proofs.Governing.{module_found}
 use Rattle.go_load.proofs.Starting.{finished}
 use Rattle.go_load.proofs.loading.load_within.Goals as goal
 
 pub returns-clause-go_mod : goal.returns-clause-go_mod
 returns-clause-go_mod g c =
-    module_found (g.F.Files.tree c.args.files.now) c.args.target.now c.target_dir.result.now c.in_ok-module.module c.finish.result c.target_dir.ensures c.in_ok-module.ensures.found
+    module_found (g.F.Files.tree c.args.files.now) c.args.target.now c.target_dir.result.now c.in_ok-module.module c.load_project.result c.target_dir.ensures c.in_ok-module.ensures.found
 
 pub returns-clause-exact : goal.returns-clause-exact
 returns-clause-exact g c =
-    finished (g.F.Files.tree c.args.files.now) (g.F.Files.tree c.find_module.new.files) (g.F.Files.tree c.find_target.new.files) c.args.target.now c.args.limit c.target_dir.result.now c.in_ok-module.module c.in_ok-found.found c.new-2.result c.finish.result c.in_ok-module.ensures.same c.in_ok-found.ensures.same c.target_dir.ensures c.in_ok-module.ensures.found c.in_ok-found.ensures.exact
-    (record {
-      found_is = c.new-2.ensures.found;
-      target_is = c.new-2.ensures.target ∙ c.in_ok-path.ensures ∙ c.target_path.ensures;
-      files = c.new-2.ensures.files;
-      headers = c.new-2.ensures.packages;
-      imports = c.new-2.ensures.imports;
-      links = c.new-2.ensures.links;
-      programs = c.new-2.ensures.programs;
-      left = c.new-2.ensures.left;
-    })
-    c.finish.ensures.exact
+    finished (g.F.Files.tree c.args.files.now) (g.F.Files.tree c.find_module.new.files) c.args.target.now c.args.limit c.target_dir.result.now c.in_ok-module.module c.load_project.result c.in_ok-module.ensures.same c.target_dir.ensures c.in_ok-module.ensures.found c.load_project.ensures.exact

@@ -1,9 +1,8 @@
 // Trees in memory.
 ghost use Rattle.std.specs.List.Sorted.{IsStrictlyIncreasing};
 
-use crate::loading::load_within;
-use crate::{LoadError, Sources, Target, from_text, load};
-use go_base::{MemFiles, NoMemory, Place, Pos, Rule, Text};
+use go_base::{MemFiles, NoMemory, Place, Rule, Text};
+use go_load::{LoadError, Sources, Target, from_text, load};
 use std::alloc::Global;
 use std::test::Fail;
 
@@ -332,25 +331,14 @@ const PROGRAM: &[File] = &[
     ("p/q/q.go", "package q\n"),
 ];
 
-// Calls that fail, the bytes that files may have together, and what is told.
-const LIMITS: &[(u64, usize, &str)] = &[
-    (0, 98, "p/a.go:3:8 M8"),
-    (0, 97, "p/q/q.go:1:1 M6"),
-    (0, 87, "p/z.go:1:1 M6"),
-    (3, 1000, "read fault"),
-    (6, 1000, "read fault"),
-    (6, 36, "p/a.go:1:1 M6"),
-];
+// Calls of the device, from 1, that fail.
+const FAILURES: &[u64] = &[3, 6];
 
 #[test]
-fn stops_where_it_must(rt: HostRuntime) -> Result<(), Fail> {
-    let alloc = rt.alloc();
-    for (call, limit, wanted) in LIMITS {
-        let mut files = tree(alloc, plan(*call), PROGRAM)?;
-        let target = target(alloc, "p")?;
-        let answer = load_within(alloc, &mut files, &target, *limit);
-        let told = told(alloc, &answer)?;
-        assert_eq!(rt; told.as_str(), *wanted, "{call} {limit}");
+fn tells_of_failed_reads(rt: HostRuntime) -> Result<(), Fail> {
+    for call in FAILURES {
+        let told = load_tree(rt.alloc(), "p", plan(*call), PROGRAM)?;
+        assert_eq!(rt; told.as_str(), "read fault", "{call}");
     }
     Ok(())
 }
@@ -387,9 +375,74 @@ fn loads_in_order(rt: HostRuntime) -> Result<(), Fail> {
         assert_eq!(rt; file.path.as_str(), *path);
         assert_eq!(rt; file.package, *package);
     }
+    assert_eq!(rt; sources.file_count(), 5);
     assert!(rt; sources.file(5).is_none());
     let package = sources.package(0).ok_or("no package")?;
     assert_eq!(rt; package.path.as_str(), "example.com/m/a");
     assert_eq!(rt; package.label.as_str(), "main");
+    assert_eq!(rt; package.first_file, 0);
+    assert!(rt; sources.package(4).is_none());
+    Ok(())
+}
+
+// For each file of a program the numbers of the packages that it imports.
+const IMPORTED: &[&[u32]] = &[&[1, 2], &[2], &[], &[]];
+
+// For each package of that program the N of Go 1.N.
+const VERSIONS: &[u32] = &[20, 20, 21, 21];
+
+fn numbers_of(alloc: Global, sources: &Sources, file: u32) -> Result<Vec<u32>, Fail> {
+    let mut numbers = Vec::new(alloc);
+    for import in sources.imports(file) {
+        numbers.push(import.package)?;
+    }
+    Ok(numbers)
+}
+
+#[test]
+fn tells_imports_and_versions(rt: HostRuntime) -> Result<(), Fail> {
+    let alloc = rt.alloc();
+    let mut files = tree(
+        alloc,
+        plan(0),
+        &[
+            ("go.mod", "module m\ngo 1.20\n"),
+            ("a.go", "package main\nimport (\n\t\"m/b\"\n\t\"os\"\n)\n"),
+            ("b/b.go", "package b\nimport exit \"os\"\n"),
+        ],
+    )?;
+    let sources = load(alloc, &mut files, &target(alloc, ".")?)?;
+    for (file, wanted) in IMPORTED.iter().enumerate() {
+        let numbers = numbers_of(alloc, &sources, file as u32)?;
+        assert_eq!(rt; numbers.as_slice(), *wanted, "{file}");
+    }
+    assert!(rt; sources.imports(4).is_empty());
+    for (package, wanted) in VERSIONS.iter().enumerate() {
+        assert_eq!(rt; sources.version(package as u32), *wanted, "{package}");
+    }
+    Ok(())
+}
+
+// Names and texts of single files, and what is told of them. No go.mod counts, not even one that is the file.
+const TEXTS: &[(&str, &str, &str)] = &[
+    ("x.go", "package main\n", ""),
+    ("a/b/x.go", "package b\nimport \"os\"\n", ""),
+    ("x.go", "package main\nimport \"m\"\n", "x.go:2:8 M3"),
+    ("go.mod", "package main\n", ""),
+    ("go.mod", "module m\n", "go.mod:1:1 S1"),
+];
+
+#[test]
+fn loads_a_text(rt: HostRuntime) -> Result<(), Fail> {
+    let alloc = rt.alloc();
+    for (name, text, wanted) in TEXTS {
+        let answer = from_text(alloc, name, text.as_bytes());
+        let told = told(alloc, &answer)?;
+        assert_eq!(rt; told.as_str(), *wanted, "{name} {text}");
+    }
+    let sources = from_text(alloc, "x.go", b"package main\n")?;
+    let file = sources.file(0).ok_or("no file")?;
+    assert_eq!(rt; file.package_name(), b"main".as_slice());
+    assert_eq!(rt; sources.version(0), 21);
     Ok(())
 }
