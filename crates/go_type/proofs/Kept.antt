@@ -49,7 +49,7 @@ came (z ∷ xs) y (suc k) x h = side (came xs y k x h)
     side (inr here) = inr (ap suc here.0, here.1)
 
 -- a default more at the end changes nothing
-more_default : {X : Type 0} (xs : List X) (d : X) (k : ℕ) → unwrap_or (slice_get (xs ++ d ∷ []) k) d ≡ unwrap_or (slice_get xs k) d
+pub more_default : {X : Type 0} (xs : List X) (d : X) (k : ℕ) → unwrap_or (slice_get (xs ++ d ∷ []) k) d ≡ unwrap_or (slice_get xs k) d
 more_default [] d zero = refl
 more_default [] d (suc k) = refl
 more_default (x ∷ xs) d zero = refl
@@ -89,7 +89,7 @@ all_own : (old new : Table) → ((id : TypeId) (x : TypeTerm) → term_at old id
     → list_all (is_own_method old) methods ≡ true → list_all (is_own_method new) methods ≡ true
 all_own old new same methods h = all_mono (is_own_method old) (is_own_method new) (own_kept old new same) methods h
 
-some_term : {X : Type 0} (xs : List X) (k : ℕ) → k < length xs → (x : X) × (slice_get xs k ≡ Some x)
+pub some_term : {X : Type 0} (xs : List X) (k : ℕ) → k < length xs → (x : X) × (slice_get xs k ≡ Some x)
 some_term [] k h = absurd (omega arith)
 some_term (x ∷ xs) zero h = (x, refl)
 some_term (x ∷ xs) (suc k) h = let less : k < length xs = omega arith in some_term xs k less
@@ -243,15 +243,15 @@ module _ (types : Table) (held : IsHeld types) (id : TypeId) (less : id.number <
   read : (x : TypeId) → definition_at changed x ≡ get_or changed.definitions x.number no_definition
   read x = unwrap_or-slice_get changed.definitions x.number no_definition
 
-  there : (x : TypeId) → x ≡ id → definition_at changed x ≡ definition
+  pub there : (x : TypeId) → x ≡ id → definition_at changed x ≡ definition
   there x same = read x ∙ ap (λ (y : TypeId). get_or changed.definitions y.number no_definition) same ∙ get_or-set_same types.definitions id.number definition no_definition room
 
-  elsewhere : (x : TypeId) → x.number ≢ id.number → definition_at changed x ≡ definition_at types x
+  pub elsewhere : (x : TypeId) → x.number ≢ id.number → definition_at changed x ≡ definition_at types x
   elsewhere x apart =
       read x ∙ get_or-set_other types.definitions id.number x.number definition no_definition apart ∙ sym (unwrap_or-slice_get types.definitions x.number no_definition)
 
   -- the one that is changed, or another
-  either : (x : TypeId) → (x ≡ id) ⊎ (x.number ≢ id.number)
+  pub either : (x : TypeId) → (x ≡ id) ⊎ (x.number ≢ id.number)
   either x = by (same_id x id) refl
     where
       by : (b : Bool) → same_id x id ≡ b → (x ≡ id) ⊎ (x.number ≢ id.number)

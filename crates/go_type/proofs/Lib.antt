@@ -5,6 +5,7 @@ pub mod Distinct
 pub mod Predeclared
 pub mod Leading
 pub mod Kept
+pub mod Growing
 pub mod IdenticalTypes
 pub mod Saturate
 pub mod Comparables

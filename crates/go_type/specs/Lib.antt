@@ -16,3 +16,4 @@ pub mod Conditions
 pub mod Operators
 pub mod Kinds
 pub mod Values
+pub mod Grows

@@ -7,6 +7,7 @@ mod conditions;
 mod constants;
 mod inline;
 mod kinds;
+mod laws;
 mod levels;
 mod lists;
 mod members;
@@ -26,6 +27,7 @@ pub use constants::{
     Const, ConstError, ConstOp, IntFault, int_binary, int_shift, join, same_value, value_order,
 };
 pub use kinds::{IntKind, basic, int_kind};
+pub use laws::{settled_types_stay, types_grow};
 pub use lists::{Fields, MethodTypes, TypeIds};
 pub use method_sets::method_set;
 pub use methods::{MethodEntry, MethodSet, Path, SelectError, Selection, SelectionKind};

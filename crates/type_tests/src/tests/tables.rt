@@ -105,7 +105,7 @@ fn many_ways(rt: HostRuntime) -> Result<(), Fail> {
 
 #[test]
 fn copies(rt: HostRuntime) -> Result<(), Fail> {
-    let (types, ids) = build(&rt, rt.alloc(), SELECTED_TYPES)?;
+    let (types, ids) = build(&rt, rt.alloc(), SIZED_TYPES)?;
     let copy: Types = types.copy(rt.alloc())?;
     assert_eq!(rt; copy.len(), types.len());
     for id in ids.as_slice() {
