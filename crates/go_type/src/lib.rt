@@ -11,6 +11,7 @@ mod lists;
 mod members;
 mod method_sets;
 mod methods;
+mod operators;
 mod representable;
 mod selectors;
 #[cfg(test)]
@@ -28,6 +29,7 @@ pub use constants::{Const, ConstError, ConstOp, IntFault, int_binary, int_shift,
 pub use lists::{Fields, MethodTypes, TypeIds};
 pub use method_sets::method_set;
 pub use methods::{MethodEntry, MethodSet, Path, SelectError, Selection, SelectionKind};
+pub use operators::{BinaryOp, Builtin, CompareOp, UnaryOp};
 pub use representable::represent;
 pub use selectors::find_selector;
 pub use sizes::{MAX_LEAVES, MAX_NESTING, is_nested_within, leaves_up_to};
