@@ -10,6 +10,7 @@ pub mod Levels
 pub mod Inline
 pub mod Sights
 pub mod MethodSets
+pub mod Operators
 pub mod Assignable
 pub mod Sizes
 pub mod Conditions
