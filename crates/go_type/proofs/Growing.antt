@@ -1,5 +1,5 @@
 -- Types that are settled keep what is true of them while others come.
-use Rattle.std.proofs.Common.{◌≡◌, ◌≢◌, ℕ, zero, suc, ◌+◌, ◌*◌, ◌<◌, max, Bool, true, false, true≢false, ◌&&◌, ◌||◌, if◌then◌else◌, List, [], ◌∷◌, ◌++◌, map, length, Option, Some, None, unwrap_or, slice_get, IsTrue, ◌↔◌, refl, sym, ap, subst, ◌∙◌, ◌⊎◌, inl, inr}
+use Rattle.std.proofs.Common.{◌≡◌, ◌≢◌, ℕ, zero, suc, ◌+◌, ◌*◌, ◌<◌, max, Bool, true, false, true≢false, not, is_some, ◌&&◌, ◌||◌, if◌then◌else◌, List, [], ◌∷◌, ◌++◌, map, length, Option, Some, None, unwrap_or, slice_get, IsTrue, ◌↔◌, refl, sym, ap, subst, ◌∙◌, ◌⊎◌, inl, inr}
 use Rattle.std.specs.List.{list_any, list_all, sum_by, fold}
 use borrow.Author.Tests.{ltb-true}
 use Rattle.go_base.specs.declared.ids.TypeId.{TypeId}
@@ -17,9 +17,9 @@ use Rattle.go_type.specs.Grows.{Grows, AreSettled, IsDefinedIn, KeepsMethods}
 use Rattle.go_type.specs.Held.{IsHeld, term_parts}
 use Rattle.go_type.specs.Same.{both, each}
 use Rattle.go_type.specs.Sizes.{is_declared, leaves_of, leaves_to, parts_pass, nests_as_part, nests_within}
-use Rattle.go_type.specs.Table.{Table, same_term, term_at, definition_at, underlying_of, with_next, with_term, with_underlying, with_method, no_definition}
+use Rattle.go_type.specs.Table.{Table, same_term, term_at, definition_at, underlying_of, with_next, with_term, with_definition, with_underlying, with_method, no_definition}
 use Rattle.go_type.proofs.Held.{inside, declared_held}
-use Rattle.go_type.proofs.Kept.{stays, some_term, more_default}
+use Rattle.go_type.proofs.Kept.{stays, some_term, more_default, either, there, elsewhere}
 
 -- ---- the same tests of the same parts
 
@@ -191,3 +191,27 @@ grows_term types term = by (list_any (same_term term) types.terms)
     by : (b : Bool) → Grows types (if b then types else with_next term types)
     by true = record { terms = λ id t e. e; defined = λ id u e. e; blank = refl }
     by false = grows_next types term
+
+module _ (types : Table) (held : IsHeld types) (id : TypeId) (less : id.number < length types.terms) (definition : Definition) where
+  grows_changed : ((u : TypeId) → (definition_at types id).underlying ≡ Some u → definition.underlying ≡ Some u) → Grows types (with_definition id definition types)
+  grows_changed keeps = record {
+    terms = λ x t e. e;
+    defined = λ x u e. by x u e (either types held id less definition x);
+    blank = refl;
+  }
+    where
+      by : (x u : TypeId) → (definition_at types x).underlying ≡ Some u → (x ≡ id) ⊎ (x.number ≢ id.number) → (definition_at (with_definition id definition types) x).underlying ≡ Some u
+      by x u e (inl same) =
+          ap (λ (d : Definition). d.underlying) (there types held id less definition x same) ∙ keeps u (sym (ap (λ (y : TypeId). (definition_at types y).underlying) same) ∙ e)
+      by x u e (inr apart) = ap (λ (d : Definition). d.underlying) (elsewhere types held id less definition x apart) ∙ e
+
+pub grows_underlying : (types : Table) → IsHeld types → (id u : TypeId) → CanDefine types id u → Grows types (with_underlying id u types)
+grows_underlying types held id u can =
+    let free = both (is_declared (term_at types id)) _ (both (is_declared (term_at types id) && not (is_some (definition_at types id).underlying)) (is_held types u) (both _ (not (is_declared (term_at types u))) can.0).0).0 in
+    grows_changed types held id (declared_held types id free.0) (record { underlying = Some u; methods = (definition_at types id).methods })
+    (λ v e. absurd (true≢false (sym (sym (ap (λ w. not (is_some w)) e) ∙ free.1))))
+
+pub grows_method : (types : Table) → IsHeld types → (id : TypeId) (m : MethodEntry) → takes_method types id m ≡ true → Grows types (with_method id m types)
+grows_method types held id m takes =
+    let declared = (both (is_declared (term_at types id)) (is_own_method types m) (both (is_declared (term_at types id) && is_own_method types m) _ takes).0).0 in
+    grows_changed types held id (declared_held types id declared) (record { underlying = (definition_at types id).underlying; methods = (definition_at types id).methods ++ m ∷ [] }) (λ v e. e)

@@ -2,11 +2,13 @@
 
 ghost use Rattle.std.specs.Prelude.{◌≡◌, ℕ, Bool, true, ◌↔◌};
 ghost use Rattle.go_base.specs.declared.ids.TypeId.{TypeId};
+ghost use Rattle.go_type.specs.declared.methods.MethodEntry.{MethodEntry};
 ghost use Rattle.go_type.specs.declared.term.TypeTerm.{TypeTerm};
 ghost use Rattle.go_type.specs.Comparable.{Comparable};
+ghost use Rattle.go_type.specs.Conditions.{CanDefine, takes_method};
 ghost use Rattle.go_type.specs.Grows.{Grows, AreSettled};
 ghost use Rattle.go_type.specs.Sizes.{leaves_to, nests_within};
-ghost use Rattle.go_type.specs.Table.{term_at, underlying_of, with_term, with_next};
+ghost use Rattle.go_type.specs.Table.{Table, term_at, underlying_of, with_term, with_next, with_underlying, with_method};
 
 use crate::types::Types;
 
@@ -24,10 +26,13 @@ pub fn settled_types_stay(old: &Types, later: &Types)
     later.laws();
 }
 
-/// A table grows where a type is held or declared.
+/// A table grows where a type is held, declared, defined or given a method.
 pub fn types_grow(types: &Types)
     ensures held { (term : TypeTerm) → Grows types.now (with_term term types.now) }
     ensures declared { (term : TypeTerm) → Grows types.now (with_next term types.now) }
+    ensures defined { (id underlying : TypeId) → CanDefine types.now id underlying → Grows types.now (with_underlying id underlying types.now) }
+    ensures methods { (id : TypeId) (method : MethodEntry) → takes_method types.now id method ≡ true → Grows types.now (with_method id method types.now) }
+    ensures on { (later last : Table) → Grows types.now later → Grows later last → Grows types.now last }
 {
     types.laws();
 }

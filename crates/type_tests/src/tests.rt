@@ -3,4 +3,5 @@
 mod constants;
 mod relations;
 mod selections;
+mod sizes;
 mod tables;

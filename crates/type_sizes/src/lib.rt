@@ -1,0 +1,6 @@
+//! How large types are, each found once.
+#![tactic(auto)]
+
+mod sizes;
+
+pub use sizes::{MOST_LEAVES, MOST_NESTING, Size, Sizes};
