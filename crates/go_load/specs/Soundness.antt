@@ -1,5 +1,5 @@
 -- What holds of every program that was loaded.
-use Rattle.std.specs.Prelude.{◌≡◌, ◌<◌, ◌≤◌, ◌+◌, ℕ, List, [], ◌∷◌, ◌++◌, length, map, All, Vec, Option, Some, option_map, unwrap_or, slice_get, IfSome, IsSomeAnd, codes}
+use Rattle.std.specs.Prelude.{◌≡◌, ◌<◌, ◌≤◌, ◌+◌, ℕ, List, [], ◌∷◌, ◌++◌, length, map, All, Vec, Some, option_map, unwrap_or, slice_get, IfSome, IsSomeAnd, codes}
 use Rattle.std.specs.declared.alloc.Global.{Global}
 use Rattle.import_graph.specs.Cycles.{IsOnCycle}
 use Rattle.import_graph.specs.declared.edges.Edge.{Edge}

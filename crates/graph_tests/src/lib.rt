@@ -1,0 +1,6 @@
+//! Tests of graphs and of faults. They stand in a crate of their own, so that those are proved once and not again with
+//! them.
+#![tactic(auto)]
+
+#[cfg(test)]
+mod tests;

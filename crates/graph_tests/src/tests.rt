@@ -1,0 +1,3 @@
+// What is asked of graphs, and of faults.
+mod faults;
+mod graphs;
