@@ -1,4 +1,5 @@
 pub mod Joined
+pub mod Joining
 pub mod Quoted
 pub mod Naming
 pub mod Sorting

@@ -1,12 +1,13 @@
 //! Instructions.
 
-ghost use Rattle.std.specs.Prelude.{◌≡◌};
+ghost use Rattle.std.specs.Prelude.{◌≡◌, IfOk};
 ghost use Rattle.ssa_ir.specs.Blocks.{is_end_op, targets_of};
 
 use crate::instr_lists::{Operands, PhiEdges, SelectCases};
 use crate::operands::Operand;
-use go_base::{BlockId, FuncId, NameId, Pos, TypeId};
+use go_base::{BlockId, FuncId, NameId, NoMemory, Pos, TypeId};
 use go_type::{BinaryOp, Builtin, CompareOp, UnaryOp};
+use std::alloc::Global;
 
 /// An operator between two operands.
 #[derive(Clone, Copy, Debug, PartialEq, Eq)]
@@ -20,6 +21,18 @@ pub enum Infix {
 pub struct PhiEdge {
     pub from: BlockId,
     pub value: Operand,
+}
+
+impl PhiEdge {
+    /// The same edge once more.
+    pub fn copy(&self, alloc: Global) -> Result<PhiEdge, NoMemory>
+        ensures { IfOk result (λ copy. copy ≡ self.now) }
+    {
+        Ok(PhiEdge {
+            from: self.from,
+            value: self.value.copy(alloc)?,
+        })
+    }
 }
 
 /// A case of a `select`.

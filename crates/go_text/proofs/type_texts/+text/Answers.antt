@@ -1,6 +1,7 @@
 use Rattle.std.proofs.Common.{arith, refl, codes}
 use Rattle.go_text.specs.TypeText.{type_text_to, field_text, method_text}
-use Rattle.go_text.proofs.Joins.{joined-turn, variadic_text-end}
+use Rattle.go_text.specs.Joining.{joined-turn}
+use Rattle.go_text.proofs.Joins.{variadic_text-end}
 use Rattle.go_text.proofs.type_texts.+text.Goals as goal
 
 pub push_types-loop-index-preserved : goal.push_types-loop-index-preserved
