@@ -1,0 +1,5 @@
+pub mod Joined
+pub mod Quoted
+pub mod Naming
+pub mod Sorting
+pub mod TypeText
