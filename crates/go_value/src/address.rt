@@ -1,5 +1,8 @@
 //! Pointers to cells and their parts, and slices.
 
+ghost use Rattle.std.specs.Prelude.{◌≡◌, ◌++◌, ◌∷◌, ◌↔◌, [], Some, None, IfOk, IsErrOf, is_none, IsTrue};
+ghost use Rattle.go_value.specs.Address.{nil_pointer, part_of};
+
 use crate::faults::{Fault, ValueError};
 use crate::memory::shared;
 use go_base::{CellId, NoMemory};
@@ -49,7 +52,9 @@ impl Model for Address {
 
 impl Pointer {
     /// The nil pointer.
-    pub fn nil(alloc: Global) -> Pointer {
+    pub fn nil(alloc: Global) -> Pointer
+        ensures { result ≡ nil_pointer }
+    {
         Pointer {
             cell: None,
             path: Path::new(alloc),
@@ -57,7 +62,9 @@ impl Pointer {
     }
 
     /// The same pointer once more.
-    pub fn copy(&self, alloc: Global) -> Result<Pointer, NoMemory> {
+    pub fn copy(&self, alloc: Global) -> Result<Pointer, NoMemory>
+        ensures { IfOk result (λ copy. copy ≡ self.now) }
+    {
         Ok(Pointer {
             cell: self.cell,
             path: self.path.copy(alloc)?,
@@ -70,7 +77,10 @@ impl Pointer {
     }
 
     /// The pointer to a part of what it points to.
-    pub fn part(&self, alloc: Global, step: u32) -> Result<Pointer, ValueError> {
+    pub fn part(&self, alloc: Global, step: u32) -> Result<Pointer, ValueError>
+        ensures ok { IfOk result (λ part. part ≡ part_of self.now step) }
+        ensures nil { IsErrOf result (ValueError.Fault Fault.NilPointer) ↔ (self.now.cell ≡ None) }
+    {
         if self.cell.is_none() {
             return Err(ValueError::Fault(Fault::NilPointer));
         }
@@ -91,12 +101,16 @@ impl SliceValue {
     }
 
     /// Whether it is nil.
-    pub fn is_nil(&self) -> bool {
+    pub fn is_nil(&self) -> bool
+        ensures { result ≡ is_none self.now.at.cell }
+    {
         self.at.cell.is_none()
     }
 
     /// The same slice once more.
-    pub fn copy(&self, alloc: Global) -> Result<SliceValue, NoMemory> {
+    pub fn copy(&self, alloc: Global) -> Result<SliceValue, NoMemory>
+        ensures { IfOk result (λ copy. copy ≡ self.now) }
+    {
         Ok(SliceValue {
             at: self.at.copy(alloc)?,
             len: self.len,
@@ -107,12 +121,16 @@ impl SliceValue {
 
 impl Address {
     /// The nil pointer.
-    pub fn nil() -> Address {
+    pub fn nil() -> Address
+        ensures { result ≡ nil_pointer }
+    {
         Address { form: Form::Nil }
     }
 
     /// The pointer to a whole cell.
-    pub fn whole(cell: CellId) -> Address {
+    pub fn whole(cell: CellId) -> Address
+        ensures { result ≡ record { cell = Some cell; path = [] } }
+    {
         Address {
             form: Form::Whole(cell),
         }
@@ -130,7 +148,9 @@ impl Address {
         }
     }
 
-    fn near(alloc: Global, cell: CellId, part: u32) -> Result<Address, NoMemory> {
+    fn near(alloc: Global, cell: CellId, part: u32) -> Result<Address, NoMemory>
+        ensures { IfOk result (λ address. address ≡ record { cell = Some cell; path = part ∷ [] }) }
+    {
         if let Ok(cell) = u32::try_from(cell.number) {
             return Ok(Address {
                 form: Form::Near { cell, part },
@@ -147,7 +167,9 @@ impl Address {
         )
     }
 
-    fn far(alloc: Global, pointer: Pointer) -> Result<Address, NoMemory> {
+    fn far(alloc: Global, pointer: Pointer) -> Result<Address, NoMemory>
+        ensures { IfOk result (λ address. address ≡ pointer) }
+    {
         Ok(Address {
             form: Form::Far(shared(alloc, pointer)?),
         })
@@ -158,7 +180,9 @@ impl Address {
     }
 
     /// The same address once more. It takes no memory.
-    pub fn copy(&self) -> Result<Address, NoMemory> {
+    pub fn copy(&self) -> Result<Address, NoMemory>
+        ensures { IfOk result (λ copy. copy ≡ self.now) }
+    {
         Ok(Address {
             form: match &self.form {
                 Form::Nil => Form::Nil,
@@ -173,7 +197,9 @@ impl Address {
     }
 
     /// The pointer that it stands for.
-    pub fn pointer(&self, alloc: Global) -> Result<Pointer, NoMemory> {
+    pub fn pointer(&self, alloc: Global) -> Result<Pointer, NoMemory>
+        ensures { IfOk result (λ pointer. pointer ≡ self.now) }
+    {
         match &self.form {
             Form::Nil => Ok(Pointer::nil(alloc)),
             Form::Whole(cell) => Ok(Pointer {
@@ -192,12 +218,16 @@ impl Address {
     }
 
     /// Whether it is nil.
-    pub fn is_nil(&self) -> bool {
+    pub fn is_nil(&self) -> bool
+        ensures { result ≡ is_none self.now.cell }
+    {
         self.cell().is_none()
     }
 
     /// The cell that it leads into. None where it is nil.
-    pub fn cell(&self) -> Option<CellId> {
+    pub fn cell(&self) -> Option<CellId>
+        ensures { result ≡ self.now.cell }
+    {
         match &self.form {
             Form::Nil => None,
             Form::Whole(cell) => Some(*cell),
@@ -252,7 +282,9 @@ impl Address {
 }
 
 /// The pointer to a part of a cell.
-pub(crate) fn pointer_to(alloc: Global, cell: CellId, part: u32) -> Result<Pointer, NoMemory> {
+pub(crate) fn pointer_to(alloc: Global, cell: CellId, part: u32) -> Result<Pointer, NoMemory>
+    ensures { IfOk result (λ pointer. pointer ≡ record { cell = Some cell; path = part ∷ [] }) }
+{
     let mut path = Path::new(alloc);
     path.push(part)?;
     Ok(Pointer {

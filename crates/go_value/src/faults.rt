@@ -43,18 +43,33 @@ pub enum ValueError {
 }
 
 impl From<NoMemory> for ValueError {
+    ghost use Rattle.std.specs.Prelude.{◌≡◌};
+    ghost use Rattle.go_value.specs.declared.faults.ValueError.TheVariants.{OutOfMemory};
+
+    ghost from_gives = { λ _ e. e ≡ OutOfMemory };
+
     fn from(_: NoMemory) -> ValueError {
         ValueError::OutOfMemory
     }
 }
 
 impl From<AllocError> for ValueError {
+    ghost use Rattle.std.specs.Prelude.{◌≡◌};
+    ghost use Rattle.go_value.specs.declared.faults.ValueError.TheVariants.{OutOfMemory};
+
+    ghost from_gives = { λ _ e. e ≡ OutOfMemory };
+
     fn from(_: AllocError) -> ValueError {
         ValueError::OutOfMemory
     }
 }
 
 impl<T: Drop> From<AllocFailed<T>> for ValueError {
+    ghost use Rattle.std.specs.Prelude.{◌≡◌};
+    ghost use Rattle.go_value.specs.declared.faults.ValueError.TheVariants.{OutOfMemory};
+
+    ghost from_gives = { λ _ e. e ≡ OutOfMemory };
+
     fn from(_: AllocFailed<T>) -> ValueError {
         ValueError::OutOfMemory
     }

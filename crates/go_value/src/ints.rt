@@ -1,8 +1,10 @@
 //! Integers of each kind. Go specification, "Arithmetic operators", "Integer operators", "Integer overflow" and
 //! "Conversions between numeric types".
 
-ghost use Rattle.std.specs.Prelude.{◌≡◌, ◌^◌, pos};
-ghost use Rattle.go_value.specs.Ints.{bits_of, residue, wrapped};
+ghost use Rattle.std.specs.Prelude.{◌≡◌, ◌^◌, pos, ◌+ℤ◌, ◌-ℤ◌, ◌*ℤ◌, ◌≢◌, int_div};
+ghost use Rattle.go_type.specs.declared.constants.ConstOp.TheVariants as op;
+ghost use Rattle.go_type.specs.Constants.{value_of};
+ghost use Rattle.go_value.specs.Ints.{bits_of, residue, wrapped, operated};
 
 use crate::faults::Fault;
 use go_type::{ConstOp, IntKind};
@@ -56,59 +58,81 @@ pub fn convert_int(kind: IntKind, a: i128) -> i128
     }
 }
 
-/// The value of an operator at two integers of a kind, in that kind. Division truncates toward zero, and a remainder
-/// has the sign of the dividend. `ZeroDivisor` exactly where the divisor of `/` or `%` is 0.
-pub fn int_op(kind: IntKind, op: ConstOp, a: i128, b: i128) -> Result<i128, Fault> {
+/// The value of an operator at two integers, in a kind. Division truncates toward zero, and a remainder has the sign of
+/// the dividend. `ZeroDivisor` exactly where the divisor of `/` or `%` is 0.
+pub fn int_op(kind: IntKind, op: ConstOp, a: i128, b: i128) -> Result<i128, Fault>
+    ensures { result ≡ operated kind op a b }
+{
     match op {
-        ConstOp::Add => Ok(convert_int(kind, a.wrapping_add(b))),
-        ConstOp::Sub => Ok(convert_int(kind, a.wrapping_sub(b))),
-        ConstOp::Mul => Ok(convert_int(kind, a.wrapping_mul(b))),
+        ConstOp::Add => Ok(sum(kind, a, b)),
+        ConstOp::Sub => Ok(difference(kind, a, b)),
+        ConstOp::Mul => Ok(product(kind, a, b)),
         ConstOp::Div => quotient(kind, a, b),
-        ConstOp::Rem => remainder(a, b),
-        ConstOp::And => Ok(a & b),
-        ConstOp::Or => Ok(a | b),
-        ConstOp::Xor => Ok(a ^ b),
-        ConstOp::AndNot => Ok(a & !b),
+        ConstOp::Rem => remainder(kind, a, b),
+        ConstOp::And => Ok(convert_int(kind, a & b)),
+        ConstOp::Or => Ok(convert_int(kind, a | b)),
+        ConstOp::Xor => Ok(convert_int(kind, a ^ b)),
+        ConstOp::AndNot => Ok(cleared(kind, a, b)),
     }
 }
 
-fn quotient(kind: IntKind, a: i128, b: i128) -> Result<i128, Fault> {
+fn sum(kind: IntKind, a: i128, b: i128) -> i128
+    ensures { result ≡ wrapped kind (a +ℤ b) }
+{
+    convert_int(kind, a.wrapping_add(b))
+}
+
+fn difference(kind: IntKind, a: i128, b: i128) -> i128
+    ensures { result ≡ wrapped kind (a -ℤ b) }
+{
+    convert_int(kind, a.wrapping_sub(b))
+}
+
+fn product(kind: IntKind, a: i128, b: i128) -> i128
+    ensures { result ≡ wrapped kind (a *ℤ b) }
+{
+    convert_int(kind, a.wrapping_mul(b))
+}
+
+fn cleared(kind: IntKind, a: i128, b: i128) -> i128
+    ensures { result ≡ wrapped kind (value_of op.AndNot a b) }
+{
+    convert_int(kind, bits_without(a, b))
+}
+
+/// The bits of one integer that another one has not.
+fn bits_without(a: i128, b: i128) -> i128
+    ensures { result ≡ value_of op.AndNot a b }
+{
+    a & !b
+}
+
+fn quotient(kind: IntKind, a: i128, b: i128) -> Result<i128, Fault>
+    ensures { result ≡ operated kind op.Div a b }
+{
     if b == 0 {
         return Err(Fault::ZeroDivisor);
     }
-    if let (Ok(x), Ok(y)) = (i64::try_from(a), i64::try_from(b)) {
-        return Ok(convert_int(kind, short_quotient(x, y)));
-    }
-    Ok(convert_int(kind, a.wrapping_div(b)))
+    Ok(divided(kind, a, b))
 }
 
-fn short_quotient(a: i64, b: i64) -> i128 {
-    if b == -1 || b == 0 {
-        0i128.wrapping_sub(i128::from(a))
-    } else {
-        i128::from(a / b)
-    }
+fn divided(kind: IntKind, a: i128, b: i128) -> i128
+    requires { b ≢ pos 0 }
+    ensures { result ≡ wrapped kind (int_div a b) }
+{
+    convert_int(kind, a.wrapping_div(b))
 }
 
-fn remainder(a: i128, b: i128) -> Result<i128, Fault> {
+fn remainder(kind: IntKind, a: i128, b: i128) -> Result<i128, Fault>
+    ensures { result ≡ operated kind op.Rem a b }
+{
     if b == 0 {
         return Err(Fault::ZeroDivisor);
     }
-    if let (Ok(x), Ok(y)) = (i64::try_from(a), i64::try_from(b)) {
-        return Ok(short_remainder(x, y));
-    }
-    Ok(a.wrapping_rem(b))
+    Ok(convert_int(kind, a.wrapping_rem(b)))
 }
 
-fn short_remainder(a: i64, b: i64) -> i128 {
-    if b == -1 || b == 0 {
-        0
-    } else {
-        i128::from(a % b)
-    }
-}
-
-/// An integer of a kind shifted by a count, to the left where `left` says so, and else to the right, which rounds down.
+/// An integer shifted by a count, in a kind: to the left where `left` says so, and else to the right, which rounds down.
 /// `NegativeShift` exactly where the count is negative.
 pub fn shift_op(kind: IntKind, left: bool, a: i128, count: i128) -> Result<i128, Fault> {
     if count < 0 {
