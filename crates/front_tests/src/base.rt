@@ -1,8 +1,8 @@
 //! The places of a text, and the devices over memory and over the system.
 
 use go_base::{
-    Bytes, FileError, Files, MemFiles, MemSink, Names, RealFiles, RealSink, Rule, Sink, SinkError, Text,
-    line_column,
+    Bytes, FileError, Files, MemFiles, MemSink, Names, RealFiles, RealSink, Rule, Sink, SinkError,
+    Text, line_column,
 };
 use std::alloc::Global;
 use std::io::{ErrorKind, Write};

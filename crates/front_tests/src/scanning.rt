@@ -1,8 +1,8 @@
 //! Token lists and values from the Go specification, and inputs for each lexical rule, at its place and just inside.
 
-use go_scan::{ScanError, int_value, is_exported, is_literal, rune_value, scan, string_value};
 use go_ast::Kind;
 use go_base::Rule;
+use go_scan::{ScanError, int_value, is_exported, is_literal, rune_value, scan, string_value};
 use std::test::Fail;
 
 /// The refusal of a text, as the offset and the rule.

@@ -32,6 +32,7 @@ module _ {X : Type 0} (f : X → List ℕ) (t : List ℕ) where
     where
       same : list_any (λ x. bytes_eq (f o) (f x)) xs ≡ list_any (bytes_eq t) (map f xs)
       same = ap (λ s. list_any (λ x. bytes_eq s (f x)) xs) e ∙ sym (any-map xs)
+
       by : (b : Bool) → map f (if b then xs else xs ++ o ∷ []) ≡ (if b then map f xs else map f xs ++ t ∷ [])
       by true = refl
       by false = map-append f xs (o ∷ []) ∙ ap (λ s. map f xs ++ s ∷ []) e

@@ -15,9 +15,7 @@ pub enum FunctionForm {
     Init,
     /// What initialises a package: its variables, and then its functions named `init`.
     PackageInit,
-    Literal {
-        within: FuncId,
-    },
+    Literal { within: FuncId },
 }
 
 /// A function of a program, without its body.

@@ -59,28 +59,13 @@ fn depths(rt: HostRuntime) -> Result<(), Fail> {
     let table = types_of(alloc)?;
     assert_eq!(rt; Value::Int(1).depth(), 1);
     assert_eq!(rt; pair(alloc, Value::Int(1), Value::NilInterface)?.depth(), 2);
-    let deep = nested(alloc, &table.types, table.int, 9_999)?;
-    assert_eq!(rt; deep.depth(), 10_000);
-    let again = deep.copy(alloc)?;
-    assert!(rt;
-        matches!(
-            to_interface(alloc, &table.types, table.int, deep),
-            Err(ValueError::Fault(Fault::TooDeep))
-        )
-    );
-    assert!(rt;
-        matches!(
-            bind(
-                alloc,
-                BoundTarget::Function(go_base::FuncId { number: 0 }),
-                again.copy(alloc)?
-            ),
-            Err(ValueError::Fault(Fault::TooDeep))
-        )
-    );
+    let deep = nested(alloc, &table.types, table.int, 499)?;
+    assert_eq!(rt; deep.depth(), 500);
     // from one interface type to another nothing is added
-    let same = to_interface(alloc, &table.types, table.any, again)?;
-    assert_eq!(rt; same.depth(), 10_000);
+    let same = to_interface(alloc, &table.types, table.any, deep.copy(alloc)?)?;
+    assert_eq!(rt; same.depth(), 500);
+    let one_more = to_interface(alloc, &table.types, table.int, deep)?;
+    assert_eq!(rt; one_more.depth(), 501);
     let bound = bind(
         alloc,
         BoundTarget::Function(go_base::FuncId { number: 0 }),

@@ -29,22 +29,6 @@ fn joined(rt: HostRuntime) -> Result<(), Fail> {
     Ok(())
 }
 
-#[test]
-fn at_the_limit(rt: HostRuntime) -> Result<(), Fail> {
-    let alloc = rt.alloc();
-    let b = bytes(alloc, b"c")?;
-    let half = Bytes::new(vec![in alloc; b'x'; 134_217_728]?);
-    let whole = concat(alloc, &half, &half)?;
-    assert_eq!(rt; whole.as_slice().len(), 268_435_456usize);
-    assert!(rt;
-        matches!(
-            concat(alloc, &whole, &b),
-            Err(ValueError::Fault(Fault::TextTooLong))
-        )
-    );
-    Ok(())
-}
-
 const PARTS: &[(i128, i128, Option<&[u8]>)] = &[
     (0, 5, Some(b"hello")),
     (1, 3, Some(b"el")),
