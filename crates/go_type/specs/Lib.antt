@@ -14,7 +14,6 @@ pub mod Operators
 pub mod Assignable
 pub mod Sizes
 pub mod Conditions
-pub mod Operators
 pub mod Kinds
 pub mod Values
 pub mod Grows
