@@ -1,0 +1,5 @@
+pub mod Breaches
+pub mod Untyped
+pub mod Operands
+pub mod Folding
+pub mod Matching
