@@ -1,8 +1,7 @@
 //! The places of a text, and the devices over memory and over the system.
 
 use go_base::{
-    Bytes, FileError, Files, MemFiles, MemSink, Names, RealFiles, RealSink, Rule, Sink, SinkError,
-    Text, line_column,
+    FileError, Files, MemFiles, MemSink, RealFiles, RealSink, Sink, SinkError, line_column,
 };
 use std::alloc::Global;
 use std::io::{ErrorKind, Write};
@@ -162,46 +161,4 @@ fn streams_that_halt(rt: HostRuntime) {
     assert_eq!(rt; sink.write(b"de"), Err(SinkError::Failed));
     let mut stream = RealSink::new(rt.stderr());
     assert_eq!(rt; stream.write(b"to standard error\n"), Ok(()));
-}
-
-#[test]
-fn names_and_texts(rt: HostRuntime) -> Result<(), Fail> {
-    let alloc = rt.alloc();
-    let mut names = Names::new(alloc);
-    assert_eq!(rt; names.is_empty(), true);
-    for text in ["main", "x", "main", "π", "x"] {
-        names.intern(text)?;
-    }
-    let copy = names.copy(alloc)?;
-    assert_eq!(rt; (names.len(), copy.len()), (3, 3));
-    for (text, number) in [("main", Some(0)), ("π", Some(2)), ("y", None), ("", None)] {
-        assert_eq!(rt; names.find(text).map(|id| id.number), number, "{text}");
-        let found = copy.find(text);
-        assert_eq!(rt; found.map(|id| id.number), number, "{text}");
-        assert_eq!(rt; found.and_then(|id| copy.text(id)), number.and(Some(text)));
-    }
-    let text = Text::new(alloc, "ab")?;
-    assert_eq!(rt; text.copy(alloc)?, text);
-    assert_ne!(rt; Text::new(alloc, "a")?, text);
-    let bytes = Bytes::new(vec![in alloc; 1u8, 2]?);
-    assert_eq!(rt; bytes.copy(alloc)?, bytes);
-    assert_eq!(rt; (bytes.len(), bytes.is_empty()), (2, false));
-    assert_eq!(rt; Bytes::new(Vec::new(alloc)).is_empty(), true);
-    Ok(())
-}
-
-#[test]
-fn rows_of_rules(rt: HostRuntime) {
-    let rows = [
-        Rule::InvalidSourceByte,
-        Rule::ImportCycle,
-        Rule::SyntaxError,
-        Rule::FunctionWithoutBody,
-        Rule::ConstantOutOfRange,
-        Rule::BadUseOfDots,
-        Rule::LabelNotUsed,
-        Rule::NotAMainPackage,
-        Rule::NotBuiltYet,
-    ];
-    assert_eq!(rt; rows.map(Rule::row), [0, 15, 16, 31, 32, 60, 61, 69, 70]);
 }

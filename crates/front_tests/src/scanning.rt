@@ -2,7 +2,7 @@
 
 use go_ast::Kind;
 use go_base::Rule;
-use go_scan::{ScanError, int_value, is_exported, is_literal, rune_value, scan, string_value};
+use go_scan::{ScanError, int_value, is_literal, rune_value, scan, string_value};
 use std::test::Fail;
 
 /// The refusal of a text, as the offset and the rule.
@@ -431,20 +431,4 @@ fn values_of_strings(rt: HostRuntime) -> Result<(), Fail> {
         assert_eq!(rt; found.as_slice(), value, "at {text}");
     }
     Ok(())
-}
-
-#[test]
-fn exported_names(rt: HostRuntime) {
-    for (name, exported) in [
-        ("X", true),
-        ("Éclair", true),
-        ("Ωmega", true),
-        ("x", false),
-        ("_X", false),
-        ("ǅ", false),
-        ("日本", false),
-        ("", false),
-    ] {
-        assert_eq!(rt; is_exported(name.as_bytes()), exported, "{name}");
-    }
 }

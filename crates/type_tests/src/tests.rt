@@ -3,5 +3,4 @@
 mod constants;
 mod relations;
 mod selections;
-mod sizes;
 mod tables;
