@@ -105,7 +105,7 @@ fn many_ways(rt: HostRuntime) -> Result<(), Fail> {
 
 #[test]
 fn copies(rt: HostRuntime) -> Result<(), Fail> {
-    let (types, ids) = build(&rt, rt.alloc(), SELECTED_TYPES)?;
+    let (types, ids) = build(&rt, rt.alloc(), SIZED_TYPES)?;
     let copy: Types = types.copy(rt.alloc())?;
     assert_eq!(rt; copy.len(), types.len());
     for id in ids.as_slice() {
@@ -132,6 +132,8 @@ fn basic_ids(rt: HostRuntime) -> Result<(), Fail> {
 
 /// More types than a bound of 100,000 would allow.
 const MANY: u64 = 110_000;
+
+const DEEP: u64 = 5_000;
 
 /// A struct with one field that is embedded, or one with the field 7.
 fn one_field(alloc: Global, of: TypeId, embedded: bool) -> Result<TypeTerm, Fail> {
@@ -170,6 +172,12 @@ fn many_types(rt: HostRuntime) -> Result<(), Fail> {
     assert!(rt; !comparable(&types, last));
     assert!(rt; assignable(&types, last, last));
     assert!(rt; !assignable(&types, last, first));
+    let outer = hold(&rt, &mut types, one_field(rt.alloc(), last, false)?)?;
+    let found = find_selector(rt.alloc(), &types, outer, NameId { number: 7 }, EXPORTED).map_err(
+        |_| "the field is there",
+    )?;
+    assert_eq!(rt; found.result, last);
+    assert!(rt; method_set(rt.alloc(), &types, outer)?.as_slice().is_empty());
     Ok(())
 }
 
@@ -179,14 +187,13 @@ fn long_paths(rt: HostRuntime) -> Result<(), Fail> {
     let alloc = rt.alloc();
     let mut types = Types::new(alloc, ERROR, ERROR_METHOD)?;
     let mut last = hold(&rt, &mut types, one_field(alloc, basic(Basic::Int), false)?)?;
-    for _ in 0..MANY {
+    for _ in 0..DEEP {
         last = hold(&rt, &mut types, one_field(alloc, last, true)?)?;
     }
     let found = find_selector(alloc, &types, last, NameId { number: 7 }, EXPORTED).map_err(
         |_| "the field is there",
     )?;
-    assert_eq!(rt; found.path.len() as u64, MANY + 1);
+    assert_eq!(rt; found.path.len() as u64, DEEP + 1);
     assert!(rt; comparable(&types, last));
-    assert!(rt; method_set(alloc, &types, last)?.as_slice().is_empty());
     Ok(())
 }
