@@ -1,0 +1,2 @@
+//! Statements, bodies and whole programs: sources to a typed program, or the first broken rule. Go specification, "Statements".
+#![tactic(auto)]
