@@ -59,12 +59,10 @@ impl Mentions {
         Ok(())
     }
 
-    /// Marks the last name as the whole target of a plain assignment, if it stands at the place.
-    pub fn mark_assigned(&mut self, at: Pos) {
-        if let Some(last) = self.items.last_mut() {
-            if last.at == at {
-                last.assigned = true;
-            }
+    /// Marks the name with an index as the whole target of a plain assignment.
+    pub fn mark_assigned(&mut self, index: usize) {
+        if let Some(mention) = self.items.as_mut_slice().get_mut(index) {
+            mention.assigned = true;
         }
     }
 
