@@ -2,8 +2,8 @@
 
 use go_base::{NoMemory, Pos, Rule, TypeId};
 use go_faults::{Fault, Least};
-use go_type::{TypeIds, TypeTerm, Types};
-use indexmap::IndexSet;
+use go_type::{MethodTypes, TypeIds, TypeTerm, Types};
+use indexmap::IndexMap;
 use std::alloc::Global;
 use type_sizes::{MOST_LEAVES, Sizes};
 
@@ -17,8 +17,8 @@ pub struct Ground {
     pub phase: u8,
     /// The package of their places.
     pub package: u32,
-    /// Types that were found to be within the limits.
-    within: IndexSet<TypeId>,
+    /// The leaves of types that were found to be within the limits.
+    within: IndexMap<TypeId, u64>,
 }
 
 /// For what cannot come: it is told as want of memory.
@@ -35,7 +35,7 @@ impl Ground {
             least: Least::new(),
             phase,
             package,
-            within: IndexSet::new(alloc),
+            within: IndexMap::new(alloc),
         }
     }
 
@@ -80,19 +80,45 @@ impl Ground {
         self.hold(TypeTerm::Tuple(ids))
     }
 
+    /// The type `interface{}`.
+    pub fn any_type(&mut self) -> Result<TypeId, NoMemory> {
+        self.hold(TypeTerm::Interface(MethodTypes::new(self.alloc)))
+    }
+
     /// Whether a type is within the limits of types: a nesting of at most 1,000, and at most 1,048,576 leaves.
     /// `TypeTooLarge` is reported at the place where it is not.
     pub fn within_limits(&mut self, at: Pos, of: TypeId) -> Result<bool, NoMemory> {
-        if self.within.contains(&of) {
+        if self.leaves_within(of)?.is_some() {
             return Ok(true);
+        }
+        self.report(at, Rule::TypeTooLarge);
+        Ok(false)
+    }
+
+    /// Whether an array of so many elements of a type has at most 1,048,576 leaves. `TypeTooLarge` is reported at the place
+    /// where it has more.
+    pub fn fit_many(&mut self, at: Pos, elem: TypeId, len: u64) -> Result<bool, NoMemory> {
+        let fits = match self.leaves_within(elem)? {
+            Some(leaves) => u128::from(leaves) * u128::from(len) <= u128::from(MOST_LEAVES),
+            None => false,
+        };
+        if !fits {
+            self.report(at, Rule::TypeTooLarge);
+        }
+        Ok(fits)
+    }
+
+    /// The leaves of a type that is within the limits.
+    fn leaves_within(&mut self, of: TypeId) -> Result<Option<u64>, NoMemory> {
+        if let Some(leaves) = self.within.get(&of) {
+            return Ok(Some(*leaves));
         }
         let mut sizes = Sizes::new(self.alloc);
         let size = sizes.of(&self.types, of)?;
         if !size.nests || size.leaves > MOST_LEAVES {
-            self.report(at, Rule::TypeTooLarge);
-            return Ok(false);
+            return Ok(None);
         }
-        self.within.insert(of)?;
-        Ok(true)
+        self.within.insert(of, size.leaves)?;
+        Ok(Some(size.leaves))
     }
 }

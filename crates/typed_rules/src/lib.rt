@@ -16,12 +16,18 @@ mod calling;
 mod comparing;
 mod composing;
 mod converting;
+mod extremes;
 mod ground;
+mod growing;
 mod indexing;
 mod listing;
+mod making;
 mod meaning;
+mod measuring;
+mod moving;
 mod nodes;
 mod selecting;
+mod shapes;
 mod shifting;
 mod stating;
 mod unary;
@@ -29,7 +35,7 @@ mod unary;
 pub use adapting::{assigned, assigned_ok, assigned_part, by_default, retyped, settle};
 pub use asserting::{asserted_case, has_ok_form, interface_operand, type_assertion, with_ok};
 pub use binary::{arithmetic, binary_expression, logical};
-pub use built_ins::{built_in, holds_call};
+pub use built_ins::built_in;
 pub use calling::call;
 pub use comparing::{case_value, comparison, truth_case};
 pub use composing::{
@@ -41,6 +47,7 @@ pub use ground::Ground;
 pub use indexing::{index_expression, slice_expression};
 pub use listing::{Into, Listed, values_into};
 pub use meaning::{Given, Meaning, Seen, is_place, one_value, parenthesized, type_of, value_of};
+pub use measuring::holds_call;
 pub use nodes::{
     constant, function, function_literal, integer_literal, iota, nil, rune_literal, text_literal,
     variable,

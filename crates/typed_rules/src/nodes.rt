@@ -88,3 +88,13 @@ pub fn text_literal(at: Pos, value: Bytes) -> TypedExpr {
         kind: ExprKind::ConstOf(Const::Text(value)),
     }
 }
+
+/// A node.
+pub fn node(at: Pos, of: TypeId, kind: ExprKind) -> TypedExpr {
+    TypedExpr { at, of, kind }
+}
+
+/// A node that stands in another.
+pub fn boxed(ground: &Ground, expr: TypedExpr) -> Result<Box<TypedExpr>, NoMemory> {
+    Ok(Box::new(ground.alloc, expr)?)
+}
