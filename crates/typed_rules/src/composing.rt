@@ -1,10 +1,13 @@
 //! Composite literals. Go specification, "Composite literals".
 
-use crate::ground::{Ground, lost};
-use crate::meaning::Seen;
-use go_base::{NameId, NoMemory, Pos, TypeId};
-use go_tree::TypedExpr;
-use go_type::Types;
+use crate::adapting::made;
+use crate::ground::Ground;
+use crate::meaning::{Seen, one_value};
+use crate::nodes::{boxed, node};
+use crate::unary::pointed;
+use go_base::{NameId, NoMemory, Pos, Rule, TypeId};
+use go_tree::{Elements, ExprKind, TypedExpr};
+use go_type::{TypeTerm, Types};
 
 /// What the type of an elided literal is known to be.
 #[derive(Clone, Copy, Debug, PartialEq, Eq)]
@@ -85,8 +88,19 @@ impl Literal {
 
 /// What a composite literal of a type is, by its underlying type. None where it has none.
 pub fn literal_kind(types: &Types, of: TypeId) -> Option<LiteralKind> {
-    let _ = (types, of);
-    None
+    match types.underlying_term(of) {
+        Some(TypeTerm::Struct(_)) => Some(LiteralKind::Struct),
+        Some(TypeTerm::Array { len, elem }) => Some(LiteralKind::Array {
+            len: *len,
+            elem: *elem,
+        }),
+        Some(TypeTerm::Slice(elem)) => Some(LiteralKind::Slice { elem: *elem }),
+        Some(TypeTerm::Map { key, elem }) => Some(LiteralKind::Map {
+            key: *key,
+            elem: *elem,
+        }),
+        _ => None,
+    }
 }
 
 /// A literal whose type is written. `BadCompositeLiteral` at it where that is no struct, array, slice or map.
@@ -96,8 +110,18 @@ pub fn written_literal(
     brace: Pos,
     of: Option<TypeId>,
 ) -> Option<Literal> {
-    let _ = (ground, at, brace, of);
-    None
+    let of = of?;
+    let Some(kind) = literal_kind(&ground.types, of) else {
+        ground.report(at, Rule::BadCompositeLiteral);
+        return None;
+    };
+    Some(Literal {
+        at,
+        brace,
+        of,
+        kind,
+        pointer: None,
+    })
 }
 
 /// A literal of `[...]E`.
@@ -115,40 +139,56 @@ pub fn open_array_literal(at: Pos, brace: Pos, elem: Option<TypeId>) -> Option<L
 /// A literal whose type is left out. `BadCompositeLiteral` at its `{` where there is no type, or it is none of a
 /// literal, nor a pointer to such.
 pub fn elided_literal(ground: &mut Ground, brace: Pos, hint: Hint) -> Option<Literal> {
-    let _ = (ground, brace, hint);
-    None
+    let of = match hint {
+        Hint::Unsound => return None,
+        Hint::Nothing => {
+            ground.report(brace, Rule::BadCompositeLiteral);
+            return None;
+        }
+        Hint::Of(of) => of,
+    };
+    let (base, pointer) = match pointed(ground, of) {
+        Some(base) => (base, Some(of)),
+        None => (of, None),
+    };
+    let Some(kind) = literal_kind(&ground.types, base) else {
+        ground.report(brace, Rule::BadCompositeLiteral);
+        return None;
+    };
+    Some(Literal {
+        at: brace,
+        brace,
+        of: base,
+        kind,
+        pointer,
+    })
 }
 
-/// A literal of a struct. `BadCompositeLiteral` at a key that is no field or names one again, at an element with or without a
-/// key where the first is without or with one, at the first value where the number is not that of the fields, and at a
-/// value of a field of another package.
-pub fn struct_literal(
+/// The node of a literal: where its type was left out and is that of a pointer, its address.
+pub fn literal_node(
     ground: &mut Ground,
-    package: u32,
-    literal: Option<Literal>,
-    elements: Vec<FieldEntry>,
-) -> Result<Option<TypedExpr>, NoMemory> {
-    let _ = (ground, package, literal, elements);
-    Err(lost())
+    literal: Literal,
+    of: TypeId,
+    elements: Elements,
+) -> Result<TypedExpr, NoMemory> {
+    let composite = node(literal.brace, of, ExprKind::CompositeOf(elements));
+    let Some(to) = literal.pointer else {
+        return Ok(composite);
+    };
+    let pointer = ground.hold(TypeTerm::Pointer(of))?;
+    let operand = boxed(ground, composite)?;
+    let address = node(literal.brace, pointer, ExprKind::AddressOf(operand));
+    made(ground, address, to)
 }
 
-/// A literal of an array or slice. `BadCompositeLiteral` at a key that is no constant, and at an element whose index is taken;
-/// `BadIndex` at a key that is no index, and at an element past the end; `TypeTooLarge` at the literal.
-pub fn indexed_literal(
-    ground: &mut Ground,
-    literal: Option<Literal>,
-    elements: Vec<Entry>,
-) -> Result<Option<TypedExpr>, NoMemory> {
-    let _ = (ground, literal, elements);
-    Err(lost())
-}
-
-/// A literal of a map. `BadCompositeLiteral` at an element without a key, and at a constant key that comes again.
-pub fn map_literal(
-    ground: &mut Ground,
-    literal: Option<Literal>,
-    elements: Vec<Entry>,
-) -> Result<Option<TypedExpr>, NoMemory> {
-    let _ = (ground, literal, elements);
-    Err(lost())
+/// Asks values alone, of a literal whose type is unsound.
+pub fn ask_values(ground: &mut Ground, elements: Vec<Entry>) {
+    for element in elements {
+        let Entry {
+            at: _,
+            key: _,
+            value,
+        } = element;
+        let _ = one_value(ground, value);
+    }
 }

@@ -9,6 +9,7 @@
 #![tactic(auto)]
 
 mod adapting;
+mod arrays;
 mod asserting;
 mod binary;
 mod built_ins;
@@ -22,6 +23,7 @@ mod growing;
 mod indexing;
 mod listing;
 mod making;
+mod maps;
 mod meaning;
 mod measuring;
 mod moving;
@@ -30,22 +32,25 @@ mod selecting;
 mod shapes;
 mod shifting;
 mod stating;
+mod structs;
 mod unary;
 
 pub use adapting::{assigned, assigned_ok, assigned_part, by_default, retyped, settle};
+pub use arrays::indexed_literal;
 pub use asserting::{asserted_case, has_ok_form, interface_operand, type_assertion, with_ok};
 pub use binary::{arithmetic, binary_expression, logical};
 pub use built_ins::built_in;
 pub use calling::call;
 pub use comparing::{case_value, comparison, truth_case};
 pub use composing::{
-    Entry, FieldEntry, Hint, Literal, LiteralKind, elided_literal, indexed_literal, map_literal,
-    open_array_literal, struct_literal, written_literal,
+    Entry, FieldEntry, Hint, Literal, LiteralKind, elided_literal, open_array_literal,
+    written_literal,
 };
 pub use converting::conversion;
 pub use ground::Ground;
 pub use indexing::{index_expression, slice_expression};
 pub use listing::{Into, Listed, values_into};
+pub use maps::map_literal;
 pub use meaning::{Given, Meaning, Seen, is_place, one_value, parenthesized, type_of, value_of};
 pub use measuring::holds_call;
 pub use nodes::{
@@ -58,6 +63,7 @@ pub use stating::{
     Ranged, Sent, Stepped, array_length, condition, constant_value, ranged, send, step, switch_tag,
     target,
 };
+pub use structs::struct_literal;
 pub use unary::{Sign, address_of, indirection, negation, receive, sign};
 
 #[cfg(test)]
