@@ -14,43 +14,49 @@ use typed_rules::{
     map_literal, open_array_literal, struct_literal, written_literal,
 };
 
-/// A composite literal; where its type is left out, the hint says what it is.
+/// The value or key of an element, which may be a composite literal without its type: then the hint says what it is.
 #[cycle(seeing)]
-pub(crate) fn see_composite(
+fn see_part(
     alloc: Global,
     source: &SourceFile,
     scope: &mut Scope,
-    expr: &Expr,
+    part: &Expr,
     hint: Hint,
 ) -> Result<Seen, NoMemory> {
-    let Expr::Composite {
-        form,
-        open,
-        elements,
-        ..
-    } = expr
-    else {
-        return see(alloc, source, scope, expr);
-    };
-    let brace = scope.pos(open.start);
-    let (at, literal) = match form {
-        Some(form) => see_form(alloc, source, scope, form, brace)?,
-        None => (brace, elided_literal(&mut scope.ground, brace, hint)),
-    };
-    see_elements(alloc, source, scope, elements.as_slice(), at, literal)
+    match part {
+        Expr::Composite {
+            form: None,
+            open,
+            elements,
+            ..
+        } => {
+            let brace = scope.pos(open.start);
+            let literal = elided_literal(&mut scope.ground, brace, hint);
+            see_elements(alloc, source, scope, elements.as_slice(), brace, literal)
+        }
+        _ => see(alloc, source, scope, part),
+    }
 }
 
-/// The type of a composite literal.
+/// The first byte of a composite literal, and what it is by its type. One without a type stands only where a hint says what
+/// it is.
 #[cycle(seeing)]
-fn see_form(
+pub(crate) fn see_form(
     alloc: Global,
     source: &SourceFile,
     scope: &mut Scope,
-    form: &TypeExpr,
-    brace: Pos,
+    form: &Option<Box<TypeExpr>>,
+    open: Token,
 ) -> Result<(Pos, Option<Literal>), NoMemory> {
+    let brace = scope.pos(open.start);
+    let Some(form) = form else {
+        return Ok((
+            brace,
+            elided_literal(&mut scope.ground, brace, Hint::Nothing),
+        ));
+    };
     let at = scope.type_place(form);
-    if let TypeExpr::OpenArray { element, .. } = form {
+    if let TypeExpr::OpenArray { element, .. } = &**form {
         let elem = see_type(alloc, source, scope, element, Position::Apart)?;
         return Ok((at, open_array_literal(at, brace, elem)));
     }
@@ -58,8 +64,9 @@ fn see_form(
     Ok((at, written_literal(&mut scope.ground, at, brace, of)))
 }
 
+/// The elements of a composite literal, and the literal that they make.
 #[cycle(seeing)]
-fn see_elements(
+pub(crate) fn see_elements(
     alloc: Global,
     source: &SourceFile,
     scope: &mut Scope,
@@ -98,7 +105,7 @@ fn see_values(
     elements: &[Element],
 ) -> Result<(), NoMemory> {
     for element in elements {
-        let _ = see_composite(alloc, source, scope, &element.value, Hint::Unsound)?;
+        let _ = see_part(alloc, source, scope, &element.value, Hint::Unsound)?;
     }
     Ok(())
 }
@@ -113,7 +120,7 @@ fn see_fields(
 ) -> Result<Vec<FieldEntry>, NoMemory> {
     let mut entries = Vec::new(alloc);
     for element in elements {
-        let value = see_composite(alloc, source, scope, &element.value, Hint::Nothing)?;
+        let value = see_part(alloc, source, scope, &element.value, Hint::Nothing)?;
         let entry = scope.field_entry(source, element, value)?;
         entries.push(entry)?;
     }
@@ -132,10 +139,10 @@ fn see_entries(
     let mut entries = Vec::new(alloc);
     for element in elements {
         let key = match &element.key {
-            Some(key) => { Some(see_composite(alloc, source, scope, key, literal.key_hint())?) }
+            Some(key) => { Some(see_part(alloc, source, scope, key, literal.key_hint())?) }
             None => None,
         };
-        let value = see_composite(alloc, source, scope, &element.value, literal.value_hint())?;
+        let value = see_part(alloc, source, scope, &element.value, literal.value_hint())?;
         entries.push(entry(key, value))?;
     }
     Ok(entries)

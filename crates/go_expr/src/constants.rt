@@ -12,7 +12,7 @@ use go_names::{Constant, Entity};
 use go_syntax::{Expr, ListedExpr, ListedName, ValueSpec};
 use go_tree::{ExprKind, TypedExpr};
 use std::alloc::Global;
-use typed_rules::constant_value;
+use typed_rules::{Seen, constant_value, one_value};
 
 /// The type that is written for the values of a specification.
 #[derive(Clone, Copy, Debug, PartialEq, Eq)]
@@ -58,9 +58,9 @@ fn see_given(
     let mut are_sound = true;
     for (index, listed) in spec.values.as_slice().iter().enumerate() {
         let value = see_value(alloc, source, scope, &listed.expr, written)?;
-        are_sound = are_sound && value.is_some();
+        are_sound = are_sound && value.is_one;
         let entity = match spec.names.as_slice().get(index) {
-            Some(name) => entity_of(source, scope, *name, value)?,
+            Some(name) => entity_of(source, scope, *name, value.value)?,
             None => Entity::Unsound,
         };
         entities.push(entity)?;
@@ -99,8 +99,8 @@ fn see_repeated(
         .zip(spec.names.as_slice().iter())
     {
         let value = see_again(alloc, source, scope, given, listed, *name)?;
-        are_sound = are_sound && value.is_some();
-        let entity = entity_of(source, scope, *name, value)?;
+        are_sound = are_sound && value.is_one;
+        let entity = entity_of(source, scope, *name, value.value)?;
         entities.push(entity)?;
     }
     if are_sound && given.values.len() != spec.names.len() {
@@ -117,7 +117,7 @@ fn see_again(
     given: &ValueSpec,
     value: &ListedExpr,
     name: ListedName,
-) -> Result<Option<TypedExpr>, NoMemory> {
+) -> Result<Valued, NoMemory> {
     scope.repeated_at = Some(scope.pos(name.name.start));
     let written = see_written(alloc, source, scope, given)?;
     let value = see_value(alloc, source, scope, &value.expr, written)?;
@@ -140,23 +140,41 @@ fn see_written(
     }
 }
 
-/// A value of a constant, where it is sound.
+/// A value of a constant, as it is written and as it is held.
+#[derive(Drop)]
+struct Valued {
+    /// Whether it is one value and sound, constant or not.
+    is_one: bool,
+    value: Option<TypedExpr>,
+}
+
 fn see_value(
     alloc: Global,
     source: &SourceFile,
     scope: &mut Scope,
     expr: &Expr,
     written: Written,
-) -> Result<Option<TypedExpr>, NoMemory> {
+) -> Result<Valued, NoMemory> {
     let seen = see(alloc, source, scope, expr)?;
-    match written {
-        Written::Nothing => constant_value(&mut scope.ground, seen, None),
-        Written::Type(to) => constant_value(&mut scope.ground, seen, Some(to)),
-        Written::Unsound => {
-            let _ = constant_value(&mut scope.ground, seen, None)?;
-            Ok(None)
-        }
-    }
+    let Some(given) = one_value(&mut scope.ground, seen) else {
+        return Ok(Valued {
+            is_one: false,
+            value: None,
+        });
+    };
+    let to = match written {
+        Written::Type(to) => Some(to),
+        Written::Nothing | Written::Unsound => None,
+    };
+    let seen = Seen::value(given.at, Some(given.expr));
+    let value = constant_value(&mut scope.ground, seen, to)?;
+    Ok(Valued {
+        is_one: true,
+        value: match written {
+            Written::Unsound => None,
+            _ => value,
+        },
+    })
 }
 
 /// What a name of a constant stands for.

@@ -1,6 +1,6 @@
 //! Expressions as they are written. Go specification, "Expressions".
 
-use crate::composites::see_composite;
+use crate::composites::{see_elements, see_form};
 use crate::literals::literal_of_token;
 use crate::own::Position;
 use crate::scope::Scope;
@@ -11,7 +11,7 @@ use go_load::SourceFile;
 use go_syntax::{Expr, ListedExpr};
 use std::alloc::Global;
 use typed_rules::{
-    Hint, Seen, call, index_expression, parenthesized, selector, slice_expression, type_assertion,
+    Seen, call, index_expression, parenthesized, selector, slice_expression, type_assertion,
 };
 
 /// What an expression is seen to be. Each row that is broken in it is reported.
@@ -43,7 +43,15 @@ pub(crate) fn see(
             let of = see_type(alloc, source, scope, form, Position::Apart)?;
             Ok(Seen::of_type(scope.type_place(form), of))
         }
-        Expr::Composite { .. } => see_composite(alloc, source, scope, expr, Hint::Nothing),
+        Expr::Composite {
+            form,
+            open,
+            elements,
+            ..
+        } => {
+            let (at, literal) = see_form(alloc, source, scope, form, *open)?;
+            see_elements(alloc, source, scope, elements.as_slice(), at, literal)
+        }
         Expr::Selector { operand, name, .. } => {
             if let Some(qualified) = scope.see_import(source, operand, *name)? {
                 return Ok(qualified);
