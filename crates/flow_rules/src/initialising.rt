@@ -2,7 +2,7 @@
 
 use crate::taking::Taking;
 use go_base::NoMemory;
-use go_graph::{components_of, is_graph, on_themselves};
+use go_graph::{Components, components_of, is_graph, on_themselves};
 use std::alloc::Global;
 
 /// A variable of a package, an initialisation, or a function, by its number.
@@ -83,11 +83,7 @@ impl Reliance {
 
     /// For each variable whether its initialisation stands on it.
     pub fn variables_on_cycles(&self) -> Result<Vec<bool>, NoMemory> {
-        if !is_graph(&self.graph) {
-            return Err(lost());
-        }
-        let components = components_of(self.alloc, &self.graph)?;
-        let mut marks = on_themselves(self.alloc, &self.graph, &components)?;
+        let mut marks = nodes_on_cycles(self.alloc, self.graph.as_slice())?;
         marks.truncate(self.variables);
         Ok(marks)
     }
@@ -95,11 +91,9 @@ impl Reliance {
     /// The steps in the order in which they are taken: each is the first of those not before it that stands only on
     /// variables of steps before it. No variable is on a cycle.
     pub fn order(&self) -> Result<Vec<usize>, NoMemory> {
-        if !is_graph(&self.graph) {
-            return Err(lost());
-        }
-        let components = components_of(self.alloc, &self.graph)?;
-        let mut taking = Taking::new(self.alloc, &self.graph, &components.of)?;
+        let graph = self.graph.as_slice();
+        let components = groups_of(self.alloc, graph)?;
+        let mut taking = Taking::new(self.alloc, graph, &components.of)?;
         taking.place_steps(&components.of, self.variables, self.steps)?;
         let order = taking.take_all()?;
         if order.len() == self.steps {
@@ -108,4 +102,23 @@ impl Reliance {
             Err(lost())
         }
     }
+}
+
+/// For each node of a graph whether it stands on itself.
+fn nodes_on_cycles(alloc: Global, graph: &[Vec<usize>]) -> Result<Vec<bool>, NoMemory> {
+    if !is_graph(graph) {
+        return Err(lost());
+    }
+    let components = components_of(alloc, graph)?;
+    let marks = on_themselves(alloc, graph, &components)?;
+    Ok(marks)
+}
+
+/// The groups of a graph whose nodes stand on each other.
+fn groups_of(alloc: Global, graph: &[Vec<usize>]) -> Result<Components, NoMemory> {
+    if !is_graph(graph) {
+        return Err(lost());
+    }
+    let components = components_of(alloc, graph)?;
+    Ok(components)
 }
