@@ -156,13 +156,13 @@ impl<'s> Walker<'s> {
         }
     }
 
-    fn result_names(&self, result: &ResultForm) -> Result<Vec<Named>, NoMemory> {
-        match result {
+    fn result_names(&self, form: &ResultForm) -> Result<Vec<Named>, NoMemory> {
+        match form {
             ResultForm::None => Ok(Vec::new(self.alloc)),
             ResultForm::Params(params) => self.names_of(&params.params),
-            ResultForm::TypeForm(form) => {
+            ResultForm::TypeForm(written) => {
                 let mut names = Vec::new(self.alloc);
-                names.push(self.unnamed(form))?;
+                names.push(self.unnamed(written))?;
                 Ok(names)
             }
         }

@@ -79,7 +79,7 @@ impl<'s> Walker<'s> {
             return;
         }
         let is_blank = match (spec.name, self.sources.file(key.file)) {
-            (Some(name), Some(source)) => source.text(name) == b"_",
+            (Some(name), Some(source)) => source.text(name) == b"_".as_slice(),
             _ => false,
         };
         if !is_blank {

@@ -474,10 +474,7 @@ fn set_all(places: &mut Vec<Option<usize>>, variables: &[VarId], number: usize) 
 }
 
 /// The groups of a graph whose nodes stand on each other, and which nodes stand on themselves.
-fn groups_of(
-    alloc: Global,
-    graph: &[Vec<usize>],
-) -> Result<(Components, Vec<bool>), NoMemory> {
+fn groups_of(alloc: Global, graph: &[Vec<usize>]) -> Result<(Components, Vec<bool>), NoMemory> {
     if !is_graph(graph) {
         return Err(lost());
     }

@@ -23,3 +23,6 @@ mod uses;
 mod walker;
 
 pub use program::{check, target_not_main};
+
+#[cfg(test)]
+mod tests;

@@ -20,7 +20,9 @@ impl<'s> Walker<'s> {
             }
             Stmt::Step { operand, .. } => self.bodies_of_expr(operand),
             Stmt::Assign {
-                targets, values, ..
+                targets,
+                values,
+                ..
             } => {
                 self.bodies_of_list(targets)?;
                 self.bodies_of_list(values)
@@ -107,7 +109,10 @@ impl<'s> Walker<'s> {
                 self.bodies_of_expr(index)
             }
             Expr::Slice {
-                operand, low, high, ..
+                operand,
+                low,
+                high,
+                ..
             } => {
                 self.bodies_of_expr(operand)?;
                 self.bodies_of_option(low)?;
@@ -126,7 +131,9 @@ impl<'s> Walker<'s> {
                 self.bodies_of_expr(max)
             }
             Expr::Call {
-                callee, arguments, ..
+                callee,
+                arguments,
+                ..
             } => {
                 self.bodies_of_expr(callee)?;
                 self.bodies_of_list(arguments)
@@ -159,7 +166,9 @@ impl<'s> Walker<'s> {
             | TypeExpr::Chan { element, .. }
             | TypeExpr::ReceiveChan { element, .. } => self.bodies_of_type(element),
             TypeExpr::Array {
-                length, element, ..
+                length,
+                element,
+                ..
             } => {
                 self.bodies_of_expr(length)?;
                 self.bodies_of_type(element)

@@ -56,10 +56,14 @@ impl<'s> Walker<'s> {
             Stmt::Send { channel, value, .. } => self.comm_send(channel, value),
             Stmt::Expr(expr) => self.comm_receive(at, expr),
             Stmt::Assign {
-                targets, values, ..
+                targets,
+                values,
+                ..
             } => self.comm_assign(at, targets, values),
             Stmt::Define {
-                targets, values, ..
+                targets,
+                values,
+                ..
             } => self.comm_define(at, targets, values),
             _ => Ok(SeenComm::Unsound),
         }

@@ -11,7 +11,9 @@ use go_syntax::{Expr, ListedExpr, Stmt};
 use go_tree::{ExprKind, Target, TypedExpr, TypedStmt};
 use go_type::{BinaryOp, Builtin};
 use std::alloc::Global;
-use typed_rules::{Into, Meaning, Seen, binary_expression, is_place, send, step, target, value_of, values_into};
+use typed_rules::{
+    Into, Meaning, Seen, binary_expression, is_place, send, step, target, value_of, values_into,
+};
 
 /// A side of an assignment.
 #[derive(Drop)]

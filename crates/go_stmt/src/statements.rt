@@ -44,12 +44,16 @@ impl<'s> Walker<'s> {
             Stmt::Decl(decl) => self.declaration(decl, steps),
             Stmt::Labeled { labels, stmt } => self.labeled(labels, stmt, spot.falls, steps),
             Stmt::Define {
-                targets, values, ..
+                targets,
+                values,
+                ..
             } => self.define(targets, values, steps),
             Stmt::Fallthrough(word) => self.fall(*word, spot.falls, steps),
             Stmt::Block(block) => self.inner_block(block, steps),
             Stmt::If {
-                arms, otherwise, ..
+                arms,
+                otherwise,
+                ..
             } => self.choice(arms, otherwise, steps),
             Stmt::Switch(switch) => self.switch(switch, spot, steps),
             Stmt::TypeSwitch(switch) => self.type_switch(switch, spot, steps),
@@ -107,7 +111,10 @@ impl<'s> Walker<'s> {
                 steps.push(Some(TypedStmt::TypeDecl { at: self.at(*word) }), false)
             }
             Decl::Var {
-                word, open, specs, ..
+                word,
+                open,
+                specs,
+                ..
             } => self.variables(*word, open.is_some(), specs, steps),
             Decl::Func(_) => Ok(()),
         }
@@ -169,11 +176,7 @@ impl<'s> Walker<'s> {
         self.scope.open_block()?;
         let steps = self.statements(&block.statements, false)?;
         self.scope.close_block();
-        Ok(WalkedBlock::new(
-            self.at(block.open),
-            self.at(block.close),
-            steps,
-        ))
+        Ok(WalkedBlock::new(self.at(block.open), self.at(block.close), steps))
     }
 
     /// The simple statement before a condition, a tag or a loop.
@@ -450,12 +453,7 @@ impl<'s> Walker<'s> {
 
     /// A `for` with clauses.
     #[cycle(bodies)]
-    fn for_loop(
-        &mut self,
-        stmt: &ForStmt,
-        spot: Spot,
-        steps: &mut Steps,
-    ) -> Result<(), NoMemory> {
+    fn for_loop(&mut self, stmt: &ForStmt, spot: Spot, steps: &mut Steps) -> Result<(), NoMemory> {
         self.scope.open_block()?;
         let init = self.first(&stmt.init)?;
         let seen = self.see_loop_condition(&stmt.condition)?;
@@ -523,12 +521,7 @@ fn comm_behind(clauses: &[CommClause], index: usize) -> Option<Token> {
 }
 
 /// A range, where its head and its body are sound.
-fn range_stmt(
-    at: Pos,
-    fresh: bool,
-    head: Option<Head>,
-    body: WalkedBlock,
-) -> Option<TypedStmt> {
+fn range_stmt(at: Pos, fresh: bool, head: Option<Head>, body: WalkedBlock) -> Option<TypedStmt> {
     let head = head?;
     let body = body.block?;
     Some(TypedStmt::Range {

@@ -77,7 +77,8 @@ impl Steps {
             Some(stmt) => Some(Box::new(alloc, stmt)?),
             None => None,
         };
-        self.statements.push(TypedStmt::Labeled { at, labels, stmt })?;
+        self.statements
+            .push(TypedStmt::Labeled { at, labels, stmt })?;
         for stmt in rest {
             self.statements.push(stmt)?;
         }

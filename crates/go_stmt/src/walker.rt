@@ -8,7 +8,7 @@ use go_expr::{Scope, see_expr, see_item, see_type};
 use go_faults::{Fault, Least};
 use go_load::Sources;
 use go_syntax::{Expr, ListedExpr, TypeExpr};
-use go_tree::{Body, Bodies};
+use go_tree::{Bodies, Body};
 use go_type::{TypeTerm, Types};
 use std::alloc::Global;
 use typed_rules::{Given, Meaning, Seen, value_of};
