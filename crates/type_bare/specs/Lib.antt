@@ -1,2 +1,1 @@
 pub mod Stripped
-pub mod Same
