@@ -7,7 +7,7 @@ use go_base::NoMemory;
 use go_rules::LogicOp;
 use go_type::{BinaryOp, CompareOp};
 use typed_rules::{
-    Seen, Sign, address_of, binary_expression, comparison, indirection, logical, negation, receive,
+    Seen, SignOp, address_of, binary_expression, comparison, indirection, logical, negation, receive,
     sign,
 };
 
@@ -82,9 +82,9 @@ impl Scope {
         let at = self.pos(operator.start);
         let ground = &mut self.ground;
         let expr = match operator.kind {
-            Kind::Plus => sign(ground, at, Sign::Plus, x)?,
-            Kind::Minus => sign(ground, at, Sign::Minus, x)?,
-            Kind::Caret => sign(ground, at, Sign::Complement, x)?,
+            Kind::Plus => sign(ground, at, SignOp::Plus, x)?,
+            Kind::Minus => sign(ground, at, SignOp::Minus, x)?,
+            Kind::Caret => sign(ground, at, SignOp::Complement, x)?,
             Kind::Not => negation(ground, at, x)?,
             Kind::Star => return indirection(ground, at, x),
             Kind::Ampersand => address_of(ground, at, x)?,

@@ -8,7 +8,7 @@ use go_base::{NoMemory, Pos, Rule, TypeId, VarId};
 use go_places::expr_start;
 use go_syntax::{Expr, ListedExpr};
 use go_tree::{DefineTarget, RangeOver, RangeTargets, Target, TypedExpr};
-use typed_rules::{Ranged, assigned_part, ranged};
+use typed_rules::{Ranged, assigned_part, range_operand};
 
 /// The targets of a range that were seen; names among them are not declared yet.
 #[derive(Drop)]
@@ -46,7 +46,7 @@ impl<'s> Walker<'s> {
         operand: &Expr,
     ) -> Result<SeenRange, NoMemory> {
         let seen = self.see(operand)?;
-        let ranged = ranged(self.scope.ground(), seen)?;
+        let ranged = range_operand(self.scope.ground(), seen)?;
         let is_define = match operator {
             Some(operator) => operator.kind == Kind::Define,
             None => false,

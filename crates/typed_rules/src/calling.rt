@@ -21,7 +21,7 @@ pub fn call(
     dots: Option<Pos>,
 ) -> Result<Option<TypedExpr>, NoMemory> {
     let Seen { at, meaning } = callee;
-    let call = Call {
+    let call = CallSite {
         at,
         parenthesis,
         dots,
@@ -41,7 +41,7 @@ pub fn call(
 
 /// The places of a call.
 #[derive(Clone, Copy)]
-struct Call {
+struct CallSite {
     at: Pos,
     parenthesis: Pos,
     dots: Option<Pos>,
@@ -49,7 +49,7 @@ struct Call {
 
 fn function_call(
     ground: &mut Ground,
-    call: Call,
+    call: CallSite,
     callee: Option<Given>,
     arguments: Vec<Seen>,
 ) -> Result<Option<TypedExpr>, NoMemory> {
@@ -209,7 +209,11 @@ pub fn place_of(values: &[Option<Given>], otherwise: Pos) -> Option<Pos> {
 }
 
 /// The rule that the number of arguments breaks, and where.
-fn number_breach(call: Call, signature: &Signature, arguments: &Arguments) -> Option<NumberBreach> {
+fn number_breach(
+    call: CallSite,
+    signature: &Signature,
+    arguments: &Arguments,
+) -> Option<NumberBreach> {
     let written = arguments.count();
     let wanted = signature.params.as_slice().len();
     if call.dots.is_some() {
@@ -239,7 +243,7 @@ enum NumberBreach {
     Count,
 }
 
-fn report_number(ground: &mut Ground, call: Call, breach: NumberBreach, arguments: &Arguments) {
+fn report_number(ground: &mut Ground, call: CallSite, breach: NumberBreach, arguments: &Arguments) {
     let Some(place) = arguments.place(call.at) else {
         return;
     };
@@ -252,7 +256,7 @@ fn report_number(ground: &mut Ground, call: Call, breach: NumberBreach, argument
 /// The arguments as values of the parameters, packed where these are variadic.
 fn passed_arguments(
     ground: &mut Ground,
-    call: Call,
+    call: CallSite,
     signature: &Signature,
     arguments: Arguments,
 ) -> Result<Option<Values>, NoMemory> {
@@ -279,7 +283,7 @@ fn passed_arguments(
 /// How arguments go to parameters.
 #[derive(Clone, Copy)]
 struct Plan {
-    call: Call,
+    call: CallSite,
     /// How many arguments have parameters of their own.
     fixed: usize,
     /// Where the others are packed: the type of the slice, and that of its elements.
@@ -287,7 +291,7 @@ struct Plan {
 }
 
 impl Plan {
-    fn new(ground: &Ground, call: Call, signature: &Signature, packs: bool) -> Plan {
+    fn new(ground: &Ground, call: CallSite, signature: &Signature, packs: bool) -> Plan {
         let params = signature.params.as_slice();
         match params.last() {
             Some(slice) if packs => Plan {

@@ -203,9 +203,9 @@ pub fn slice_expression(
     max: Option<Seen>,
 ) -> Result<Option<TypedExpr>, NoMemory> {
     let x = one_value(ground, x);
-    let low = bound(ground, low)?;
-    let high = bound(ground, high)?;
-    let max = bound(ground, max)?;
+    let low = bound_of(ground, low)?;
+    let high = bound_of(ground, high)?;
+    let max = bound_of(ground, max)?;
     let bounds = Bounds { low, high, max };
     let ordered = ask_order(ground, &bounds);
     let Some(Given { at, expr }) = with_text_type(ground, x)? else {
@@ -222,7 +222,7 @@ pub fn slice_expression(
     sliced(ground, at, shape, expr, bounds)
 }
 
-fn bound(ground: &mut Ground, part: Option<Seen>) -> Result<Bound, NoMemory> {
+fn bound_of(ground: &mut Ground, part: Option<Seen>) -> Result<Bound, NoMemory> {
     let Some(part) = part else {
         return Ok(Bound::Absent);
     };

@@ -60,11 +60,11 @@ pub use nodes::{
 pub use selecting::selector;
 pub use shifting::shift;
 pub use stating::{
-    Ranged, Sent, Stepped, array_length, condition, constant_value, ranged, send, step, switch_tag,
-    target,
+    Ranged, Sent, Stepped, array_length, condition, constant_value, range_operand, send, step,
+    switch_tag, target,
 };
 pub use structs::struct_literal;
-pub use unary::{Sign, address_of, indirection, negation, receive, sign};
+pub use unary::{SignOp, address_of, indirection, negation, receive, sign};
 
 #[cfg(test)]
 mod tests;

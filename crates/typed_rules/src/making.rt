@@ -12,7 +12,7 @@ use go_type::{Builtin, TypeTerm};
 
 /// The arguments of `make` or `new`: a type, and values.
 #[derive(Drop)]
-struct Formed {
+struct Shaped {
     /// Whether there is a first argument.
     has_form: bool,
     form_at: Pos,
@@ -59,8 +59,8 @@ fn formed_arguments(
     ground: &mut Ground,
     call: BuiltInCall,
     arguments: Vec<Seen>,
-) -> Result<Formed, NoMemory> {
-    let mut formed = Formed {
+) -> Result<Shaped, NoMemory> {
+    let mut formed = Shaped {
         has_form: false,
         form_at: call.at,
         form: None,
@@ -81,7 +81,7 @@ fn formed_arguments(
 fn new_of(
     ground: &mut Ground,
     call: BuiltInCall,
-    formed: Formed,
+    formed: Shaped,
     sound: bool,
 ) -> Result<Option<TypedExpr>, NoMemory> {
     let (Some(form), true) = (formed.form, sound) else {
@@ -111,10 +111,10 @@ fn sizes_of(ground: &Ground, form: TypeId) -> Option<(usize, usize)> {
 fn make_of(
     ground: &mut Ground,
     call: BuiltInCall,
-    formed: Formed,
+    formed: Shaped,
     sound: bool,
 ) -> Result<Option<TypedExpr>, NoMemory> {
-    let Formed {
+    let Shaped {
         has_form: _,
         form_at,
         form,

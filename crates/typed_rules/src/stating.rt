@@ -148,7 +148,7 @@ pub fn send(ground: &mut Ground, channel: Seen, value: Seen) -> Result<Option<Se
     let Some(Given { at, expr: channel }) = channel else {
         return Ok(None);
     };
-    let Some(elem) = sent(ground, channel.of) else {
+    let Some(elem) = sent_elem(ground, channel.of) else {
         ground.report(at, Rule::BadChannelOperation);
         return Ok(None);
     };
@@ -159,7 +159,7 @@ pub fn send(ground: &mut Ground, channel: Seen, value: Seen) -> Result<Option<Se
 }
 
 /// What is sent to a channel type that is not only for receiving.
-fn sent(ground: &Ground, of: TypeId) -> Option<TypeId> {
+fn sent_elem(ground: &Ground, of: TypeId) -> Option<TypeId> {
     match ground.types.underlying_term(of) {
         Some(
             TypeTerm::Chan {
@@ -179,7 +179,7 @@ pub fn switch_tag(ground: &mut Ground, x: Seen) -> Result<Option<TypedExpr>, NoM
 
 /// The operand of a range. `BadRange` at what is no array, pointer to one, slice, string, map or channel that can be received
 /// from. `over` is never `Constant`: `constant` tells of what may be.
-pub fn ranged(ground: &mut Ground, x: Seen) -> Result<Option<Ranged>, NoMemory> {
+pub fn range_operand(ground: &mut Ground, x: Seen) -> Result<Option<Ranged>, NoMemory> {
     let x = one_value(ground, x);
     let Some(Given { at, expr }) = with_text_type(ground, x)? else {
         return Ok(None);

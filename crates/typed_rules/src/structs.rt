@@ -12,7 +12,7 @@ use indexmap::IndexSet;
 
 /// An element of which the value was seen.
 #[derive(Drop)]
-struct Asked {
+struct Element {
     at: Pos,
     has_key: bool,
     name: Option<NameId>,
@@ -54,7 +54,7 @@ pub fn struct_literal(
 }
 
 /// Each value asked to be one.
-fn asked(ground: &mut Ground, elements: Vec<FieldEntry>) -> Result<Vec<Asked>, NoMemory> {
+fn asked(ground: &mut Ground, elements: Vec<FieldEntry>) -> Result<Vec<Element>, NoMemory> {
     let mut values = Vec::new(ground.alloc);
     for element in elements {
         let FieldEntry {
@@ -65,7 +65,7 @@ fn asked(ground: &mut Ground, elements: Vec<FieldEntry>) -> Result<Vec<Asked>, N
             value,
         } = element;
         let value = one_value(ground, value);
-        values.push(Asked {
+        values.push(Element {
             at,
             has_key,
             name,
@@ -77,7 +77,7 @@ fn asked(ground: &mut Ground, elements: Vec<FieldEntry>) -> Result<Vec<Asked>, N
 }
 
 /// Whether all elements have keys, or none.
-fn ask_keys(ground: &mut Ground, keyed: bool, elements: &[Asked]) -> bool {
+fn ask_keys(ground: &mut Ground, keyed: bool, elements: &[Element]) -> bool {
     let mut uniform = true;
     for element in elements {
         if element.has_key != keyed {
@@ -92,7 +92,7 @@ fn ask_keys(ground: &mut Ground, keyed: bool, elements: &[Asked]) -> bool {
 fn keyed_fields(
     ground: &mut Ground,
     of: TypeId,
-    elements: Vec<Asked>,
+    elements: Vec<Element>,
 ) -> Result<Option<Vec<FieldInit>>, NoMemory> {
     let mut taken = IndexSet::new(ground.alloc);
     let mut fields = Some(Vec::new(ground.alloc));
@@ -114,7 +114,7 @@ fn keyed_fields(
 }
 
 /// The number and the type of the field that a key names. `BadCompositeLiteral` at a key that names none.
-fn field_of_key(ground: &mut Ground, of: TypeId, element: &Asked) -> Option<(u32, TypeId)> {
+fn field_of_key(ground: &mut Ground, of: TypeId, element: &Element) -> Option<(u32, TypeId)> {
     if !element.has_key {
         return None;
     }
@@ -145,7 +145,7 @@ fn field_value(
     ground: &mut Ground,
     field: u32,
     to: TypeId,
-    element: Asked,
+    element: Element,
 ) -> Result<Option<FieldInit>, NoMemory> {
     let Some(value) = assigned(ground, element.value, Some(to))? else {
         return Ok(None);
@@ -158,7 +158,7 @@ fn listed_fields(
     ground: &mut Ground,
     package: u32,
     of: TypeId,
-    elements: Vec<Asked>,
+    elements: Vec<Element>,
 ) -> Result<Option<Vec<FieldInit>>, NoMemory> {
     let number = fields_of(&ground.types, of).len();
     let open = ask_open(ground, package, of, elements.as_slice());
@@ -177,7 +177,7 @@ fn listed_fields(
 }
 
 /// The place of the first of values that are all sound.
-fn values_place(elements: &[Asked]) -> Option<Pos> {
+fn values_place(elements: &[Element]) -> Option<Pos> {
     let mut first = None;
     for element in elements {
         if element.value.is_none() {
@@ -191,7 +191,7 @@ fn values_place(elements: &[Asked]) -> Option<Pos> {
 }
 
 /// Whether each field that has a value is exported or of the package. `BadCompositeLiteral` at a value of one that is not.
-fn ask_open(ground: &mut Ground, package: u32, of: TypeId, elements: &[Asked]) -> bool {
+fn ask_open(ground: &mut Ground, package: u32, of: TypeId, elements: &[Element]) -> bool {
     let mut open = true;
     for (number, element) in elements.iter().enumerate() {
         if !is_open(fields_of(&ground.types, of), number, package) {
@@ -213,7 +213,7 @@ fn listed_field(
     ground: &mut Ground,
     of: TypeId,
     number: usize,
-    element: Asked,
+    element: Element,
 ) -> Result<Option<FieldInit>, NoMemory> {
     if element.has_key {
         return Ok(None);

@@ -11,7 +11,7 @@ use go_type::{Const, Dir, TypeTerm, UnaryOp};
 
 /// The signs.
 #[derive(Clone, Copy, Debug, PartialEq, Eq)]
-pub enum Sign {
+pub enum SignOp {
     /// `+`
     Plus,
     /// `-`
@@ -25,7 +25,7 @@ pub enum Sign {
 pub fn sign(
     ground: &mut Ground,
     at: Pos,
-    op: Sign,
+    op: SignOp,
     x: Seen,
 ) -> Result<Option<TypedExpr>, NoMemory> {
     let Some(x) = one_value(ground, x) else {
@@ -36,9 +36,9 @@ pub fn sign(
         return Ok(None);
     }
     match op {
-        Sign::Plus => Ok(Some(plus(ground, at, x)?)),
-        Sign::Minus => operation(ground, at, UnaryOp::Negate, x),
-        Sign::Complement => operation(ground, at, UnaryOp::Complement, x),
+        SignOp::Plus => Ok(Some(plus(ground, at, x)?)),
+        SignOp::Minus => operation(ground, at, UnaryOp::Negate, x),
+        SignOp::Complement => operation(ground, at, UnaryOp::Complement, x),
     }
 }
 
