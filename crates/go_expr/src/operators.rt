@@ -7,8 +7,8 @@ use go_base::NoMemory;
 use go_rules::LogicOp;
 use go_type::{BinaryOp, CompareOp};
 use typed_rules::{
-    Seen, SignOp, address_of, binary_expression, comparison, indirection, logical, negation, receive,
-    sign,
+    Seen, SignOp, address_of, binary_expression, comparison, indirection, logical, negation,
+    receive, sign,
 };
 
 /// An operator on two operands.
