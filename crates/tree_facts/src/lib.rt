@@ -1,13 +1,14 @@
-// A library with one function.
+//! What is read off typed programs: which variables need a cell, what functions are called, which functions are part of the
+//! program, and which expressions have no effect.
 #![tactic(auto)]
 
-ghost use Rattle.std.specs.Prelude.{◌≡◌};
-ghost use Rattle.tree_facts.specs.Echo.{echo_of};
+mod calm;
+mod cells;
+mod naming;
+mod places;
+mod roots;
+mod statements;
 
-// The `ensures` clause is the contract: what `echo` returns is `echo_of` of its argument, a definition
-// in `specs/Echo.antt`, which a caller's clause can cite too.
-pub fn echo(x: usize) -> usize
-    ensures { result ≡ echo_of x }
-{
-    x
-}
+pub use calm::is_calm;
+pub use cells::{VarSet, cells_of, needs_cell};
+pub use naming::{function_name, is_in_program, labels};
