@@ -19,7 +19,7 @@ enum Infix {
     Compare(CompareOp),
 }
 
-fn infix(kind: Kind) -> Option<Infix> {
+fn infix_of(kind: Kind) -> Option<Infix> {
     match binary_op(kind) {
         Some(op) => Some(Infix::Binary(op)),
         None => match kind {
@@ -68,7 +68,7 @@ impl Scope {
     pub(crate) fn binary(&mut self, operator: Token, x: Seen, y: Seen) -> Result<Seen, NoMemory> {
         let at = x.at;
         let ground = &mut self.ground;
-        let expr = match infix(operator.kind) {
+        let expr = match infix_of(operator.kind) {
             Some(Infix::Binary(op)) => binary_expression(ground, op, x, y)?,
             Some(Infix::Logic(op)) => logical(ground, op, x, y)?,
             Some(Infix::Compare(op)) => comparison(ground, op, x, y)?,
