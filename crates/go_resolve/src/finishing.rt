@@ -9,7 +9,7 @@ use crate::local_types::number_local_types;
 use crate::nodes::Kind;
 use crate::package_order::{PackageOrder, narrow, packages_of};
 use crate::rows::{Facts, receiver_base};
-use crate::specs::Made;
+use crate::specifications::Made;
 use crate::tables::{Sort, Tables};
 use go_base::{FuncId, NameId, NoMemory, Pos, TypeId, VarId};
 use go_load::Sources;

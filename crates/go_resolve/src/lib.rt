@@ -20,7 +20,7 @@ mod package_order;
 mod reading;
 mod rows;
 mod shapes;
-mod specs;
+mod specifications;
 mod tables;
 mod values;
 mod violations;

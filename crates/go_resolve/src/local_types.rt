@@ -91,9 +91,8 @@ impl Numbering {
             opens: false,
             wanted: false,
         };
-        let mut rest = tokens;
-        while let Some((token, others)) = rest.split_first() {
-            let next = match others.first() {
+        for (index, token) in tokens.iter().enumerate() {
+            let next = match tokens.get(index.saturating_add(1)) {
                 Some(next) => next.kind,
                 None => Kind::Inserted,
             };
@@ -104,7 +103,6 @@ impl Numbering {
                 })?;
             }
             place.pass(token.kind, next)?;
-            rest = others;
         }
         Ok(())
     }

@@ -474,16 +474,16 @@ impl Values {
             return Ok(());
         };
         match converted(self.alloc, known.types, &x.value, of)? {
-            Converted::Value(value) => {
+            Conversion::Value(value) => {
                 if arguments.dots.is_some() {
                     return Ok(());
                 }
                 self.put(node, Value { of, value })
             }
-            Converted::OutOfRange => {
+            Conversion::OutOfRange => {
                 violations.push(known.nodes, *operand, Rule::ConstantOutOfRange)
             }
-            Converted::Bad => violations.push(known.nodes, node, Rule::BadConversion),
+            Conversion::Bad => violations.push(known.nodes, node, Rule::BadConversion),
         }
     }
 
@@ -730,7 +730,7 @@ struct Best {
 
 /// What a conversion of a constant gives.
 #[derive(Debug, Drop)]
-enum Converted {
+enum Conversion {
     Value(Const),
     OutOfRange,
     Bad,
@@ -742,7 +742,7 @@ fn converted(
     types: &Types,
     value: &Const,
     to: TypeId,
-) -> Result<Converted, NoMemory> {
+) -> Result<Conversion, NoMemory> {
     let is_integer = int_kind(types, to).is_some();
     match value {
         Const::Int(number) | Const::Rune(number) => {
@@ -751,23 +751,23 @@ fn converted(
             }
             if crate::denoting::is_basic(types, to, Basic::Text) {
                 let text = crate::literals::text_of_rune(alloc, *number)?;
-                return Ok(Converted::Value(Const::Text(text)));
+                return Ok(Conversion::Value(Const::Text(text)));
             }
-            Ok(Converted::Bad)
+            Ok(Conversion::Bad)
         }
         Const::Text(_) | Const::Truth(_) => {
             if !represent(types, value, to) {
-                return Ok(Converted::Bad);
+                return Ok(Conversion::Bad);
             }
-            Ok(Converted::Value(value.copy(alloc)?))
+            Ok(Conversion::Value(value.copy(alloc)?))
         }
     }
 }
 
-fn made(value: Result<Const, Breach>) -> Converted {
+fn made(value: Result<Const, Breach>) -> Conversion {
     match value {
-        Ok(value) => Converted::Value(value),
-        Err(_) => Converted::OutOfRange,
+        Ok(value) => Conversion::Value(value),
+        Err(_) => Conversion::OutOfRange,
     }
 }
 
