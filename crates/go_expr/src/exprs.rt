@@ -6,9 +6,12 @@ use crate::own::Position;
 use crate::scope::Scope;
 use crate::types::{see_signature, see_type};
 use go_ast::Token;
-use go_base::NoMemory;
+use go_base::{FuncId, NameId, NoMemory, Pos, TypeId};
 use go_load::SourceFile;
+use go_names::Mentioned;
 use go_syntax::{Expr, ListedExpr};
+use go_tree::{ExprKind, Method, TypedExpr};
+use go_type::{SelectError, SelectionKind, find_selector};
 use std::alloc::Global;
 use typed_rules::{
     Seen, call, index_expression, parenthesized, selector, slice_expression, type_assertion,
@@ -186,7 +189,49 @@ impl Scope {
         let name_at = self.pos(token.start);
         let (name, package) = self.named_in_package(source, token)?;
         let expr = selector(&mut self.ground, x, name_at, name, package)?;
+        if let Some(expr) = &expr {
+            self.mention_method(name_at, expr)?;
+        }
         Ok(Seen::value(at, expr))
+    }
+
+    /// Notes that the concrete method is read that a selector selects.
+    fn mention_method(&mut self, at: Pos, expr: &TypedExpr) -> Result<(), NoMemory> {
+        match self.method_of(expr)? {
+            Some(function) => self.mention_of(at, Mentioned::Function(function)),
+            None => Ok(()),
+        }
+    }
+
+    fn method_of(&self, expr: &TypedExpr) -> Result<Option<FuncId>, NoMemory> {
+        match &expr.kind {
+            ExprKind::MethodValue {
+                method: Method::Concrete(function),
+                ..
+            } => Ok(Some(*function)),
+            ExprKind::MethodExpr {
+                receiver,
+                name,
+                package,
+            } => self.method_of_type(*receiver, *name, *package),
+            _ => Ok(None),
+        }
+    }
+
+    fn method_of_type(
+        &self,
+        of: TypeId,
+        name: NameId,
+        package: u32,
+    ) -> Result<Option<FuncId>, NoMemory> {
+        match find_selector(self.alloc, &self.ground.types, of, name, package) {
+            Ok(selection) => match selection.kind {
+                SelectionKind::Method(function) => Ok(Some(function)),
+                _ => Ok(None),
+            },
+            Err(SelectError::OutOfMemory) => Err(NoMemory),
+            Err(_) => Ok(None),
+        }
     }
 
     fn call(

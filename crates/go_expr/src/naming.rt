@@ -103,7 +103,8 @@ impl Scope {
         }
     }
 
-    fn mention_of(&mut self, at: Pos, what: Mentioned) -> Result<(), NoMemory> {
+    /// Notes that something is read at a place.
+    pub(crate) fn mention_of(&mut self, at: Pos, what: Mentioned) -> Result<(), NoMemory> {
         self.mention(Mention {
             at,
             what,
