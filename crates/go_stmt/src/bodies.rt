@@ -3,6 +3,7 @@
 
 use crate::frames::{Frame, ResultOf};
 use crate::steps::Steps;
+use crate::uses::mentions_from;
 use crate::walker::Walker;
 use go_ast::Token;
 use go_base::{FuncId, NoMemory, Pos, Rule, TypeId, VarId};
@@ -242,7 +243,7 @@ impl<'s> Walker<'s> {
     /// The variables of functions around that were read since a function was entered, ascending.
     fn captured(&self, first_variable: usize, first_mention: usize) -> Result<VarIds, NoMemory> {
         let mut found: Vec<u64> = Vec::new(self.alloc);
-        for mention in self.scope.mentions().as_slice().iter().skip(first_mention) {
+        for mention in mentions_from(self.scope.mentions().as_slice(), first_mention) {
             if let Mentioned::Variable(variable) = mention.what {
                 if self.is_captured(variable, first_variable) {
                     found.push(variable.number)?;

@@ -2,7 +2,7 @@
 //! specification, "Variable declarations", "Import declarations", "Package initialization", "Program execution".
 
 use crate::initials::Initials;
-use crate::uses::{Holder, Reading};
+use crate::uses::{Holder, Reading, mentions_from};
 use crate::walker::Walker;
 use flow_rules::{Node, Reliance};
 use go_base::{FuncId, NoMemory, Pos, Rule};
@@ -112,8 +112,8 @@ impl<'s> Walker<'s> {
             Holder::Function(function) => Node::Function(function.number as usize),
         };
         let count = reading.to.saturating_sub(reading.from);
-        let mentions = self.scope.mentions().as_slice();
-        for mention in mentions.iter().skip(reading.from).take(count) {
+        let mentions = mentions_from(self.scope.mentions().as_slice(), reading.from);
+        for mention in mentions.iter().take(count) {
             if let Some(to) = node_of(mention) {
                 reliance.add(from, to)?;
             }

@@ -1,7 +1,7 @@
 //! The initialisers of package variables. Go specification, "Variable declarations", "Package initialization".
 
 use crate::error::lost;
-use crate::uses::Holder;
+use crate::uses::{Holder, mentions_from};
 use crate::walker::Walker;
 use go_base::{NoMemory, Pos, Rule, TypeId, VarId};
 use go_faults::Least;
@@ -263,7 +263,7 @@ impl<'s> Walker<'s> {
     /// The variables without a written type that were read from a mention on.
     fn named_from(&self, initials: &Initials<'s>, from: usize) -> Result<Vec<usize>, NoMemory> {
         let mut named = Vec::new(self.alloc);
-        for mention in self.scope.mentions().as_slice().iter().skip(from) {
+        for mention in mentions_from(self.scope.mentions().as_slice(), from) {
             if let Mentioned::Variable(variable) = mention.what {
                 if initials.of(variable.number as usize).is_some() {
                     named.push(variable.number as usize)?;

@@ -32,7 +32,7 @@ pub struct Received {
 }
 
 /// The channel of a typed receive.
-fn received(expr: TypedExpr) -> Option<Received> {
+fn receive_of(expr: TypedExpr) -> Option<Received> {
     let TypedExpr { of, kind, .. } = expr;
     match kind {
         ExprKind::Receive { channel, .. } => Some(Received {
@@ -85,7 +85,7 @@ impl<'s> Walker<'s> {
         let Some(given) = self.see_value(expr)? else {
             return Ok(SeenComm::Unsound);
         };
-        let Some(received) = received(given.expr) else {
+        let Some(received) = receive_of(given.expr) else {
             self.report(at, Rule::BadChannelOperation);
             return Ok(SeenComm::Unsound);
         };
@@ -122,7 +122,7 @@ impl<'s> Walker<'s> {
         }
         let value_at = given.at;
         let of = given.expr.of;
-        let received = received(given.expr);
+        let received = receive_of(given.expr);
         let Some(received) = received else {
             return Ok(SeenComm::Unsound);
         };
@@ -198,7 +198,7 @@ impl<'s> Walker<'s> {
         if !is_receive(&given.expr) {
             self.report(at, Rule::BadChannelOperation);
         }
-        match received(given.expr) {
+        match receive_of(given.expr) {
             Some(received) => Ok(SeenComm::Define {
                 channel: Some(received.channel),
                 of: Some(received.of),

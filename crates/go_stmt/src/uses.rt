@@ -1,6 +1,7 @@
 //! Which names have to be used, and by whom names are read.
 
 use go_base::{FuncId, NoMemory, Pos, VarId};
+use go_names::Mention;
 use std::alloc::Global;
 
 /// A name that has to be used: of a variable, or of the variables of the clauses of a type switch.
@@ -71,4 +72,13 @@ pub struct Reading {
     pub holder: Holder,
     pub from: usize,
     pub to: usize,
+}
+
+/// The names that were read from a number on.
+pub fn mentions_from(mentions: &[Mention], from: usize) -> &[Mention] {
+    if from <= mentions.len() {
+        &mentions[from..]
+    } else {
+        &[]
+    }
 }
