@@ -7,8 +7,8 @@ ghost use Rattle.go_base.specs.Devices.{HasFaulted};
 ghost use Rattle.driver.specs.Performing.{IsUsage, outcome_of};
 ghost use Rattle.driver.specs.WholeAnswer.{Answers};
 
-use crate::outcome::Outcome;
 use crate::checking::check_and_work;
+use crate::outcome::Outcome;
 use crate::work::not_built;
 use command_line::{Command, CommandError, LoadCommand, read_words};
 use go_base::{Files, Sink, Text};
