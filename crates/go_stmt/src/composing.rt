@@ -2,7 +2,7 @@
 
 use crate::choosing::{Cases, Matched, SeenTag, Tag};
 use crate::receiving::SeenComm;
-use crate::steps::{First, Gathered, Steps, WalkedArm, WalkedBlock};
+use crate::steps::{First, Gathered, Steps, WalkedArm, WalkedBlock, with_last};
 use crate::walker::Walker;
 use go_ast::Token;
 use go_base::{NameId, NoMemory, Pos, Rule, VarId};
@@ -190,13 +190,7 @@ impl<'s> Walker<'s> {
         let mut typed = Some(Vec::new(self.alloc));
         for item in items {
             let case = self.see_case(&item.expr, tag, cases)?;
-            typed = match (typed, case) {
-                (Some(mut typed), Some(case)) => {
-                    typed.push(case)?;
-                    Some(typed)
-                }
-                _ => None,
-            };
+            typed = with_last(typed, case)?;
         }
         Ok(typed)
     }

@@ -168,8 +168,9 @@ impl<'s> Walker<'s> {
             listed,
             is_sound,
         } = defining;
-        let targets = self.declare_lefts(lefts.names.as_slice(), listed.types.as_slice())?;
-        match listed.values {
+        let Listed { values, types } = listed;
+        let targets = self.declare_lefts(lefts.names.as_slice(), types.as_slice())?;
+        match values {
             Some(values) if is_sound => Ok(Some(TypedStmt::Define {
                 at,
                 targets,

@@ -9,7 +9,7 @@ use go_base::{FuncId, NoMemory, Pos, Rule};
 use go_faults::Fault;
 use go_names::{Mention, Mentioned};
 use go_syntax::ImportSpec;
-use go_tree::{FunctionForm, Package};
+use go_tree::{FunctionDecl, FunctionForm};
 use indexmap::IndexSet;
 
 /// An import, by its index in its file.
@@ -143,51 +143,60 @@ impl<'s> Walker<'s> {
 
     /// The function `main` of the package of that name, which is to have one.
     pub fn find_main(&mut self) -> Option<FuncId> {
-        let mut found = None;
-        for (index, package) in self.scope.packages().as_slice().iter().enumerate() {
-            if package.label.as_str() == "main" {
-                found = main_of(self, index);
-                if found.is_none() {
-                    let fault = self.without_main(index, package);
-                    self.later.report(fault);
-                }
-            }
+        let package = self.main_package()?;
+        let found = self.main_of(package);
+        if found.is_none() {
+            let fault = self.without_main(package);
+            self.later.report(fault);
         }
         found
     }
 
+    /// The package that is named main.
+    fn main_package(&self) -> Option<usize> {
+        for (index, package) in self.scope.packages().as_slice().iter().enumerate() {
+            if package.label.as_str() == "main" {
+                return Some(index);
+            }
+        }
+        None
+    }
+
+    /// The function `main` of a package.
+    fn main_of(&self, package: usize) -> Option<FuncId> {
+        for (index, function) in self.scope.functions().as_slice().iter().enumerate() {
+            if self.is_main(function, package) {
+                return Some(FuncId {
+                    number: index as u64,
+                });
+            }
+        }
+        None
+    }
+
+    fn is_main(&self, function: &FunctionDecl, package: usize) -> bool {
+        function.form == FunctionForm::Function
+            && function.package as usize == package
+            && self.scope.names().text(function.name) == Some("main")
+    }
+
     /// That a package named main has no function `main`.
-    fn without_main(&self, index: usize, package: &Package) -> Fault {
-        let offset = match self.sources.file(package.first_file) {
+    fn without_main(&self, package: usize) -> Fault {
+        let file = match self.scope.packages().as_slice().get(package) {
+            Some(package) => package.first_file,
+            None => 0,
+        };
+        let offset = match self.sources.file(file) {
             Some(source) => source.tree.name.start,
             None => 0,
         };
         Fault {
             phase: 5,
-            package: u32::try_from(index).unwrap_or(0),
-            pos: Pos {
-                file: package.first_file,
-                offset,
-            },
+            package: u32::try_from(package).unwrap_or(0),
+            pos: Pos { file, offset },
             rule: Rule::NoMainFunction,
         }
     }
-}
-
-/// The function `main` of a package.
-fn main_of(walker: &Walker<'_>, package: usize) -> Option<FuncId> {
-    let names = walker.scope.names();
-    for (index, function) in walker.scope.functions().as_slice().iter().enumerate() {
-        if function.form == FunctionForm::Function
-            && function.package as usize == package
-            && names.text(function.name) == Some("main")
-        {
-            return Some(FuncId {
-                number: index as u64,
-            });
-        }
-    }
-    None
 }
 
 /// What a name that was read stands for in the graph of initialisations.

@@ -2,6 +2,7 @@
 
 use crate::defining::{Left, Lefts};
 use crate::simple::Side;
+use crate::steps::with_last;
 use crate::walker::Walker;
 use go_ast::{Kind, Token};
 use go_base::{NoMemory, Pos, Rule, TypeId, VarId};
@@ -130,13 +131,7 @@ impl<'s> Walker<'s> {
                 None => self.pos(0),
             };
             let part = self.range_part(at, index, of, side)?;
-            parts = match (parts, part) {
-                (Some(mut parts), Some(part)) => {
-                    parts.push(part)?;
-                    Some(parts)
-                }
-                _ => None,
-            };
+            parts = with_last(parts, part)?;
         }
         Ok(parts)
     }

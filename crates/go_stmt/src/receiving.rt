@@ -2,6 +2,7 @@
 
 use crate::defining::{Left, Lefts};
 use crate::simple::{Side, targets_of};
+use crate::steps::with_last;
 use crate::walker::Walker;
 use go_base::{NoMemory, Pos, Rule, TypeId};
 use go_places::{expr_start, stmt_start};
@@ -128,15 +129,16 @@ impl<'s> Walker<'s> {
         };
         let parts = self.parts_of(value_at, of, &sides)?;
         let targets = targets_of(self.alloc, sides)?;
-        match (targets, parts) {
-            (Some(targets), Some(parts)) if targets.len() <= 2 => {
-                Ok(SeenComm::Whole(Comm::Receive {
-                    channel: received.channel,
-                    into: ReceiveInto::Assign { targets, parts },
-                }))
-            }
-            _ => Ok(SeenComm::Unsound),
+        let Some((targets, parts)) = targets.zip(parts) else {
+            return Ok(SeenComm::Unsound);
+        };
+        if targets.len() > 2 {
+            return Ok(SeenComm::Unsound);
         }
+        Ok(SeenComm::Whole(Comm::Receive {
+            channel: received.channel,
+            into: ReceiveInto::Assign { targets, parts },
+        }))
     }
 
     /// What is received, as values of the sides: the element, and whether it was sent.
@@ -160,13 +162,7 @@ impl<'s> Walker<'s> {
                 }
                 _ => None,
             };
-            parts = match (parts, part) {
-                (Some(mut parts), Some(part)) => {
-                    parts.push(part)?;
-                    Some(parts)
-                }
-                _ => None,
-            };
+            parts = with_last(parts, part)?;
         }
         Ok(parts)
     }

@@ -12,7 +12,8 @@ use go_tree::{ExprKind, Target, TypedExpr, TypedStmt};
 use go_type::{BinaryOp, Builtin};
 use std::alloc::Global;
 use typed_rules::{
-    Into, Meaning, Seen, binary_expression, is_place, send, step, target, value_of, values_into,
+    Into, Listed, Meaning, Seen, binary_expression, is_place, send, step, target, value_of,
+    values_into,
 };
 
 /// A side of an assignment.
@@ -220,15 +221,21 @@ impl<'s> Walker<'s> {
         let sides = self.sides(targets)?;
         let values = self.see_list(values)?;
         let intos = intos_of(self.alloc, &sides)?;
-        let listed = values_into(self.scope.ground(), at, values, &intos, true)?;
+        let Listed { values, types: _ } = values_into(
+            self.scope.ground(),
+            at,
+            values,
+            &intos,
+            true,
+        )?;
         let targets = targets_of(self.alloc, sides)?;
-        match (targets, listed.values) {
-            (Some(targets), Some(values)) => Ok(Some(TypedStmt::Assign {
+        match targets.zip(values) {
+            Some((targets, values)) => Ok(Some(TypedStmt::Assign {
                 at,
                 targets,
                 values,
             })),
-            _ => Ok(None),
+            None => Ok(None),
         }
     }
 
@@ -377,8 +384,14 @@ impl<'s> Walker<'s> {
                 None => Into::Unsound,
             })?;
         }
-        let listed = values_into(self.scope.ground(), at, values, &intos, false)?;
-        match listed.values {
+        let Listed { values, types: _ } = values_into(
+            self.scope.ground(),
+            at,
+            values,
+            &intos,
+            false,
+        )?;
+        match values {
             Some(values) => Ok(Some(TypedStmt::Return {
                 at,
                 values: Some(values),

@@ -153,6 +153,18 @@ pub struct WalkedArm {
     pub ends: bool,
 }
 
+/// One more item, where all are sound.
+pub fn with_last<T: Drop>(
+    items: Option<Vec<T>>,
+    last: Option<T>,
+) -> Result<Option<Vec<T>>, NoMemory> {
+    let Some((mut items, last)) = items.zip(last) else {
+        return Ok(None);
+    };
+    items.push(last)?;
+    Ok(Some(items))
+}
+
 /// Items of a list, as long as all are sound, and whether each ends.
 #[derive(Drop)]
 pub struct Gathered<T: Drop> {
@@ -174,13 +186,7 @@ impl<T: Drop> Gathered<T> {
         if !ends {
             self.all_end = false;
         }
-        match (self.items.take(), item) {
-            (Some(mut items), Some(item)) => {
-                items.push(item)?;
-                self.items = Some(items);
-            }
-            _ => {}
-        }
+        self.items = with_last(self.items.take(), item)?;
         Ok(())
     }
 }

@@ -2,7 +2,7 @@
 
 use crate::roots::Roots;
 use go_base::{FuncId, NoMemory, VarId};
-use go_tree::{Body, Program};
+use go_tree::{Body, Program, Variable};
 use std::alloc::Global;
 
 /// Variables, ascending by number and each once.
@@ -74,30 +74,28 @@ fn is_captured_by_any(bodies: &[Option<Body>], var: VarId) -> bool {
 /// Whether the address of a variable or of a part is taken in a body, or a part is assigned.
 fn is_met(program: &Program, body: &Body, var: VarId) -> bool {
     let mut roots = Roots::one(program.types.allocator(), var);
-    roots.in_block(&body.block);
-    roots.is_met
+    match roots.in_block(&body.block) {
+        Ok(()) => roots.is_met,
+        Err(_) => true,
+    }
 }
 
 /// The variables that need a cell in a function: those of which `needs_cell` says so.
 pub fn cells_of(alloc: Global, program: &Program, function: FuncId) -> Result<VarSet, NoMemory> {
+    let mut items = Vec::new(alloc);
     let Some(Some(body)) = program.bodies.as_slice().get(function.number as usize) else {
-        return Ok(VarSet {
-            items: Vec::new(alloc),
-        });
+        return Ok(VarSet { items });
     };
     let mut roots = Roots::all(alloc);
-    roots.in_block(&body.block);
-    if roots.is_short {
-        return Err(NoMemory);
-    }
-    let mut items = Vec::new(alloc);
-    push_own(&mut items, program, function, &roots.met)?;
+    roots.in_block(&body.block)?;
+    let variables = program.variables.as_slice();
+    push_own(&mut items, variables, function, &roots.met)?;
     if body.has_defer {
-        push_own(&mut items, program, function, body.results.as_slice())?;
+        push_own(&mut items, variables, function, body.results.as_slice())?;
     }
     for other in program.bodies.as_slice() {
         if let Some(other) = other {
-            push_own(&mut items, program, function, other.captured.as_slice())?;
+            push_own(&mut items, variables, function, other.captured.as_slice())?;
         }
     }
     items.extend_from_slice(body.captured.as_slice())?;
@@ -106,17 +104,17 @@ pub fn cells_of(alloc: Global, program: &Program, function: FuncId) -> Result<Va
     Ok(VarSet { items })
 }
 
-/// Adds those of the variables that are of a function.
+/// Adds those of variables that are of a function.
 fn push_own(
     items: &mut Vec<VarId>,
-    program: &Program,
+    variables: &[Variable],
     function: FuncId,
-    variables: &[VarId],
+    added: &[VarId],
 ) -> Result<(), NoMemory> {
-    for variable in variables {
-        if let Some(declared) = program.variables.as_slice().get(variable.number as usize) {
-            if declared.function == Some(function) {
-                items.push(*variable)?;
+    for id in added {
+        if let Some(variable) = variables.get(id.number as usize) {
+            if variable.function == Some(function) {
+                items.push(*id)?;
             }
         }
     }

@@ -1,7 +1,7 @@
 //! The variables whose address, or that of a part, is taken in an expression.
 
 use crate::places::root_of;
-use go_base::VarId;
+use go_base::{NoMemory, VarId};
 use go_tree::{Callee, Elements, EntryInit, ExprKind, FieldInit, ItemInit, TypedExpr, Values};
 use std::alloc::Global;
 
@@ -14,8 +14,6 @@ pub struct Roots {
     pub is_met: bool,
     /// Those that were met, where all are looked for.
     pub met: Vec<VarId>,
-    /// Whether there was no memory for one of them.
-    pub is_short: bool,
 }
 
 impl Roots {
@@ -25,42 +23,37 @@ impl Roots {
             wanted: None,
             is_met: false,
             met: Vec::new(alloc),
-            is_short: false,
         }
     }
 
-    /// One is looked for. No memory is taken.
+    /// One is looked for. No memory is taken, so no call fails.
     pub fn one(alloc: Global, wanted: VarId) -> Roots {
         Roots {
             wanted: Some(wanted),
             is_met: false,
             met: Vec::new(alloc),
-            is_short: false,
         }
     }
 
     /// A variable is met, if there is one.
-    pub fn meet(&mut self, variable: Option<VarId>) {
+    pub fn meet(&mut self, variable: Option<VarId>) -> Result<(), NoMemory> {
         let Some(variable) = variable else {
-            return;
+            return Ok(());
         };
         match self.wanted {
             Some(wanted) => {
-                if wanted == variable {
+                if wanted.number == variable.number {
                     self.is_met = true;
                 }
             }
-            None => {
-                if self.met.push(variable).is_err() {
-                    self.is_short = true;
-                }
-            }
+            None => self.met.push(variable)?,
         }
+        Ok(())
     }
 
     /// Those of an expression.
     #[cycle(roots)]
-    pub fn in_expr(&mut self, expr: &TypedExpr) {
+    pub fn in_expr(&mut self, expr: &TypedExpr) -> Result<(), NoMemory> {
         match &expr.kind {
             ExprKind::ConstOf(_)
             | ExprKind::NilOf
@@ -68,10 +61,10 @@ impl Roots {
             | ExprKind::FunctionOf(_)
             | ExprKind::LiteralOf(_)
             | ExprKind::MethodExpr { .. }
-            | ExprKind::PartOf(_) => {}
+            | ExprKind::PartOf(_) => Ok(()),
             ExprKind::AddressOf(operand) => {
-                self.meet(root_of(operand));
-                self.in_expr(operand);
+                self.meet(root_of(operand))?;
+                self.in_expr(operand)
             }
             ExprKind::MethodValue { receiver, .. } => self.in_expr(receiver),
             ExprKind::FieldOf { operand, .. }
@@ -82,12 +75,12 @@ impl Roots {
             | ExprKind::ToInterface(operand) => self.in_expr(operand),
             ExprKind::Receive { channel, .. } => self.in_expr(channel),
             ExprKind::IndexOf { operand, index, .. } => {
-                self.in_expr(operand);
-                self.in_expr(index);
+                self.in_expr(operand)?;
+                self.in_expr(index)
             }
             ExprKind::MapIndex { map, key, .. } => {
-                self.in_expr(map);
-                self.in_expr(key);
+                self.in_expr(map)?;
+                self.in_expr(key)
             }
             ExprKind::SliceOf {
                 operand,
@@ -96,21 +89,21 @@ impl Roots {
                 max,
                 ..
             } => {
-                self.in_expr(operand);
-                self.in_option(low);
-                self.in_option(high);
-                self.in_option(max);
+                self.in_expr(operand)?;
+                self.in_option(low)?;
+                self.in_option(high)?;
+                self.in_option(max)
             }
             ExprKind::BinaryOf { left, right, .. }
             | ExprKind::CompareOf { left, right, .. }
             | ExprKind::AndAlso { left, right }
             | ExprKind::OrElse { left, right } => {
-                self.in_expr(left);
-                self.in_expr(right);
+                self.in_expr(left)?;
+                self.in_expr(right)
             }
             ExprKind::CallOf { callee, arguments } => {
-                self.in_callee(callee);
-                self.in_values(arguments);
+                self.in_callee(callee)?;
+                self.in_values(arguments)
             }
             ExprKind::BuiltinOf { arguments, .. } => self.in_list(arguments),
             ExprKind::CompositeOf(elements) => self.in_elements(elements),
@@ -118,24 +111,26 @@ impl Roots {
     }
 
     #[cycle(roots)]
-    fn in_option(&mut self, expr: &Option<Box<TypedExpr>>) {
-        if let Some(expr) = expr {
-            self.in_expr(expr);
+    fn in_option(&mut self, expr: &Option<Box<TypedExpr>>) -> Result<(), NoMemory> {
+        match expr {
+            Some(expr) => self.in_expr(expr),
+            None => Ok(()),
         }
     }
 
     /// Those of a list of expressions.
     #[cycle(roots)]
-    pub fn in_list(&mut self, exprs: &[TypedExpr]) {
+    pub fn in_list(&mut self, exprs: &[TypedExpr]) -> Result<(), NoMemory> {
         for expr in exprs {
-            self.in_expr(expr);
+            self.in_expr(expr)?;
         }
+        Ok(())
     }
 
     #[cycle(roots)]
-    fn in_callee(&mut self, callee: &Callee) {
+    fn in_callee(&mut self, callee: &Callee) -> Result<(), NoMemory> {
         match callee {
-            Callee::Function(_) | Callee::Literal(_) => {}
+            Callee::Function(_) | Callee::Literal(_) => Ok(()),
             Callee::Method { receiver, .. } | Callee::Interface { receiver, .. } => {
                 self.in_expr(receiver)
             }
@@ -145,18 +140,18 @@ impl Roots {
 
     /// Those of the values of a list.
     #[cycle(roots)]
-    pub fn in_values(&mut self, values: &Values) {
+    pub fn in_values(&mut self, values: &Values) -> Result<(), NoMemory> {
         match values {
             Values::Each(exprs) => self.in_list(exprs),
             Values::Spread { tuple, parts } => {
-                self.in_expr(tuple);
-                self.in_list(parts);
+                self.in_expr(tuple)?;
+                self.in_list(parts)
             }
         }
     }
 
     #[cycle(roots)]
-    fn in_elements(&mut self, elements: &Elements) {
+    fn in_elements(&mut self, elements: &Elements) -> Result<(), NoMemory> {
         match elements {
             Elements::Fields(fields) => self.in_fields(fields),
             Elements::Items { items, .. } => self.in_items(items),
@@ -165,24 +160,27 @@ impl Roots {
     }
 
     #[cycle(roots)]
-    fn in_fields(&mut self, fields: &[FieldInit]) {
+    fn in_fields(&mut self, fields: &[FieldInit]) -> Result<(), NoMemory> {
         for field in fields {
-            self.in_expr(&field.value);
+            self.in_expr(&field.value)?;
         }
+        Ok(())
     }
 
     #[cycle(roots)]
-    fn in_items(&mut self, items: &[ItemInit]) {
+    fn in_items(&mut self, items: &[ItemInit]) -> Result<(), NoMemory> {
         for item in items {
-            self.in_expr(&item.value);
+            self.in_expr(&item.value)?;
         }
+        Ok(())
     }
 
     #[cycle(roots)]
-    fn in_entries(&mut self, entries: &[EntryInit]) {
+    fn in_entries(&mut self, entries: &[EntryInit]) -> Result<(), NoMemory> {
         for entry in entries {
-            self.in_expr(&entry.key);
-            self.in_expr(&entry.value);
+            self.in_expr(&entry.key)?;
+            self.in_expr(&entry.value)?;
         }
+        Ok(())
     }
 }
