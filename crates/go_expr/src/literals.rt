@@ -83,19 +83,16 @@ impl Scope {
         close: Token,
         signature: TypeId,
     ) -> Result<FuncId, NoMemory> {
-        let within = match self.extents.innermost(at) {
-            Some(function) => function,
-            None => match self.init_of(self.package) {
-                Some(function) => function,
-                None => return Err(lost()),
-            },
+        let Some(within) = self.enclosing(at) else {
+            return Err(lost());
         };
         let id = FuncId {
             number: self.functions.len() as u64,
         };
+        let (name, package) = (self.blank(), self.package);
         self.functions.push(FunctionDecl {
-            name: self.blank(),
-            package: self.package,
+            name,
+            package,
             at,
             signature,
             receiver: None,
@@ -111,5 +108,13 @@ impl Scope {
         })?;
         self.literals.insert(at, id)?;
         Ok(id)
+    }
+
+    /// The function in which a literal stands: at package level what initialises the package.
+    fn enclosing(&self, at: Pos) -> Option<FuncId> {
+        match self.extents.innermost(at) {
+            Some(function) => Some(function),
+            None => self.init_of(self.package),
+        }
     }
 }
