@@ -30,6 +30,3 @@ pub use checking::{
 };
 pub use operators::binary_op;
 pub use scope::Scope;
-
-#[cfg(test)]
-mod tests;
