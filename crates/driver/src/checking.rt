@@ -5,7 +5,7 @@ ghost use Rattle.go_base.specs.Devices.{HasFaulted};
 ghost use Rattle.go_load.specs.Loaded.{IsWithin};
 ghost use Rattle.go_load.specs.Sources.{files_of};
 ghost use Rattle.driver.specs.Asked.{asks_nothing, needs_main};
-ghost use Rattle.driver.specs.Checking.{IsCheckedRule, IsRefusal};
+ghost use Rattle.driver.specs.Checking.{IsCheckedRow, IsRefusal};
 ghost use Rattle.driver.specs.Running.{Works};
 
 use crate::outcome::Outcome;
@@ -86,7 +86,7 @@ fn package_name(sources: &Sources) -> Pos {
 fn refused(alloc: Global, sources: &Sources, pos: Pos, rule: Rule) -> Outcome
     ensures { IsRefusal (files_of sources.now) result }
 {
-    if !is_checked(rule) || !lies_in(sources, pos) {
+    if !is_checked(rule.row()) || !lies_in(sources, pos) {
         return lost();
     }
     match sources.place(alloc, pos) {
@@ -95,12 +95,11 @@ fn refused(alloc: Global, sources: &Sources, pos: Pos, rule: Rule) -> Outcome
     }
 }
 
-// Whether a rule is one that programs are checked for once they are loaded.
-fn is_checked(rule: Rule) -> bool
-    ensures { IsTrue result → IsCheckedRule rule }
+// Whether a row is that of a rule that programs are checked for once they are loaded.
+fn is_checked(row: u32) -> bool
+    ensures { IsTrue result → IsCheckedRow row }
 {
-    let row = rule.row();
-    Rule::RedeclaredInThisBlock.row() <= row && row <= Rule::NotAMainPackage.row()
+    18 <= row && row <= 69
 }
 
 // Whether a position lies in a file of the program, or at its end.
