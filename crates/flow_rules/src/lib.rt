@@ -9,6 +9,3 @@ mod taking;
 
 pub use branches::Branches;
 pub use initialising::{Node, Reliance};
-
-#[cfg(test)]
-mod tests;

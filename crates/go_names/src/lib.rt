@@ -19,6 +19,3 @@ pub use files::{FileScope, FileScopes, ImportOf};
 pub use mentions::{Mention, Mentioned, Mentions};
 pub use packages::PackageBlocks;
 pub use universe::Universe;
-
-#[cfg(test)]
-mod tests;

@@ -28,6 +28,3 @@ mod violations;
 pub use declared::{Declared, LocalTypes};
 pub use declaring::declare;
 pub use error::CheckError;
-
-#[cfg(test)]
-mod tests;

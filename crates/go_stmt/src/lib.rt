@@ -23,6 +23,3 @@ mod uses;
 mod walker;
 
 pub use program::{check, target_not_main};
-
-#[cfg(test)]
-mod tests;

@@ -65,6 +65,3 @@ pub use stating::{
 };
 pub use structs::struct_literal;
 pub use unary::{SignOp, address_of, indirection, negation, receive, sign};
-
-#[cfg(test)]
-mod tests;
