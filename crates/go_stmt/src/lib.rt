@@ -20,6 +20,8 @@ mod simple;
 mod statements;
 mod steps;
 mod uses;
+mod verdicts;
 mod walker;
 
 pub use program::{check, target_not_main};
+pub use verdicts::can_run;
