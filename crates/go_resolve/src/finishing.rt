@@ -214,17 +214,11 @@ impl Finisher {
     ) -> Result<(), NoMemory> {
         match item.form {
             Form::Constants { first, names, .. } => {
-                for (index, _) in names.iter().enumerate() {
-                    self.add_constant(tables, facts, first.saturating_add(index))?;
-                }
-                Ok(())
+                self.add_constants(tables, facts, first, names.len())
             }
             Form::TypeForm { node, .. } => self.add_type(tables, facts, node),
             Form::Variables { first, names, .. } => {
-                for (index, _) in names.iter().enumerate() {
-                    self.add_variable(tables, facts, first.saturating_add(index), made)?;
-                }
-                Ok(())
+                self.add_variables(tables, facts, first, names.len(), made)
             }
             Form::Function { node, decl } => {
                 self.add_function(tables, facts, item.listed, node, decl, made)
@@ -241,6 +235,19 @@ impl Finisher {
         if tables.find_in_package(declaration.package, declaration.name) == Some(node) {
             self.blocks
                 .put(declaration.package, declaration.name, entity)?;
+        }
+        Ok(())
+    }
+
+    fn add_constants(
+        &mut self,
+        tables: &Tables,
+        facts: &Facts,
+        first: usize,
+        count: usize,
+    ) -> Result<(), NoMemory> {
+        for index in 0..count {
+            self.add_constant(tables, facts, first.saturating_add(index))?;
         }
         Ok(())
     }
@@ -282,6 +289,20 @@ impl Finisher {
             })?;
         }
         self.put(tables, node, Entity::TypeName(id))
+    }
+
+    fn add_variables(
+        &mut self,
+        tables: &Tables,
+        facts: &Facts,
+        first: usize,
+        count: usize,
+        made: Made,
+    ) -> Result<(), NoMemory> {
+        for index in 0..count {
+            self.add_variable(tables, facts, first.saturating_add(index), made)?;
+        }
+        Ok(())
     }
 
     fn add_variable(
