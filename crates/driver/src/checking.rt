@@ -1,6 +1,6 @@
 //! The check of a program that was loaded, and what is asked of one that breaks no rule.
 
-ghost use Rattle.std.specs.Prelude.{◌≡◌, ◌≤◌, ◌→◌, IsTrue};
+ghost use Rattle.std.specs.Prelude.{◌≡◌, ◌≤◌, IsTrue};
 ghost use Rattle.go_base.specs.Devices.{HasFaulted};
 ghost use Rattle.go_load.specs.Loaded.{IsWithin};
 ghost use Rattle.go_load.specs.Sources.{files_of};
