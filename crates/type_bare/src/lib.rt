@@ -1,0 +1,7 @@
+//! Types without the tags of fields: two types are identical but for tags where these are one.
+#![tactic(auto)]
+
+mod bare;
+mod strip;
+
+pub use bare::{Bare, same_but_tags};

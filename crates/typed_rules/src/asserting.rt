@@ -1,0 +1,93 @@
+//! Type assertions and comma-ok forms. Go specification, "Type assertions", "Index expressions", "Receive operator" and "Type
+//! switches".
+
+use crate::adapting::is_interface;
+use crate::ground::Ground;
+use crate::meaning::{Given, Seen, one_value};
+use crate::nodes::{boxed, node};
+use go_base::{NoMemory, Pos, Rule, TypeId};
+use go_tree::{ExprKind, TypedExpr};
+use go_type::{Basic, basic, implements};
+
+/// `x.(T)`, where the type is at a place. `BadTypeAssertion` at an operand that is no interface, and at a type that is
+/// neither an interface nor has its methods.
+pub fn type_assertion(
+    ground: &mut Ground,
+    x: Seen,
+    to: Option<TypeId>,
+    to_at: Pos,
+) -> Result<Option<TypedExpr>, NoMemory> {
+    let Some(Given { at, expr }) = interface_operand(ground, x) else {
+        return Ok(None);
+    };
+    let Some(to) = to else {
+        return Ok(None);
+    };
+    if !asserted_case(ground, expr.of, to, to_at) {
+        return Ok(None);
+    }
+    let operand = boxed(ground, expr)?;
+    Ok(Some(node(
+        at,
+        to,
+        ExprKind::AssertTo {
+            operand,
+            to,
+            comma_ok: false,
+        },
+    )))
+}
+
+/// The operand of a type assertion or a type switch. `BadTypeAssertion` at one that is no interface.
+pub fn interface_operand(ground: &mut Ground, x: Seen) -> Option<Given> {
+    let x = one_value(ground, x)?;
+    if is_interface(&ground.types, x.expr.of) {
+        return Some(x);
+    }
+    ground.report(x.at, Rule::BadTypeAssertion);
+    None
+}
+
+/// Whether a type may be asserted of a value of an interface type. `BadTypeAssertion` at it where it is neither an
+/// interface nor has its methods.
+pub fn asserted_case(ground: &mut Ground, of: TypeId, to: TypeId, to_at: Pos) -> bool {
+    if is_interface(&ground.types, to) || implements(&ground.types, to, of) {
+        return true;
+    }
+    ground.report(to_at, Rule::BadTypeAssertion);
+    false
+}
+
+/// Whether an expression may give a second value that tells whether it has one: an index of a map, a receive or a type
+/// assertion.
+pub fn has_ok_form(expr: &TypedExpr) -> bool {
+    matches!(
+        &expr.kind,
+        ExprKind::MapIndex { .. } | ExprKind::Receive { .. } | ExprKind::AssertTo { .. }
+    )
+}
+
+/// The expression with its second value, whose type is a tuple; where it has no such form, as it is.
+pub fn with_ok(ground: &mut Ground, expr: TypedExpr) -> Result<TypedExpr, NoMemory> {
+    let pair = ground.tuple(&[expr.of, basic(Basic::Bool)])?;
+    let TypedExpr { at, of, kind } = expr;
+    let comma_ok = true;
+    match kind {
+        ExprKind::MapIndex { map, key, .. } => {
+            Ok(node(at, pair, ExprKind::MapIndex { map, key, comma_ok }))
+        }
+        ExprKind::Receive { channel, .. } => {
+            Ok(node(at, pair, ExprKind::Receive { channel, comma_ok }))
+        }
+        ExprKind::AssertTo { operand, to, .. } => Ok(node(
+            at,
+            pair,
+            ExprKind::AssertTo {
+                operand,
+                to,
+                comma_ok,
+            },
+        )),
+        kind => Ok(node(at, of, kind)),
+    }
+}

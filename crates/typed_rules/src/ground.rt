@@ -1,0 +1,124 @@
+//! What rules ask and change: the types, and the least of the faults.
+
+use go_base::{NoMemory, Pos, Rule, TypeId};
+use go_faults::{Fault, Least};
+use go_type::{MethodTypes, TypeIds, TypeTerm, Types};
+use indexmap::IndexMap;
+use std::alloc::Global;
+use type_sizes::{MOST_LEAVES, Sizes};
+
+/// The types of a program, and the least of the faults that were reported.
+#[derive(Drop)]
+pub struct Ground {
+    pub alloc: Global,
+    pub types: Types,
+    pub least: Least,
+    /// The phase of the faults that are reported.
+    pub phase: u8,
+    /// The package of their places.
+    pub package: u32,
+    /// The leaves of types that were found to be within the limits.
+    within: IndexMap<TypeId, u64>,
+}
+
+/// For what cannot come: it is told as want of memory.
+pub fn lost() -> NoMemory {
+    NoMemory
+}
+
+impl Ground {
+    /// Nothing is reported yet.
+    pub fn new(alloc: Global, types: Types, phase: u8, package: u32) -> Ground {
+        Ground {
+            alloc,
+            types,
+            least: Least::new(),
+            phase,
+            package,
+            within: IndexMap::new(alloc),
+        }
+    }
+
+    /// The types and the least fault.
+    pub fn into_parts(self) -> (Types, Least) {
+        let Ground {
+            alloc: _,
+            types,
+            least,
+            phase: _,
+            package: _,
+            within: _,
+        } = self;
+        (types, least)
+    }
+
+    /// Takes into account that a rule is broken at a place.
+    pub fn report(&mut self, at: Pos, rule: Rule) {
+        self.least.report(Fault {
+            phase: self.phase,
+            package: self.package,
+            pos: at,
+            rule,
+        });
+    }
+
+    /// The id of a type whose parts are held.
+    pub fn hold(&mut self, term: TypeTerm) -> Result<TypeId, NoMemory> {
+        if !self.types.can_hold(&term) {
+            return Err(lost());
+        }
+        let id = self.types.hold(term)?;
+        Ok(id)
+    }
+
+    /// The type of several values.
+    pub fn tuple(&mut self, parts: &[TypeId]) -> Result<TypeId, NoMemory> {
+        let mut ids = TypeIds::new(self.alloc);
+        for part in parts {
+            ids.push(*part)?;
+        }
+        self.hold(TypeTerm::Tuple(ids))
+    }
+
+    /// The type `interface{}`.
+    pub fn any_type(&mut self) -> Result<TypeId, NoMemory> {
+        self.hold(TypeTerm::Interface(MethodTypes::new(self.alloc)))
+    }
+
+    /// Whether a type is within the limits of types: a nesting of at most 1,000, and at most 1,048,576 leaves.
+    /// `TypeTooLarge` is reported at the place where it is not.
+    pub fn within_limits(&mut self, at: Pos, of: TypeId) -> Result<bool, NoMemory> {
+        if self.leaves_within(of)?.is_some() {
+            return Ok(true);
+        }
+        self.report(at, Rule::TypeTooLarge);
+        Ok(false)
+    }
+
+    /// Whether an array of so many elements of a type has at most 1,048,576 leaves. `TypeTooLarge` is reported at the place
+    /// where it has more.
+    pub fn fit_many(&mut self, at: Pos, elem: TypeId, len: u64) -> Result<bool, NoMemory> {
+        let fits = match self.leaves_within(elem)? {
+            Some(leaves) => u128::from(leaves) * u128::from(len) <= u128::from(MOST_LEAVES),
+            None => false,
+        };
+        if !fits {
+            self.report(at, Rule::TypeTooLarge);
+        }
+        Ok(fits)
+    }
+
+    /// The leaves of a type that is within the limits.
+    fn leaves_within(&mut self, of: TypeId) -> Result<Option<u64>, NoMemory> {
+        if let Some(leaves) = self.within.get(&of) {
+            return Ok(Some(*leaves));
+        }
+        let mut sizes = Sizes::new(self.alloc);
+        let size = sizes.of(&self.types, of)?;
+        if !size.nests || size.leaves > MOST_LEAVES {
+            return Ok(None);
+        }
+        self.within.insert(of, size.leaves)?;
+        Ok(Some(size.leaves))
+    }
+}
