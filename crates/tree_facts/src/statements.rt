@@ -12,7 +12,7 @@ impl Roots {
     /// Those of a block.
     #[cycle(statement_roots)]
     pub fn in_block(&mut self, block: &TypedBlock) -> Result<(), NoMemory> {
-        self.in_statements(&block.statements)?;
+        self.in_statements(&block.statements)
     }
 
     #[cycle(statement_roots)]
