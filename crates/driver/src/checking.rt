@@ -12,10 +12,13 @@ use crate::outcome::Outcome;
 use crate::work::work;
 use command_line::LoadCommand;
 use go_base::{Pos, Rule, Sink};
+use go_interp::{RunError, run};
 use go_load::Sources;
 use go_resolve::CheckError;
 use go_stmt::check;
 use go_tree::Program;
+use ssa_flow::build;
+use ssa_ir::Form;
 use std::alloc::Global;
 
 /// Checks a program that was loaded, and does what is asked with it where it breaks no rule.
@@ -54,7 +57,33 @@ fn work_checked<O: Sink>(
     if asks_nothing(command) {
         return Outcome::Done;
     }
+    if command.run && command.build.is_none() && command.callgraph.is_none() {
+        return run_program(alloc, command, program, out);
+    }
     work(alloc, command, sources, out)
+}
+
+// Runs a program.
+fn run_program<O: Sink>(
+    alloc: Global,
+    command: &LoadCommand,
+    program: &Program,
+    out: &mut O,
+) -> Outcome {
+    let Ok(code) = build(alloc, program, Form::Naive) else {
+        return Outcome::OutOfMemory;
+    };
+    match run(
+        alloc,
+        &code,
+        command.choices.as_slice(),
+        command.bound,
+        out,
+    ) {
+        Ok(ending) => Outcome::Ended(ending),
+        Err(RunError::WriteFault) => Outcome::WriteFault,
+        Err(RunError::OutOfMemory) => Outcome::OutOfMemory,
+    }
 }
 
 // Whether what is asked begins at `main`.

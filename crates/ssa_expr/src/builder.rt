@@ -325,6 +325,11 @@ impl<'a> Builder<'a> {
         }
     }
 
+    /// The function has no body.
+    pub fn drop_blocks(&mut self) {
+        self.blocks.clear();
+    }
+
     /// What parts are read from; the answer is what they were read from before.
     pub fn set_parts(&mut self, parts: Parts) -> Parts {
         std::mem::replace(&mut self.parts, parts)

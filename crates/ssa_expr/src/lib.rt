@@ -4,7 +4,6 @@
 mod builder;
 mod built_ins;
 mod calls;
-mod calm;
 mod composites;
 mod error;
 mod exprs;
@@ -13,7 +12,6 @@ mod places;
 
 pub use builder::{Builder, Parts, integer, zero};
 pub use calls::{later_call, lower_values, panic_argument};
-pub use calm::is_calm;
 pub use exprs::lower_expr;
 pub use finishing::{Built, Header};
 pub use places::{PlaceOperand, load_place, lower_place, store_place};

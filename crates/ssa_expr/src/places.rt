@@ -2,13 +2,14 @@
 //! statements".
 
 use crate::builder::{Builder, integer};
-use crate::calm::is_calm;
+
 use crate::error::lost;
 use crate::exprs::{int_type, lower_expr};
 use go_base::{NoMemory, Pos, TypeId, VarId};
 use go_tree::{ExprKind, IndexBase, TypedExpr};
 use go_type::TypeTerm;
 use ssa_ir::{Op, Operand};
+use tree_facts::is_calm;
 
 /// Where a place begins.
 #[derive(Drop)]

@@ -92,7 +92,7 @@ pub(crate) fn entry_of(
 }
 
 /// The value of a type, before any field.
-pub(crate) fn held(types: &Types, operand: Operand, of: TypeId) -> Held {
+pub(crate) fn start_of(types: &Types, operand: Operand, of: TypeId) -> Held {
     match types.get(of) {
         Some(TypeTerm::Pointer(base)) => Held {
             operand,

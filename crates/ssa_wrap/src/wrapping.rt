@@ -1,6 +1,6 @@
 //! The wrapper of a need.
 
-use crate::walking::{Held, Straight, entry_of, held, hold, lost};
+use crate::walking::{Held, Straight, entry_of, hold, lost, start_of};
 use go_base::{NameId, NoMemory, Text, TypeId};
 use go_text::{Labels, push_method, push_type};
 use go_tree::Program;
@@ -21,7 +21,7 @@ struct Wanted {
     word: &'static str,
 }
 
-fn wanted(need: &WrapNeed) -> Wanted {
+fn taken_apart(need: &WrapNeed) -> Wanted {
     match need {
         WrapNeed::Promotion {
             receiver,
@@ -68,7 +68,7 @@ pub fn wrapper(
     types: &mut Types,
     need: &WrapNeed,
 ) -> Result<Function, NoMemory> {
-    let wanted = wanted(need);
+    let wanted = taken_apart(need);
     let name = wrapper_name(alloc, program, labels, types, wanted)?;
     let entry = entry_of(alloc, types, wanted.receiver, wanted.name, wanted.package)?;
     let signature = signature_of(alloc, types, wanted, &entry)?;
@@ -162,7 +162,7 @@ fn call_of(
             straight.call(program, held, kind, name, package, arguments)
         }
         Some(entry) => {
-            let start = held(types, from, wanted.receiver);
+            let start = start_of(types, from, wanted.receiver);
             let end = straight.walk(types, start, entry.path.as_slice())?;
             straight.call(program, end, entry.kind, name, package, arguments)
         }
