@@ -148,7 +148,7 @@ impl Address {
         }
     }
 
-    fn near(alloc: Global, cell: CellId, part: u32) -> Result<Address, NoMemory>
+    pub(crate) fn near(alloc: Global, cell: CellId, part: u32) -> Result<Address, NoMemory>
         ensures { IfOk result (λ address. address ≡ record { cell = Some cell; path = part ∷ [] }) }
     {
         if let Ok(cell) = u32::try_from(cell.number) {

@@ -9,7 +9,7 @@ use crate::runs::{empty_array, push_all, push_run, push_times, write_run};
 use crate::store::{Store, written};
 use crate::values::Value;
 use crate::zeros::zero_like;
-use go_base::NoMemory;
+use go_base::{CellId, NoMemory};
 use std::alloc::Global;
 
 /// The most leaves of a slice.
@@ -60,9 +60,22 @@ pub fn array_slice(alloc: Global, array: &Pointer, len: u64) -> Result<SliceValu
 /// The address of an element of a slice. `Index` exactly where there is none.
 pub fn element(alloc: Global, slice: &SliceValue, index: i128) -> Result<Address, ValueError> {
     match check_index(index, slice.len) {
-        Ok(place) => Ok(Address::of(alloc, later(alloc, slice, place)?)?),
+        Ok(place) => match near_element(slice, place) {
+            Some((cell, part)) => Ok(Address::near(alloc, cell, part)?),
+            None => Ok(Address::of(alloc, later(alloc, slice, place)?)?),
+        },
         Err(fault) => Err(ValueError::Fault(fault)),
     }
+}
+
+/// The cell and the part of an element of a slice of a whole array. None where the array lies deeper in its cell.
+fn near_element(slice: &SliceValue, place: u64) -> Option<(CellId, u32)> {
+    let cell = slice.at.cell?;
+    let [first] = slice.at.path.as_slice() else {
+        return None;
+    };
+    let part = first.checked_add(u32::try_from(place).ok()?)?;
+    Some((cell, part))
 }
 
 /// The pointer to a place behind the start of a slice.
