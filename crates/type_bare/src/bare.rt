@@ -1,6 +1,10 @@
 //! The bare types: each type without the tags of fields, its own and those of the types that it names.
 
-ghost use Rattle.std.specs.Prelude.{◌≡◌, []};
+ghost use Rattle.std.specs.Prelude.{◌≡◌, ◌<◌, ◌+◌, ◌↔◌, IsTrue, length, IfOk, OnOk, Some, [], slice_get};
+ghost use Rattle.go_type.specs.Grows.{Grows};
+ghost use Rattle.go_type.specs.Table.{Table};
+ghost use Rattle.type_bare.specs.Same.{SameButTags};
+ghost use Rattle.type_bare.specs.Stripped.{AreBare, IsBareOf, KeepsBare, KeepsDefinitions};
 
 use crate::strip::{is_declared, stripped};
 use go_base::{NoMemory, TypeId};
@@ -26,7 +30,8 @@ impl Model for Bare {
 impl Bare {
     /// None is known.
     pub fn new(alloc: Global) -> Bare
-        ensures { result ≡ [] }
+        ensures value { result ≡ [] }
+        ensures known { (types : Table) → AreBare result types }
     {
         Bare {
             types: Vec::new(alloc),
@@ -34,8 +39,16 @@ impl Bare {
     }
 
     /// The bare type of a type. What is known stays right, also after `NoMemory`.
-    pub fn of(&mut self, types: &mut Types, id: TypeId) -> Result<TypeId, NoMemory> {
-        for place in self.types.len()..=id.number as usize {
+    pub fn of(&mut self, types: &mut Types, id: TypeId) -> Result<TypeId, NoMemory>
+        requires held { id.number < length types.old.terms }
+        requires known { AreBare self.old types.old }
+        ensures ok { IfOk result (λ bare. slice_get self.new id.number ≡ Some bare) }
+        ensures known { AreBare self.new types.new }
+        ensures keeps { KeepsBare self.old self.new }
+        ensures grows { Grows types.old types.new }
+        ensures definitions { KeepsDefinitions types.old types.new }
+    {
+        for place in self.types.len()..types.len() {
             self.add(
                 types,
                 TypeId {
@@ -43,33 +56,42 @@ impl Bare {
                 },
             )?;
         }
-        match self.types.get(id.number as usize) {
-            Some(bare) => Ok(*bare),
-            None => Err(NoMemory),
-        }
+        Ok(self.types[id.number as usize])
     }
 
     /// Adds the bare type of the first type whose bare type is not known.
-    fn add(&mut self, types: &mut Types, id: TypeId) -> Result<(), NoMemory> {
+    fn add(&mut self, types: &mut Types, id: TypeId) -> Result<(), NoMemory>
+        requires place { id.number ≡ length self.old }
+        requires held { id.number < length types.old.terms }
+        requires known { AreBare self.old types.old }
+        ensures ok { OnOk result (length self.new ≡ length self.old + 1) }
+        ensures known { AreBare self.new types.new }
+        ensures keeps { KeepsBare self.old self.new }
+        ensures grows { Grows types.old types.new }
+        ensures definitions { KeepsDefinitions types.old types.new }
+    {
         let bare = self.find(types, id)?;
+        types.laws();
         self.types.push(bare)?;
         Ok(())
     }
 
     /// The bare type of a type, where those of its parts are known.
-    fn find(&self, types: &mut Types, id: TypeId) -> Result<TypeId, NoMemory> {
-        let Some(term) = types.get(id) else {
-            return Err(NoMemory);
-        };
+    fn find(&self, types: &mut Types, id: TypeId) -> Result<TypeId, NoMemory>
+        requires place { id.number ≡ length self.now }
+        requires held { id.number < length types.old.terms }
+        requires known { AreBare self.now types.old }
+        ensures ok { IfOk result (IsBareOf types.new self.now id) }
+        ensures grows { Grows types.old types.new }
+        ensures definitions { KeepsDefinitions types.old types.new }
+    {
+        types.laws();
+        let term = types.term(id);
         if is_declared(term) {
             return Ok(id);
         }
         let bare = stripped(types.allocator(), self.types.as_slice(), term)?;
-        if !types.can_hold(&bare) {
-            return Err(NoMemory);
-        }
-        let held = types.hold(bare)?;
-        Ok(held)
+        types.hold(bare)
     }
 }
 
@@ -79,8 +101,18 @@ pub fn same_but_tags(
     types: &mut Types,
     a: TypeId,
     b: TypeId,
-) -> Result<bool, NoMemory> {
+) -> Result<bool, NoMemory>
+    requires first { a.number < length types.old.terms }
+    requires second { b.number < length types.old.terms }
+    requires known { AreBare bare.old types.old }
+    ensures ok { IfOk result (λ same. IsTrue same ↔ SameButTags types.new a b) }
+    ensures known { AreBare bare.new types.new }
+    ensures keeps { KeepsBare bare.old bare.new }
+    ensures grows { Grows types.old types.new }
+    ensures definitions { KeepsDefinitions types.old types.new }
+{
     let first = bare.of(types, a)?;
     let second = bare.of(types, b)?;
+    types.laws();
     Ok(first == second)
 }

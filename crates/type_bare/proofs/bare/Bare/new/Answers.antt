@@ -1,0 +1,10 @@
+use Rattle.std.proofs.Common.{sym, subst}
+use Rattle.type_bare.specs.Stripped.{AreBare}
+use Rattle.type_bare.proofs.Known.{none_bare}
+use Rattle.type_bare.proofs.bare.Bare.new.Goals as goal
+
+pub returns-clause-value : goal.returns-clause-value
+returns-clause-value c = c.new.ensures.items
+
+pub returns-clause-known : goal.returns-clause-known
+returns-clause-known c = λ types. subst (λ bares. AreBare bares types) (sym c.new.ensures.items) (none_bare types)
