@@ -1,6 +1,11 @@
 //! Untyped operands given types, and values made ones of the types that they are assigned to. Go specification, "Constants",
 //! "Representability", "Assignability" and "Variables".
 
+ghost use Rattle.std.specs.Prelude.{◌≡◌, ◌↔◌, IfOk, IsTrue};
+ghost use Rattle.go_type.specs.Assignable.{Assignable};
+ghost use Rattle.typed_rules.specs.Interfaces.{is_interface};
+ghost use Rattle.typed_rules.specs.Typed.{GivesType, GivesTypeOf, HasType, TypedAs};
+
 use crate::ground::{Ground, lost};
 use crate::meaning::Given;
 use crate::nodes::{boxed, node};
@@ -8,8 +13,8 @@ use go_base::{NoMemory, Pos, Rule, TypeId};
 use go_rules::{Untyped, as_constant, is_empty_interface, kind_fits, untyped_kind};
 use go_tree::{ExprKind, TypedExpr};
 use go_type::{
-    Basic, BinaryOp, Builtin, Const, TypeTerm, Types, UnaryOp, assignable, basic, identical,
-    implements, int_kind,
+    Basic, BinaryOp, Builtin, Const, TypeTerm, Types, UnaryOp, assignable, basic, implements,
+    int_kind,
 };
 
 /// An untyped operand with a type that it may take. `ConstantOutOfRange` at each constant in it that is no value of the type,
@@ -19,7 +24,9 @@ pub fn retyped(
     ground: &mut Ground,
     expr: TypedExpr,
     to: TypeId,
-) -> Result<Option<TypedExpr>, NoMemory> {
+) -> Result<Option<TypedExpr>, NoMemory>
+    ensures { GivesType result to }
+{
     let TypedExpr { at, of: _, kind } = expr;
     match kind {
         ExprKind::ConstOf(value) => Ok(retyped_constant(ground, at, value, to)),
@@ -92,7 +99,9 @@ pub fn with_last<T: Drop>(
     Ok(Some(items))
 }
 
-fn retyped_constant(ground: &mut Ground, at: Pos, value: Const, to: TypeId) -> Option<TypedExpr> {
+fn retyped_constant(ground: &mut Ground, at: Pos, value: Const, to: TypeId) -> Option<TypedExpr>
+    ensures { TypedAs result to }
+{
     match as_constant(&ground.types, value, to) {
         Ok(value) => Some(node(at, to, ExprKind::ConstOf(value))),
         Err(breach) => {
@@ -117,7 +126,9 @@ fn unary_of(
     of: TypeId,
     op: UnaryOp,
     operand: Option<TypedExpr>,
-) -> Result<Option<TypedExpr>, NoMemory> {
+) -> Result<Option<TypedExpr>, NoMemory>
+    ensures { GivesType result of }
+{
     let Some(operand) = operand else {
         return Ok(None);
     };
@@ -132,7 +143,9 @@ pub fn and_also(
     of: TypeId,
     left: Option<TypedExpr>,
     right: Option<TypedExpr>,
-) -> Result<Option<TypedExpr>, NoMemory> {
+) -> Result<Option<TypedExpr>, NoMemory>
+    ensures { GivesType result of }
+{
     let (Some(left), Some(right)) = (left, right) else {
         return Ok(None);
     };
@@ -148,7 +161,9 @@ pub fn or_else(
     of: TypeId,
     left: Option<TypedExpr>,
     right: Option<TypedExpr>,
-) -> Result<Option<TypedExpr>, NoMemory> {
+) -> Result<Option<TypedExpr>, NoMemory>
+    ensures { GivesType result of }
+{
     let (Some(left), Some(right)) = (left, right) else {
         return Ok(None);
     };
@@ -165,7 +180,9 @@ pub fn binary_of(
     op: BinaryOp,
     left: Option<TypedExpr>,
     right: Option<TypedExpr>,
-) -> Result<Option<TypedExpr>, NoMemory> {
+) -> Result<Option<TypedExpr>, NoMemory>
+    ensures { GivesType result of }
+{
     let (Some(left), Some(right)) = (left, right) else {
         return Ok(None);
     };
@@ -181,7 +198,9 @@ fn shift_of(
     op: BinaryOp,
     left: Option<TypedExpr>,
     right: Box<TypedExpr>,
-) -> Result<Option<TypedExpr>, NoMemory> {
+) -> Result<Option<TypedExpr>, NoMemory>
+    ensures { GivesType result of }
+{
     let Some(left) = left else {
         return Ok(None);
     };
@@ -194,7 +213,9 @@ fn built_in_of(
     of: TypeId,
     builtin: Builtin,
     arguments: Option<Vec<TypedExpr>>,
-) -> Option<TypedExpr> {
+) -> Option<TypedExpr>
+    ensures { TypedAs result of }
+{
     let arguments = arguments?;
     Some(node(
         at,
@@ -245,7 +266,9 @@ pub fn assigned(
     ground: &mut Ground,
     x: Option<Given>,
     to: Option<TypeId>,
-) -> Result<Option<TypedExpr>, NoMemory> {
+) -> Result<Option<TypedExpr>, NoMemory>
+    ensures { GivesTypeOf result to }
+{
     let (Some(Given { at, expr }), Some(to)) = (x, to) else {
         return Ok(None);
     };
@@ -261,7 +284,9 @@ fn assigned_untyped(
     expr: TypedExpr,
     kind: Untyped,
     to: TypeId,
-) -> Result<Option<TypedExpr>, NoMemory> {
+) -> Result<Option<TypedExpr>, NoMemory>
+    ensures { GivesType result to }
+{
     if kind_fits(&ground.types, kind, to) {
         return retyped(ground, expr, to);
     }
@@ -281,7 +306,9 @@ fn into_interface(
     expr: TypedExpr,
     of: TypeId,
     to: TypeId,
-) -> Result<Option<TypedExpr>, NoMemory> {
+) -> Result<Option<TypedExpr>, NoMemory>
+    ensures { GivesType result to }
+{
     let Some(expr) = retyped(ground, expr, of)? else {
         return Ok(None);
     };
@@ -294,7 +321,9 @@ pub fn passed(
     at: Pos,
     expr: TypedExpr,
     to: TypeId,
-) -> Result<Option<TypedExpr>, NoMemory> {
+) -> Result<Option<TypedExpr>, NoMemory>
+    ensures { GivesType result to }
+{
     if may_pass(&ground.types, expr.of, to) {
         return Ok(Some(made(ground, expr, to)?));
     }
@@ -303,13 +332,18 @@ pub fn passed(
 }
 
 /// Whether a typed value of a type may be assigned to another.
-pub fn may_pass(types: &Types, from: TypeId, to: TypeId) -> bool {
+pub fn may_pass(types: &Types, from: TypeId, to: TypeId) -> bool
+    ensures { IsTrue result ↔ Assignable types.now from to }
+{
     assignable(types, from, to)
 }
 
 /// A typed value made one of a type, to which it may be assigned or converted.
-pub fn made(ground: &Ground, expr: TypedExpr, to: TypeId) -> Result<TypedExpr, NoMemory> {
-    if identical(&ground.types, expr.of, to) {
+pub fn made(ground: &Ground, expr: TypedExpr, to: TypeId) -> Result<TypedExpr, NoMemory>
+    ensures { IfOk result (λ expr. HasType expr to) }
+{
+    // identical types have one id
+    if expr.of == to {
         return Ok(expr);
     }
     let at = expr.at;
@@ -323,7 +357,9 @@ pub fn made(ground: &Ground, expr: TypedExpr, to: TypeId) -> Result<TypedExpr, N
 }
 
 /// Whether a type's underlying type is an interface.
-pub fn is_interface(types: &Types, of: TypeId) -> bool {
+pub fn is_interface(types: &Types, of: TypeId) -> bool
+    ensures { result ≡ is_interface types.now of }
+{
     matches!(types.underlying_term(of), Some(TypeTerm::Interface(_)))
 }
 
@@ -347,17 +383,17 @@ pub fn assigned_part(
     part: u32,
     of: TypeId,
     to: TypeId,
-) -> Result<Option<TypedExpr>, NoMemory> {
+) -> Result<Option<TypedExpr>, NoMemory>
+    ensures { GivesType result to }
+{
     passed(ground, at, node(at, of, ExprKind::PartOf(part)), to)
 }
 
 /// The second part of a comma-ok form, an untyped boolean, as a value of a type to which it is assigned. `NotAssignable`
 /// at the place of the form.
-pub fn assigned_ok(
-    ground: &mut Ground,
-    at: Pos,
-    to: TypeId,
-) -> Result<Option<TypedExpr>, NoMemory> {
+pub fn assigned_ok(ground: &mut Ground, at: Pos, to: TypeId) -> Result<Option<TypedExpr>, NoMemory>
+    ensures { GivesType result to }
+{
     let part = node(at, basic(Basic::Bool), ExprKind::PartOf(1));
     if kind_fits(&ground.types, Untyped::Bool, to) || is_empty_interface(&ground.types, to) {
         return Ok(Some(made(ground, part, to)?));

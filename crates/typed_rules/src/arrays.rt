@@ -1,5 +1,8 @@
 //! Literals of arrays and slices. Go specification, "Composite literals".
 
+ghost use Rattle.std.specs.Prelude.{◌≡◌};
+ghost use Rattle.typed_rules.specs.Literals.{is_past};
+
 use crate::adapting::{assigned, with_last};
 use crate::composing::{Entry, Literal, LiteralKind, ask_values, literal_node};
 use crate::ground::{Ground, lost};
@@ -149,7 +152,9 @@ fn free_index(
     Ok(Some(index))
 }
 
-fn is_past(index: u64, limit: Option<u64>) -> bool {
+fn is_past(index: u64, limit: Option<u64>) -> bool
+    ensures { result ≡ is_past index limit }
+{
     match limit {
         Some(limit) => index >= limit,
         None => false,

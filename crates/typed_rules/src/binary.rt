@@ -1,6 +1,9 @@
 //! Operators of arithmetic and logic on two operands. Go specification, "Operators", "Arithmetic operators", "String
 //! concatenation" and "Logical operators".
 
+ghost use Rattle.std.specs.Prelude.{◌≡◌, Some};
+ghost use Rattle.go_type.specs.Operators.{int_op_of};
+
 use crate::adapting::{and_also, binary_of, or_else, rekinded, retyped};
 use crate::ground::{Ground, lost};
 use crate::meaning::{Given, Seen, one_value};
@@ -200,7 +203,9 @@ fn fold(
     }
 }
 
-const fn binary_op(op: ConstOp) -> BinaryOp {
+const fn binary_op(op: ConstOp) -> BinaryOp
+    ensures { int_op_of result ≡ Some op }
+{
     match op {
         ConstOp::Add => BinaryOp::Add,
         ConstOp::Sub => BinaryOp::Sub,

@@ -1,5 +1,8 @@
 //! Calls of built-in functions. Go specification, "Built-in functions".
 
+ghost use Rattle.std.specs.Prelude.{◌≡◌};
+ghost use Rattle.typed_rules.specs.BuiltIns.{takes_number};
+
 use crate::adapting::{assigned, by_default, with_last};
 use crate::calling::place_of;
 use crate::extremes::{extreme_of, order_kinds};
@@ -113,7 +116,9 @@ fn ask_number(ground: &mut Ground, call: BuiltInCall, arguments: &[Option<Given>
     false
 }
 
-fn takes_number(builtin: Builtin, number: usize) -> bool {
+fn takes_number(builtin: Builtin, number: usize) -> bool
+    ensures { result ≡ takes_number builtin number }
+{
     match builtin {
         Builtin::Append | Builtin::Max | Builtin::Min | Builtin::Make => number >= 1,
         Builtin::Cap

@@ -1,5 +1,8 @@
 //! Calls. Go specification, "Calls" and "Passing arguments to ... parameters".
 
+ghost use Rattle.std.specs.Prelude.{◌≡◌};
+ghost use Rattle.typed_rules.specs.Numbers.{number_breach, with_dots, without_dots};
+
 use crate::adapting::{assigned, assigned_part, with_last};
 use crate::built_ins::built_in;
 use crate::converting::conversion;
@@ -208,24 +211,45 @@ pub fn place_of(values: &[Option<Given>], otherwise: Pos) -> Option<Pos> {
     }
 }
 
-/// The rule that the number of arguments breaks, and where.
+/// Which row the number of arguments breaks.
 fn number_breach(
-    call: CallSite,
-    signature: &Signature,
-    arguments: &Arguments,
-) -> Option<NumberBreach> {
-    let written = arguments.count();
-    let wanted = signature.params.as_slice().len();
-    if call.dots.is_some() {
-        if !signature.variadic || arguments.is_spread() || written > wanted {
-            return Some(NumberBreach::Dots);
-        }
-        if written != wanted {
-            return Some(NumberBreach::Count);
-        }
-        return None;
+    dots: bool,
+    variadic: bool,
+    spread: bool,
+    written: usize,
+    wanted: usize,
+) -> Option<NumberBreach>
+    ensures { result ≡ number_breach dots variadic spread written wanted }
+{
+    if dots {
+        breach_with_dots(variadic, spread, written, wanted)
+    } else {
+        breach_without_dots(variadic, written, wanted)
     }
-    let enough = if signature.variadic {
+}
+
+fn breach_with_dots(
+    variadic: bool,
+    spread: bool,
+    written: usize,
+    wanted: usize,
+) -> Option<NumberBreach>
+    ensures { result ≡ with_dots variadic spread written wanted }
+{
+    if !variadic || spread || written > wanted {
+        return Some(NumberBreach::Dots);
+    }
+    if written == wanted {
+        None
+    } else {
+        Some(NumberBreach::Count)
+    }
+}
+
+fn breach_without_dots(variadic: bool, written: usize, wanted: usize) -> Option<NumberBreach>
+    ensures { result ≡ without_dots variadic written wanted }
+{
+    let enough = if variadic {
         written >= wanted.saturating_sub(1)
     } else {
         written == wanted
@@ -235,6 +259,17 @@ fn number_breach(
     } else {
         Some(NumberBreach::Count)
     }
+}
+
+/// Which row the number of arguments of a call breaks.
+fn breach_of(call: CallSite, signature: &Signature, arguments: &Arguments) -> Option<NumberBreach> {
+    number_breach(
+        call.dots.is_some(),
+        signature.variadic,
+        arguments.is_spread(),
+        arguments.count(),
+        signature.params.as_slice().len(),
+    )
 }
 
 #[derive(Clone, Copy)]
@@ -260,7 +295,7 @@ fn passed_arguments(
     signature: &Signature,
     arguments: Arguments,
 ) -> Result<Option<Values>, NoMemory> {
-    if let Some(breach) = number_breach(call, signature, &arguments) {
+    if let Some(breach) = breach_of(call, signature, &arguments) {
         report_number(ground, call, breach, &arguments);
         return Ok(None);
     }

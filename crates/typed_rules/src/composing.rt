@@ -1,5 +1,8 @@
 //! Composite literals. Go specification, "Composite literals".
 
+ghost use Rattle.std.specs.Prelude.{◌≡◌};
+ghost use Rattle.typed_rules.specs.Literals.{literal_kind};
+
 use crate::adapting::made;
 use crate::ground::Ground;
 use crate::meaning::{Seen, one_value};
@@ -87,7 +90,9 @@ impl Literal {
 }
 
 /// What a composite literal of a type is, by its underlying type. None where it has none.
-pub fn literal_kind(types: &Types, of: TypeId) -> Option<LiteralKind> {
+pub fn literal_kind(types: &Types, of: TypeId) -> Option<LiteralKind>
+    ensures { result ≡ literal_kind types.now of }
+{
     match types.underlying_term(of) {
         Some(TypeTerm::Struct(_)) => Some(LiteralKind::Struct),
         Some(TypeTerm::Array { len, elem }) => Some(LiteralKind::Array {

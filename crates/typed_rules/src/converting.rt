@@ -1,5 +1,9 @@
 //! Conversions. Go specification, "Conversions".
 
+ghost use Rattle.std.specs.Prelude.{◌≡◌};
+ghost use Rattle.go_rules.specs.Untyped.{is_text_type};
+ghost use Rattle.typed_rules.specs.Conversions.{converts_plainly, is_characters};
+
 use crate::adapting::{is_interface, made, may_pass, retyped};
 use crate::ground::Ground;
 use crate::meaning::{Given, Seen, one_value};
@@ -113,7 +117,9 @@ fn constant_conversion(types: &Types, value: &Const, to: TypeId) -> ConstantConv
     }
 }
 
-fn is_text(types: &Types, of: TypeId) -> bool {
+fn is_text(types: &Types, of: TypeId) -> bool
+    ensures { result ≡ is_text_type types.now of }
+{
     matches!(
         types.underlying_term(of),
         Some(TypeTerm::Basic(Basic::Text))
@@ -216,7 +222,9 @@ fn refused(ground: &mut Ground, at: Pos) -> Option<TypedExpr> {
 }
 
 /// Whether a type's underlying type is a slice of bytes or of characters.
-fn is_characters(types: &Types, of: TypeId) -> bool {
+fn is_characters(types: &Types, of: TypeId) -> bool
+    ensures { result ≡ is_characters types.now of }
+{
     match types.underlying_term(of) {
         Some(TypeTerm::Slice(elem)) => matches!(
             types.underlying_term(*elem),
@@ -261,7 +269,9 @@ fn may_convert(ground: &mut Ground, from: TypeId, to: TypeId) -> Result<bool, No
     is_same_but_tags(ground, from, to)
 }
 
-fn converts_plainly(types: &Types, from: TypeId, to: TypeId) -> bool {
+fn converts_plainly(types: &Types, from: TypeId, to: TypeId) -> bool
+    ensures { result ≡ converts_plainly types.now from to }
+{
     if types.underlying(from) == types.underlying(to) {
         return true;
     }

@@ -1,5 +1,8 @@
 //! What rules ask and change: the types, and the least of the faults.
 
+ghost use Rattle.std.specs.Prelude.{◌≡◌, [], ◌∷◌};
+ghost use Rattle.go_faults.specs.Faults.{least_with};
+
 use go_base::{NoMemory, Pos, Rule, TypeId};
 use go_faults::{Fault, Least};
 use go_type::{MethodTypes, TypeIds, TypeTerm, Types};
@@ -27,6 +30,8 @@ pub fn lost() -> NoMemory {
 }
 
 impl Ground {
+    ghost use Rattle.typed_rules.specs.Meanings.{base_of, fault_at};
+
     /// Nothing is reported yet.
     pub fn new(alloc: Global, types: Types, phase: u8, package: u32) -> Ground {
         Ground {
@@ -53,7 +58,10 @@ impl Ground {
     }
 
     /// Takes into account that a rule is broken at a place.
-    pub fn report(&mut self, at: Pos, rule: Rule) {
+    pub fn report(&mut self, at: Pos, rule: Rule)
+        ensures least { self.new.least.fault ≡ least_with self.old.least.fault (fault_at (base_of self.old) at rule ∷ []) }
+        ensures base { base_of self.new ≡ base_of self.old }
+    {
         self.least.report(Fault {
             phase: self.phase,
             package: self.package,

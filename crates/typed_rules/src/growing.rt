@@ -1,5 +1,9 @@
 //! The built-in function `append`. Go specification, "Appending to and copying slices".
 
+ghost use Rattle.std.specs.Prelude.{◌≡◌};
+ghost use Rattle.go_rules.specs.Untyped.{is_text_type};
+ghost use Rattle.typed_rules.specs.Shapes.{elem_of};
+
 use crate::adapting::{assigned, retyped, with_last};
 use crate::built_ins::BuiltInCall;
 use crate::calling::place_of;
@@ -63,7 +67,9 @@ fn ask_slice(ground: &mut Ground, slice: &Given) -> Option<TypeId> {
 }
 
 /// The type of the elements of a slice type.
-pub fn elem_of(types: &Types, of: TypeId) -> Option<TypeId> {
+pub fn elem_of(types: &Types, of: TypeId) -> Option<TypeId>
+    ensures { result ≡ elem_of types.now of }
+{
     match types.underlying_term(of) {
         Some(TypeTerm::Slice(elem)) => Some(*elem),
         _ => None,
@@ -127,7 +133,9 @@ fn appended_slice(
 }
 
 /// Whether a type's underlying type is that of strings.
-pub fn is_text(types: &Types, of: TypeId) -> bool {
+pub fn is_text(types: &Types, of: TypeId) -> bool
+    ensures { result ≡ is_text_type types.now of }
+{
     matches!(
         types.underlying_term(of),
         Some(TypeTerm::Basic(Basic::Text))

@@ -4,7 +4,7 @@ use crate::adapting::{assigned, retyped};
 use crate::ground::{Ground, lost};
 use crate::meaning::{Given, Seen, is_place, one_value};
 use crate::nodes::{boxed, node};
-use crate::selecting::dereferenced;
+use crate::selecting::{addressed, dereferenced};
 use crate::shapes::{Shape, is_untyped_text, shape_of};
 use crate::shifting::integer_of;
 use go_base::{NoMemory, Pos, Rule, TypeId};
@@ -334,7 +334,7 @@ fn sliced(
     let max = written(ground, max)?;
     let (base, of) = slice_type(ground, shape, operand.of)?;
     let operand = match shape {
-        Shape::Array { .. } => address(ground, operand)?,
+        Shape::Array { .. } => addressed(ground, operand)?,
         _ => operand,
     };
     let operand = boxed(ground, operand)?;
@@ -374,12 +374,4 @@ fn slice_type(
         Shape::Text => Ok((SliceBase::Text, of)),
         _ => Ok((SliceBase::Slice, of)),
     }
-}
-
-/// The address of a place, as an implicit node.
-fn address(ground: &mut Ground, expr: TypedExpr) -> Result<TypedExpr, NoMemory> {
-    let at = expr.at;
-    let pointer = ground.hold(TypeTerm::Pointer(expr.of))?;
-    let operand = boxed(ground, expr)?;
-    Ok(node(at, pointer, ExprKind::AddressOf(operand)))
 }

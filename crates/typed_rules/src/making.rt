@@ -1,5 +1,8 @@
 //! The built-in functions `make` and `new`. Go specification, "Making slices, maps and channels" and "Allocation".
 
+ghost use Rattle.std.specs.Prelude.{◌≡◌};
+ghost use Rattle.typed_rules.specs.Making.{sizes_of};
+
 use crate::adapting::with_last;
 use crate::built_ins::BuiltInCall;
 use crate::ground::Ground;
@@ -99,11 +102,22 @@ fn new_of(
     Ok(Some(call.node(pointer, Some(form), none, false)))
 }
 
+/// How many sizes there may be.
+#[derive(Clone, Copy, Debug, PartialEq, Eq)]
+struct SizeRange {
+    least: usize,
+    most: usize,
+}
+
 /// How many sizes `make` takes for a type. None where it takes the type not.
-fn sizes_of(ground: &Ground, form: TypeId) -> Option<(usize, usize)> {
-    match ground.types.underlying_term(form) {
-        Some(TypeTerm::Slice(_)) => Some((1, 2)),
-        Some(TypeTerm::Map { .. } | TypeTerm::Chan { .. }) => Some((0, 1)),
+fn sizes_of(base: &Ground, form: TypeId) -> Option<SizeRange>
+    ensures { result ≡ sizes_of base.now.types form }
+{
+    match base.types.underlying_term(form) {
+        Some(TypeTerm::Slice(_)) => Some(SizeRange { least: 1, most: 2 }),
+        Some(TypeTerm::Map { .. } | TypeTerm::Chan { .. }) => {
+            Some(SizeRange { least: 0, most: 1 })
+        }
         _ => None,
     }
 }
@@ -123,7 +137,7 @@ fn make_of(
     let Some(form) = form else {
         return Ok(None);
     };
-    let Some((least, most)) = sizes_of(ground, form) else {
+    let Some(SizeRange { least, most }) = sizes_of(ground, form) else {
         ground.report(form_at, Rule::BadBuiltInCall);
         return Ok(None);
     };

@@ -1,6 +1,12 @@
 //! What parts of an expression mean, and what is asked of every part. Go specification, "Operands", "Calls" and "Address
 //! operators".
 
+ghost use Rattle.std.specs.Prelude.{◌≡◌};
+ghost use Rattle.go_faults.specs.Reports.{Sees};
+ghost use Rattle.go_faults.specs.Seen.{judged};
+ghost use Rattle.typed_rules.specs.Meanings.{base_of, one_seen, single_rule, type_rule, value_rule};
+ghost use Rattle.typed_rules.specs.Shapes.{is_tuple};
+
 use crate::ground::Ground;
 use go_base::{Pos, Rule, TypeId};
 use go_rules::untyped_kind;
@@ -57,47 +63,61 @@ impl Seen {
 }
 
 /// The value or values that a part stands for. `WrongKindOfName` at a type, and `BadBuiltInCall` at a built-in function.
-pub fn value_of(ground: &mut Ground, part: Seen) -> Option<Given> {
+pub fn value_of(base: &mut Ground, part: Seen) -> Option<Given>
+    ensures seen { Sees (λ given. given) result base.old.least base.new.least (judged part.meaning (value_rule (base_of base.old) part.at)) }
+    ensures base { base_of base.new ≡ base_of base.old }
+{
     let Seen { at, meaning } = part;
     match meaning? {
         Meaning::Value(expr) => Some(Given { at, expr }),
         Meaning::Type(_) => {
-            ground.report(at, Rule::WrongKindOfName);
+            base.report(at, Rule::WrongKindOfName);
             None
         }
         Meaning::Builtin(_) => {
-            ground.report(at, Rule::BadBuiltInCall);
+            base.report(at, Rule::BadBuiltInCall);
             None
         }
     }
 }
 
 /// The one value that a part stands for: as `value_of`, and `WrongNumberOfValues` at a call of none or several.
-pub fn one_value(ground: &mut Ground, part: Seen) -> Option<Given> {
-    let given = value_of(ground, part)?;
-    single(ground, given)
+pub fn one_value(base: &mut Ground, part: Seen) -> Option<Given>
+    ensures seen { Sees (λ given. given) result base.old.least base.new.least (one_seen (base_of base.old) part.at part.meaning) }
+    ensures base { base_of base.new ≡ base_of base.old }
+{
+    let given = value_of(base, part)?;
+    single(base, given)
 }
 
 /// A value that is one.
-pub fn single(ground: &mut Ground, given: Given) -> Option<Given> {
-    if is_tuple(&ground.types, given.expr.of) {
-        ground.report(given.at, Rule::WrongNumberOfValues);
+pub fn single(base: &mut Ground, given: Given) -> Option<Given>
+    ensures seen { Sees (λ given. given) result base.old.least base.new.least (single_rule (base_of base.old) given) }
+    ensures base { base_of base.new ≡ base_of base.old }
+{
+    if is_tuple(&base.types, given.expr.of) {
+        base.report(given.at, Rule::WrongNumberOfValues);
         return None;
     }
     Some(given)
 }
 
 /// Whether a type is that of several values, or of none.
-pub fn is_tuple(types: &Types, of: TypeId) -> bool {
+pub fn is_tuple(types: &Types, of: TypeId) -> bool
+    ensures { result ≡ is_tuple types.now of }
+{
     matches!(types.get(of), Some(TypeTerm::Tuple(_)))
 }
 
 /// The type that a part stands for. `WrongKindOfName` at a value and at a built-in function.
-pub fn type_of(ground: &mut Ground, part: Seen) -> Option<TypeId> {
+pub fn type_of(base: &mut Ground, part: Seen) -> Option<TypeId>
+    ensures seen { Sees (λ of. of) result base.old.least base.new.least (judged part.meaning (type_rule (base_of base.old) part.at)) }
+    ensures base { base_of base.new ≡ base_of base.old }
+{
     match part.meaning? {
         Meaning::Type(of) => Some(of),
         _ => {
-            ground.report(part.at, Rule::WrongKindOfName);
+            base.report(part.at, Rule::WrongKindOfName);
             None
         }
     }

@@ -1,5 +1,8 @@
 //! The built-in functions `len` and `cap`. Go specification, "Length and capacity".
 
+ghost use Rattle.std.specs.Prelude.{◌≡◌};
+ghost use Rattle.typed_rules.specs.BuiltIns.{has_length};
+
 use crate::built_ins::{BuiltInCall, one_of};
 use crate::ground::Ground;
 use crate::indexing::{text_length, with_text_type};
@@ -33,7 +36,9 @@ pub fn length_of(
     Ok(Some(call.node(basic(Basic::Int), None, arguments, false)))
 }
 
-fn has_length(builtin: Builtin, shape: Option<Shape>) -> bool {
+fn has_length(builtin: Builtin, shape: Option<Shape>) -> bool
+    ensures { result ≡ has_length builtin shape }
+{
     match shape {
         Some(
             Shape::Array { .. }
@@ -41,7 +46,7 @@ fn has_length(builtin: Builtin, shape: Option<Shape>) -> bool {
             | Shape::Slice { .. }
             | Shape::Chan { .. },
         ) => true,
-        Some(Shape::Text | Shape::Map { .. }) => builtin == Builtin::Len,
+        Some(Shape::Text | Shape::Map { .. }) => matches!(builtin, Builtin::Len),
         None => false,
     }
 }

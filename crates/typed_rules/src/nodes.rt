@@ -1,6 +1,8 @@
 //! The nodes of names and literals. Go specification, "Operands", "Constants", "Integer literals", "Rune literals", "String
 //! literals" and "Function literals".
 
+ghost use Rattle.typed_rules.specs.Typed.{HasType};
+
 use crate::ground::Ground;
 use go_base::{Bytes, FuncId, NoMemory, Pos, Rule, TypeId, VarId};
 use go_rules::Untyped;
@@ -90,7 +92,9 @@ pub fn text_literal(at: Pos, value: Bytes) -> TypedExpr {
 }
 
 /// A node.
-pub fn node(at: Pos, of: TypeId, kind: ExprKind) -> TypedExpr {
+pub fn node(at: Pos, of: TypeId, kind: ExprKind) -> TypedExpr
+    ensures { HasType result of }
+{
     TypedExpr { at, of, kind }
 }
 

@@ -1,5 +1,8 @@
 //! Selectors, method values and method expressions. Go specification, "Selectors", "Method expressions" and "Method values".
 
+ghost use Rattle.std.specs.Prelude.{◌≡◌};
+ghost use Rattle.typed_rules.specs.Receivers.{receiver_by};
+
 use crate::ground::{Ground, lost};
 use crate::meaning::{Given, Meaning, Seen, is_place, single};
 use crate::nodes::{boxed, node};
@@ -168,25 +171,49 @@ fn concrete_method(
     let at = expr.at;
     let base = pointed(ground, expr.of);
     let owner = base.unwrap_or(expr.of);
-    let receiver = if has_pointer_receiver(ground.types.methods(owner), function) {
-        if base.is_none() && !is_place(&expr) {
+    let wants_pointer = has_pointer_receiver(ground.types.methods(owner), function);
+    let receiver = match receiver_by(wants_pointer, base.is_some(), is_place(&expr)) {
+        Received::Kept => expr,
+        Received::Address => addressed(ground, expr)?,
+        Received::Target => dereferenced(ground, expr)?,
+        Received::Refused => {
             ground.report(name_at, Rule::ReceiverNotAddressable);
             return Ok(None);
         }
-        addressed(ground, expr)?
-    } else {
-        dereferenced(ground, expr)?
     };
     let receiver = boxed(ground, receiver)?;
     let method = Method::Concrete(function);
     Ok(Some(node(at, signature, ExprKind::MethodValue { receiver, method })))
 }
 
-/// A pointer as it is, and the address of any other value.
-fn addressed(ground: &mut Ground, expr: TypedExpr) -> Result<TypedExpr, NoMemory> {
-    if pointed(ground, expr.of).is_some() {
-        return Ok(expr);
+/// How a value becomes the receiver of a method.
+#[derive(Clone, Copy, Debug, PartialEq, Eq)]
+enum Received {
+    /// As it is.
+    Kept,
+    /// By its address.
+    Address,
+    /// By what it points to.
+    Target,
+    /// It cannot.
+    Refused,
+}
+
+/// How a value, which may be a pointer or a place, becomes the receiver of a method, which may want a pointer.
+fn receiver_by(wants_pointer: bool, is_pointer: bool, is_place: bool) -> Received
+    ensures { result ≡ receiver_by wants_pointer is_pointer is_place }
+{
+    match (wants_pointer, is_pointer, is_place) {
+        (true, true, _) => Received::Kept,
+        (true, false, true) => Received::Address,
+        (true, false, false) => Received::Refused,
+        (false, true, _) => Received::Target,
+        (false, false, _) => Received::Kept,
     }
+}
+
+/// The address of a place, as an implicit node.
+pub fn addressed(ground: &mut Ground, expr: TypedExpr) -> Result<TypedExpr, NoMemory> {
     let at = expr.at;
     let pointer = ground.hold(TypeTerm::Pointer(expr.of))?;
     let operand = boxed(ground, expr)?;

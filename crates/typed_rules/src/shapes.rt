@@ -1,5 +1,9 @@
 //! What the underlying type of an operand is, for those who look at its elements.
 
+ghost use Rattle.std.specs.Prelude.{◌≡◌};
+ghost use Rattle.go_type.specs.Assignable.{underlying_term_of};
+ghost use Rattle.typed_rules.specs.Shapes.{array_behind, is_untyped_text, plain_shape, shape_of};
+
 use crate::ground::Ground;
 use crate::unary::pointed;
 use go_base::TypeId;
@@ -35,14 +39,18 @@ pub enum Shape {
 }
 
 /// What a type's underlying type is. None where its values have no elements.
-pub fn shape_of(ground: &Ground, of: TypeId) -> Option<Shape> {
-    match pointed(ground, of) {
-        Some(array) => pointed_shape(&ground.types, array),
-        None => plain_shape(&ground.types, of),
+pub fn shape_of(base: &Ground, of: TypeId) -> Option<Shape>
+    ensures { result ≡ shape_of base.now.types of }
+{
+    match pointed(base, of) {
+        Some(array) => pointed_shape(&base.types, array),
+        None => plain_shape(&base.types, of),
     }
 }
 
-fn pointed_shape(types: &Types, array: TypeId) -> Option<Shape> {
+fn pointed_shape(types: &Types, array: TypeId) -> Option<Shape>
+    ensures { result ≡ array_behind array (underlying_term_of types.now array) }
+{
     match types.underlying_term(array) {
         Some(TypeTerm::Array { len, elem }) => Some(Shape::ArrayPointer {
             array,
@@ -53,7 +61,9 @@ fn pointed_shape(types: &Types, array: TypeId) -> Option<Shape> {
     }
 }
 
-fn plain_shape(types: &Types, of: TypeId) -> Option<Shape> {
+fn plain_shape(types: &Types, of: TypeId) -> Option<Shape>
+    ensures { result ≡ plain_shape (underlying_term_of types.now of) }
+{
     match types.underlying_term(of) {
         Some(TypeTerm::Basic(Basic::Text | Basic::UntypedText)) => Some(Shape::Text),
         Some(TypeTerm::Array { len, elem }) => Some(Shape::Array {
@@ -74,6 +84,8 @@ fn plain_shape(types: &Types, of: TypeId) -> Option<Shape> {
 }
 
 /// Whether a type is the kind of untyped strings.
-pub fn is_untyped_text(types: &Types, of: TypeId) -> bool {
+pub fn is_untyped_text(types: &Types, of: TypeId) -> bool
+    ensures { result ≡ is_untyped_text types.now of }
+{
     matches!(untyped_kind(types, of), Some(Untyped::Text))
 }

@@ -1,5 +1,10 @@
 //! What statements and declarations ask of expressions. Go specification, "Statements" and "Constant declarations".
 
+ghost use Rattle.std.specs.Prelude.{◌≡◌, ◌||◌};
+ghost use Rattle.go_rules.specs.Operands.{class_at, is_truth, ordered};
+ghost use Rattle.typed_rules.specs.Channels.{sent};
+ghost use Rattle.typed_rules.specs.Ranges.{array_parts, parts_of, range_parts};
+
 use crate::adapting::{assigned, by_default};
 use crate::ground::Ground;
 use crate::indexing::with_text_type;
@@ -84,7 +89,9 @@ fn one_constant(ground: &mut Ground, x: Seen) -> Option<Given> {
 }
 
 /// Whether a type has constants: of booleans, integers or strings.
-fn has_constants(types: &Types, of: TypeId) -> bool {
+fn has_constants(types: &Types, of: TypeId) -> bool
+    ensures { result ≡ (ordered (class_at types.now of) || is_truth types.now of) }
+{
     is_ordered(types, of) || takes_logic(types, of)
 }
 
@@ -159,8 +166,10 @@ pub fn send(ground: &mut Ground, channel: Seen, value: Seen) -> Result<Option<Se
 }
 
 /// What is sent to a channel type that is not only for receiving.
-fn sent_elem(ground: &Ground, of: TypeId) -> Option<TypeId> {
-    match ground.types.underlying_term(of) {
+fn sent_elem(base: &Ground, of: TypeId) -> Option<TypeId>
+    ensures { result ≡ sent base.now.types of }
+{
+    match base.types.underlying_term(of) {
         Some(
             TypeTerm::Chan {
                 dir: Dir::Both | Dir::Send,
@@ -211,9 +220,14 @@ struct RangeParts {
     len: Option<u64>,
 }
 
-fn range_parts(shape: Option<Shape>) -> Option<RangeParts> {
+fn range_parts(shape: Option<Shape>) -> Option<RangeParts>
+    ensures { result ≡ range_parts shape }
+{
     let int = basic(Basic::Int);
-    match shape? {
+    let Some(shape) = shape else {
+        return None;
+    };
+    match shape {
         Shape::Text => Some(parts_of(RangeOver::Text, int, Some(basic(Basic::Int32)))),
         Shape::Slice { elem } => Some(parts_of(RangeOver::Slice, int, Some(elem))),
         Shape::Map { key, elem } => Some(parts_of(RangeOver::Map, key, Some(elem))),
@@ -228,7 +242,9 @@ fn range_parts(shape: Option<Shape>) -> Option<RangeParts> {
     }
 }
 
-const fn parts_of(over: RangeOver, key: TypeId, value: Option<TypeId>) -> RangeParts {
+const fn parts_of(over: RangeOver, key: TypeId, value: Option<TypeId>) -> RangeParts
+    ensures { result ≡ parts_of over key value }
+{
     RangeParts {
         over,
         key,
@@ -237,7 +253,9 @@ const fn parts_of(over: RangeOver, key: TypeId, value: Option<TypeId>) -> RangeP
     }
 }
 
-fn array_parts(over: RangeOver, len: u64, elem: TypeId) -> RangeParts {
+fn array_parts(over: RangeOver, len: u64, elem: TypeId) -> RangeParts
+    ensures { result ≡ array_parts over len elem }
+{
     RangeParts {
         over,
         key: basic(Basic::Int),

@@ -1,6 +1,10 @@
 //! Operators on one operand. Go specification, "Arithmetic operators", "Logical operators", "Address operators" and "Receive
 //! operator".
 
+ghost use Rattle.typed_rules.specs.Channels.{received};
+ghost use Rattle.std.specs.Prelude.{◌≡◌};
+ghost use Rattle.typed_rules.specs.Shapes.{pointed};
+
 use crate::ground::Ground;
 use crate::meaning::{Given, Meaning, Seen, is_place, one_value};
 use crate::nodes::{boxed, node};
@@ -135,8 +139,10 @@ fn dereference(ground: &mut Ground, at: Pos, x: Seen) -> Result<Option<TypedExpr
 }
 
 /// What a pointer type points to.
-pub fn pointed(ground: &Ground, of: TypeId) -> Option<TypeId> {
-    match ground.types.underlying_term(of) {
+pub fn pointed(base: &Ground, of: TypeId) -> Option<TypeId>
+    ensures { result ≡ pointed base.now.types of }
+{
+    match base.types.underlying_term(of) {
         Some(TypeTerm::Pointer(base)) => Some(*base),
         _ => None,
     }
@@ -184,8 +190,10 @@ pub fn receive(ground: &mut Ground, at: Pos, x: Seen) -> Result<Option<TypedExpr
 }
 
 /// What is received from a channel type that is not only for sending.
-pub fn received(ground: &Ground, of: TypeId) -> Option<TypeId> {
-    match ground.types.underlying_term(of) {
+pub fn received(base: &Ground, of: TypeId) -> Option<TypeId>
+    ensures { result ≡ received base.now.types of }
+{
+    match base.types.underlying_term(of) {
         Some(
             TypeTerm::Chan {
                 dir: Dir::Both | Dir::Receive,

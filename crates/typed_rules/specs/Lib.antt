@@ -1,0 +1,13 @@
+pub mod Shapes
+pub mod Literals
+pub mod BuiltIns
+pub mod Conversions
+pub mod Numbers
+pub mod Matching
+pub mod Meanings
+pub mod Ranges
+pub mod Channels
+pub mod Interfaces
+pub mod Making
+pub mod Receivers
+pub mod Typed
