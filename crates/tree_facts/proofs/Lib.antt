@@ -1,0 +1,4 @@
+pub mod Rooting
+pub mod Assigning
+pub mod Meetings
+pub mod Walking
