@@ -1,10 +1,9 @@
 //! The function literals in expressions and types: their bodies are walked where the literals stand.
 
 use crate::walker::Walker;
-use go_ast::Token;
 use go_base::NoMemory;
 use go_syntax::{
-    Block, Element, ElementLine, Expr, FieldLine, ListedExpr, Param, ResultForm, Signature, Stmt,
+    Element, ElementLine, Expr, FieldLine, ListedExpr, Param, ResultForm, Signature, Stmt,
     TypeExpr, TypeSpec, ValueSpec,
 };
 
@@ -85,11 +84,7 @@ impl<'s> Walker<'s> {
         match expr {
             Expr::Int(_) | Expr::Rune(_) | Expr::Text(_) | Expr::Name(_) => Ok(()),
             Expr::Paren { inner, .. } => self.bodies_of_expr(inner),
-            Expr::Function {
-                word,
-                signature,
-                body,
-            } => self.literal(*word, signature, body),
+            Expr::Function { .. } => self.literal(expr),
             Expr::TypeForm(form) => self.bodies_of_type(form),
             Expr::Composite { form, elements, .. } => {
                 if let Some(form) = form {
@@ -221,16 +216,19 @@ impl<'s> Walker<'s> {
         Ok(())
     }
 
-    /// A literal, at the word `func`, where it stands.
+    /// A function literal, where it stands.
     #[cycle(bodies)]
-    fn literal(
-        &mut self,
-        word: Token,
-        signature: &Signature,
-        body: &Block,
-    ) -> Result<(), NoMemory> {
+    fn literal(&mut self, expr: &Expr) -> Result<(), NoMemory> {
+        let Expr::Function {
+            word,
+            signature,
+            body,
+        } = expr
+        else {
+            return Ok(());
+        };
         self.bodies_of_signature(signature)?;
-        let function = self.scope.literal(self.at(word));
+        let function = self.scope.literal(self.at(*word));
         let entered = self.enter(function, &None, signature)?;
         let steps = self.statements(&body.statements, false)?;
         self.finish(entered, body, steps)

@@ -43,18 +43,10 @@ impl<'s> Walker<'s> {
         match stmt {
             Stmt::Decl(decl) => self.declaration(decl, steps),
             Stmt::Labeled { labels, stmt } => self.labeled(labels, stmt, spot.falls, steps),
-            Stmt::Define {
-                targets,
-                values,
-                ..
-            } => self.define(targets, values, steps),
+            Stmt::Define { .. } => self.define(stmt, steps),
             Stmt::Fallthrough(word) => self.fall(*word, spot.falls, steps),
             Stmt::Block(block) => self.inner_block(block, steps),
-            Stmt::If {
-                arms,
-                otherwise,
-                ..
-            } => self.choice(arms, otherwise, steps),
+            Stmt::If { .. } => self.choice(stmt, steps),
             Stmt::Switch(switch) => self.switch(switch, spot, steps),
             Stmt::TypeSwitch(switch) => self.type_switch(switch, spot, steps),
             Stmt::Select {
@@ -63,11 +55,7 @@ impl<'s> Walker<'s> {
                 close,
                 ..
             } => self.select(*word, clauses, *close, spot, steps),
-            Stmt::While {
-                word,
-                condition,
-                body,
-            } => self.while_loop(*word, condition, body, spot, steps),
+            Stmt::While { .. } => self.while_loop(stmt, spot, steps),
             Stmt::For(stmt) => self.for_loop(stmt, spot, steps),
             Stmt::Range(stmt) => self.range_loop(stmt, spot, steps),
             _ => self.plain(stmt, steps),
@@ -83,13 +71,17 @@ impl<'s> Walker<'s> {
         steps.push(typed, ends)
     }
 
+    /// A short variable declaration.
     #[cycle(bodies)]
-    fn define(
-        &mut self,
-        targets: &[ListedExpr],
-        values: &[ListedExpr],
-        steps: &mut Steps,
-    ) -> Result<(), NoMemory> {
+    fn define(&mut self, stmt: &Stmt, steps: &mut Steps) -> Result<(), NoMemory> {
+        let Stmt::Define {
+            targets,
+            values,
+            ..
+        } = stmt
+        else {
+            return Ok(());
+        };
         let at = self.list_at(targets);
         let seen = self.see_define(at, targets, values)?;
         self.bodies_of_list(values)?;
@@ -191,12 +183,15 @@ impl<'s> Walker<'s> {
 
     /// An `if`: each arm stands in the scope of those before it.
     #[cycle(bodies)]
-    fn choice(
-        &mut self,
-        arms: &[IfArm],
-        otherwise: &Option<Box<Block>>,
-        steps: &mut Steps,
-    ) -> Result<(), NoMemory> {
+    fn choice(&mut self, stmt: &Stmt, steps: &mut Steps) -> Result<(), NoMemory> {
+        let Stmt::If {
+            arms,
+            otherwise,
+            ..
+        } = stmt
+        else {
+            return Ok(());
+        };
         let mut walked = Gathered::new(self.alloc);
         for arm in arms {
             self.scope.open_block()?;
@@ -425,14 +420,15 @@ impl<'s> Walker<'s> {
 
     /// A `for` with a condition, or without one.
     #[cycle(bodies)]
-    fn while_loop(
-        &mut self,
-        word: Token,
-        condition: &Option<Box<Expr>>,
-        body: &Block,
-        spot: Spot,
-        steps: &mut Steps,
-    ) -> Result<(), NoMemory> {
+    fn while_loop(&mut self, stmt: &Stmt, spot: Spot, steps: &mut Steps) -> Result<(), NoMemory> {
+        let Stmt::While {
+            word,
+            condition,
+            body,
+        } = stmt
+        else {
+            return Ok(());
+        };
         let seen = self.see_loop_condition(condition)?;
         self.bodies_of_option(condition)?;
         self.frame.branches.enter(spot.label, true)?;
@@ -447,7 +443,7 @@ impl<'s> Walker<'s> {
             is_sound: true,
             stmt: None,
         };
-        let typed = self.finish_for(word, none, seen, post, body);
+        let typed = self.finish_for(*word, none, seen, post, body);
         steps.push(typed, ends)
     }
 
