@@ -20,11 +20,12 @@ use Rattle.go_load.specs.Answers.{IsLoaded, HasStopped}
 use Rattle.driver.specs.declared.outcome.Outcome.{Outcome}
 use Rattle.driver.specs.declared.outcome.Outcome.TheVariants as outcomes
 use Rattle.driver.specs.Performing.{IsUsage, outcome_of}
-use Rattle.driver.specs.Asked.{runs_alone}
+use Rattle.driver.specs.Asked.{runs_alone, asks_nothing}
+use Rattle.driver.specs.Checking.{IsChecked, IsRefusal}
 use Rattle.driver.specs.FirstForm.{HasNoForm, output_of}
 use Rattle.driver.specs.Reading.{IsProgram, Reads}
-use Rattle.driver.specs.Running.{EndsAt, EndsWith, IsRun, IsRunOf, IsOutside, other_form, IsNotBuilt, Prints, Runs, Works, Writes, first_path, only_file, start_of}
-use Rattle.driver.specs.WholeAnswer.{IsRight, IsUnfinished, IsRefused, breaks, outside, generated, Ends, Finishes, Answers, Becomes}
+use Rattle.driver.specs.Running.{EndsAt, EndsWith, IsRun, IsRunOf, other_form, IsNotBuilt, Prints, Runs, Works, Writes, first_path, only_file, start_of}
+use Rattle.driver.specs.WholeAnswer.{Accepts, IsRight, IsUnfinished, IsRefused, breaks, checked, outside, generated, Finishes, Answers, Becomes}
 
 pub appends_none : (known : Option (List ℕ)) → Appends known known []
 appends_none None = tt
@@ -47,6 +48,23 @@ generated_answers words files count outcome known asked is = unbuilt_answers wor
 run_right : (words : List (List ℕ)) (files : Option Tree) (command : LoadCommand) (sources : Sources) (ending : Ending) (output : List ℕ) → command_of words ≡ Ok (commands.Load command) → IsLoaded files command.target sources → IsRunOf command (files_of sources) ending output → IsRight words files (outcomes.Ended ending) output
 run_right words files command sources ending output asked loaded run = record { command = command; asked = asked; sources = sources; loaded = loaded; run = run }
 
+-- a check, and nothing more
+checked_answers : (words : List (List ℕ)) (files : Option Tree) (command : LoadCommand) (sources : Sources) (outcome : Outcome) (known : Option (List ℕ)) → command_of words ≡ Ok (commands.Load command) → IsLoaded files command.target sources → IsChecked command (files_of sources) outcome → Answers words files outcome known known
+checked_answers words files command sources outcome known asked loaded (inl accepted) =
+    let right : Accepts words files = record { command = command; asked = asked; nothing_more = accepted.0; sources = sources; loaded = loaded } in
+    subst (λ o. Answers words files o known known) (sym accepted.1) (record { output = []; right = (right, refl); appends = appends_none known })
+checked_answers words files command sources outcome known asked loaded (inr broken) =
+    subst (λ o. Answers words files o known known) (sym broken.outcome_is) (record { output = []; right = (checked command sources asked loaded broken.broken, refl); appends = appends_none known })
+
+-- a refusal is what the work comes to
+pub refusal_works : (command : LoadCommand) (files : List SourceFile) (outcome : Outcome) (known : Option (List ℕ)) → IsRefusal files outcome → Works command files outcome known known
+refusal_works command files outcome known (inl broken) = inr (inr (inl (inr broken, refl)))
+refusal_works command files outcome known (inr e) = inr (inr (inr (e, refl)))
+
+-- a program that breaks no rule, where nothing more is asked
+pub accepted_works : (command : LoadCommand) (files : List SourceFile) (known : Option (List ℕ)) → asks_nothing command ≡ true → Works command files outcomes.Done known known
+accepted_works command files known alone = inr (inr (inl (inl (alone, refl), refl)))
+
 pub works_answers : (words : List (List ℕ)) (files : Option Tree) (command : LoadCommand) (sources : Sources) (outcome : Outcome) (old new : Option (List ℕ)) → command_of words ≡ Ok (commands.Load command) → IsLoaded files command.target sources → Works command (files_of sources) outcome old new → Answers words files outcome old new
 works_answers words files command sources outcome old new asked loaded (inl w) = go w.written
   where
@@ -61,7 +79,9 @@ works_answers words files command sources outcome old new asked loaded (inl w) =
 works_answers words files command sources outcome old new asked loaded (inr (inl other)) =
     subst (λ (k : Option (List ℕ)). Answers words files outcome old k) (sym other.1.1)
     (unbuilt_answers words files (first_path (files_of sources)) outcome old (outside command sources asked loaded other.0 refl refl) other.1.0)
-works_answers words files command sources outcome old new asked loaded (inr (inr wants)) =
+works_answers words files command sources outcome old new asked loaded (inr (inr (inl is))) =
+    subst (λ (k : Option (List ℕ)). Answers words files outcome old k) (sym is.1) (checked_answers words files command sources outcome old asked loaded is.0)
+works_answers words files command sources outcome old new asked loaded (inr (inr (inr wants))) =
     subst (λ (k : Option (List ℕ)). Answers words files outcome old k) (sym wants.1) (wants_answers words files outcome old wants.0)
 
 pub stopped_answers : (words : List (List ℕ)) (files : Option Tree) (command : LoadCommand) (error : LoadError) (outcome : Outcome) (known : Option (List ℕ)) → command_of words ≡ Ok (commands.Load command) → HasStopped files command.target error → outcome ≡ outcome_of error → Answers words files outcome known known
@@ -85,7 +105,7 @@ finished_stops words files outcome old new f =
 
 -- whatever was answered is a front of a right output
 pub unfinished : (words : List (List ℕ)) (files : Option Tree) (outcome : Outcome) (old new : Option (List ℕ)) → Answers words files outcome old new → IsUnfinished words files old new
-unfinished words files outcomes.Done old new a = absurd a.right
+unfinished words files outcomes.Done old new a = finished_stops words files outcomes.Done old new a
 unfinished words files (outcomes.Ended ending) old new a = finished_stops words files (outcomes.Ended ending) old new a
 unfinished words files (outcomes.Refused place rule) old new a = finished_stops words files (outcomes.Refused place rule) old new a
 unfinished words files (outcomes.Usage word) old new a = finished_stops words files (outcomes.Usage word) old new a
@@ -134,7 +154,7 @@ runs_works command files file outcome old new alone only path (inl w) =
     inl (written_again (IsRun file command.bound) (IsRunOf command files) outcome old new (λ ending output h. record { alone = alone; file = file; only = only; run = h }) w)
 runs_works command files file outcome old new alone only path (inr (inl h)) =
     inr (inl (other_form file only h.0, (rw path h.1.0, h.1.1)))
-runs_works command files file outcome old new alone only path (inr (inr wants)) = inr (inr wants)
+runs_works command files file outcome old new alone only path (inr (inr wants)) = inr (inr (inr wants))
 
 -- the only file is the first
 pub only_is_first : (files : List SourceFile) (file : SourceFile) → only_file files ≡ Some file → first_path files ≡ file.path

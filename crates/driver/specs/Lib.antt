@@ -1,5 +1,6 @@
 pub mod FirstForm
 pub mod Asked
+pub mod Checking
 pub mod Reading
 pub mod Running
 pub mod Lines

@@ -1,5 +1,5 @@
 -- The run of a program that was loaded: for now of one file that prints literals.
-use Rattle.std.specs.Prelude.{◌≡◌, ℕ, ◌<◌, List, [], ◌∷◌, ◌⊎◌, Option, Some, None, Bool, true, false, ◌==◌, if◌then◌else◌}
+use Rattle.std.specs.Prelude.{◌≡◌, ℕ, ◌<◌, List, [], ◌∷◌, ◌⊎◌, Option, Some, None, true, false, ◌==◌, if◌then◌else◌}
 use Rattle.std.specs.Io.KnownBytes.{Appends}
 use Rattle.command_line.specs.declared.command.LoadCommand.{LoadCommand}
 use Rattle.go_base.specs.Devices.{AppendsFront}
@@ -12,7 +12,8 @@ use Rattle.go_ast.specs.Trees.{File}
 use Rattle.go_load.specs.declared.sources.SourceFile.{SourceFile}
 use Rattle.driver.specs.declared.outcome.Outcome.{Outcome}
 use Rattle.driver.specs.declared.outcome.Outcome.TheVariants as outcomes
-use Rattle.driver.specs.Asked.{runs_alone}
+use Rattle.driver.specs.Asked.{runs_alone, asks_nothing}
+use Rattle.driver.specs.Checking.{IsChecked}
 use Rattle.driver.specs.FirstForm.{IsFirstForm, HasNoForm, output_of}
 
 -- the file of the target, where it has one alone; the files of other packages stand behind it
@@ -60,7 +61,7 @@ pub record IsRunOf (command : LoadCommand) (files : List SourceFile) (ending : E
 
 -- something else is asked, or of another program
 pub data IsOutside (command : LoadCommand) (files : List SourceFile) : Type 0 where
-  asks_more : runs_alone command ≡ false → IsOutside command files
+  asks_more : runs_alone command ≡ false → asks_nothing command ≡ false → IsOutside command files
   several : only_file files ≡ None → IsOutside command files
   other_form : (file : SourceFile) → only_file files ≡ Some file → HasNoForm file.bytes → IsOutside command files
 
@@ -100,4 +101,6 @@ Runs file bound outcome old new =
 -- what the work on a program that was loaded comes to
 abbrev pub Works : LoadCommand → List SourceFile → Outcome → Option (List ℕ) → Option (List ℕ) → Type 0
 Works command files outcome old new =
-    Writes (IsRunOf command files) outcome old new ⊎ ((IsOutside command files × Refuses (first_path files) outcome old new) ⊎ Wants outcome old new)
+    Writes (IsRunOf command files) outcome old new
+    ⊎ ((IsOutside command files × Refuses (first_path files) outcome old new)
+    ⊎ ((IsChecked command files outcome × (new ≡ old)) ⊎ Wants outcome old new))

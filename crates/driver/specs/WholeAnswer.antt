@@ -1,6 +1,6 @@
 -- The whole answer of a call: which outcome is right for the words and the files, with what on standard output and on
 -- standard error.
-use Rattle.std.specs.Prelude.{◌≡◌, ℕ, List, [], ◌⊎◌, Option, Ok, Err, codes}
+use Rattle.std.specs.Prelude.{◌≡◌, ℕ, List, [], ◌⊎◌, Option, Ok, Err, codes, true}
 use Rattle.std.specs.Io.KnownBytes.{Appends}
 use Rattle.command_line.specs.CommandLine.{command_of}
 use Rattle.command_line.specs.declared.command.LoadCommand.{LoadCommand}
@@ -15,6 +15,8 @@ use Rattle.go_load.specs.Sources.{files_of}
 use Rattle.go_load.specs.Answers.{IsLoaded, Breaks}
 use Rattle.driver.specs.declared.outcome.Outcome.{Outcome}
 use Rattle.driver.specs.declared.outcome.Outcome.TheVariants as outcomes
+use Rattle.driver.specs.Asked.{asks_nothing}
+use Rattle.driver.specs.Checking.{IsBrokenAt}
 use Rattle.driver.specs.Running.{IsRunOf, IsOutside, first_path, start_of}
 use Rattle.driver.specs.Lines.{line_for}
 
@@ -26,18 +28,28 @@ pub record Ends (words : List (List ℕ)) (files : Option Tree) (ending : Ending
   pub loaded : IsLoaded files command.target sources
   pub run : IsRunOf command (files_of sources) ending output
 
+-- a check is asked of files that are loaded, and nothing more
+pub record Accepts (words : List (List ℕ)) (files : Option Tree) : Type 0 where
+  pub command : LoadCommand
+  pub asked : command_of words ≡ Ok (commands.Load command)
+  pub nothing_more : asks_nothing command ≡ true
+  pub sources : Sources
+  pub loaded : IsLoaded files command.target sources
+
 -- why nothing is done, for a command
 pub data IsRefused (words : List (List ℕ)) (files : Option Tree) (place : Place) (rule : Rule) : Type 0 where
   -- a loading rule is broken
   breaks : (command : LoadCommand) → command_of words ≡ Ok (commands.Load command) → Breaks files command.target place rule → IsRefused words files place rule
-  -- none is, and what is asked is not built
+  -- none is, and one of those that loaded programs are checked for
+  checked : (command : LoadCommand) (sources : Sources) → command_of words ≡ Ok (commands.Load command) → IsLoaded files command.target sources → IsBrokenAt (files_of sources) place rule → IsRefused words files place rule
+  -- what is asked is not built
   outside : (command : LoadCommand) (sources : Sources) → command_of words ≡ Ok (commands.Load command) → IsLoaded files command.target sources → IsOutside command (files_of sources) → place ≡ start_of (first_path (files_of sources)) → rule ≡ rules.NotBuiltYet → IsRefused words files place rule
   generated : (count : ℕ) → command_of words ≡ Ok (commands.Generate count) → place ≡ start_of (codes "gen.go") → rule ≡ rules.NotBuiltYet → IsRefused words files place rule
 
 -- The outcome is the right one, with this on standard output. The outcomes that speak of devices and memory are never
 -- right by words and files alone.
 abbrev pub IsRight : List (List ℕ) → Option Tree → Outcome → List ℕ → Type 0
-IsRight words files outcomes.Done output = ⊥
+IsRight words files outcomes.Done output = Accepts words files × (output ≡ [])
 IsRight words files (outcomes.Ended ending) output = Ends words files ending output
 IsRight words files (outcomes.Refused place rule) output = IsRefused words files place rule × (output ≡ [])
 IsRight words files (outcomes.Usage word) output = (command_of words ≡ Err word) × (output ≡ [])

@@ -3,6 +3,7 @@
 #![tactic(auto)]
 
 mod call;
+mod checking;
 mod first_form;
 mod outcome;
 mod output;

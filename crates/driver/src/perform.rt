@@ -7,8 +7,9 @@ ghost use Rattle.go_base.specs.Devices.{HasFaulted};
 ghost use Rattle.driver.specs.Performing.{IsUsage, outcome_of};
 ghost use Rattle.driver.specs.WholeAnswer.{Answers};
 
+use crate::checking::check_and_work;
 use crate::outcome::Outcome;
-use crate::work::{not_built, work};
+use crate::work::not_built;
 use command_line::{Command, CommandError, LoadCommand, read_words};
 use go_base::{Files, Sink, Text};
 use go_load::{LoadError, load};
@@ -63,7 +64,7 @@ fn perform_load<F: Files, O: Sink>(
     ensures same { F.tree files.new ≡ F.tree files.old }
 {
     match load(alloc, files, &command.target) {
-        Ok(sources) => work(alloc, command, &sources, out),
+        Ok(sources) => check_and_work(alloc, command, &sources, out),
         Err(error) => stopped(error),
     }
 }

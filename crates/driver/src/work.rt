@@ -1,9 +1,9 @@
-//! The work on a program that was loaded: for now the run of one file that prints literals.
+//! The work on a program that breaks no rule: for now the run of one file that prints literals.
 
-ghost use Rattle.std.specs.Prelude.{◌≡◌, ◌≤◌, option_copied};
+ghost use Rattle.std.specs.Prelude.{◌≡◌, ◌≤◌, false, option_copied};
 ghost use Rattle.go_base.specs.Devices.{HasFaulted};
 ghost use Rattle.go_load.specs.Sources.{files_of};
-ghost use Rattle.driver.specs.Asked.{runs_alone};
+ghost use Rattle.driver.specs.Asked.{runs_alone, asks_nothing};
 ghost use Rattle.go_ast.specs.Trees.{view_file};
 ghost use Rattle.driver.specs.FirstForm.{output_of};
 ghost use Rattle.driver.specs.Reading.{IsProgram};
@@ -18,13 +18,14 @@ use go_base::{Ending, Place, Rule, Sink, SinkError, Text};
 use go_load::{SourceFile, Sources};
 use std::alloc::Global;
 
-/// Does what is asked with a program that was loaded.
+/// Does what is asked, beside a check, with a program that breaks no rule.
 pub fn work<O: Sink>(
     alloc: Global,
     command: &LoadCommand,
     sources: &Sources,
     out: &mut O,
 ) -> Outcome
+    requires { asks_nothing command.now ≡ false }
     ensures works { Works command.now (files_of sources.now) result (O.written out.old) (O.written out.new) }
     ensures fault { result ≡ Outcome.WriteFault → HasFaulted (O.faults out.old) (O.faults out.new) }
     ensures later { O.faults out.old ≤ O.faults out.new }

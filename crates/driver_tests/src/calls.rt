@@ -46,11 +46,15 @@ const REFUSED: &[(&str, &str)] = &[
     ),
     (
         "package println\n\nfunc main() { println(1) }\n",
-        "x.go:1:1: not built yet (X1)\n",
+        "x.go:1:9: not a main package (O3)\n",
     ),
     (
         "package main\n\nfunc main() { main(1) }\n",
-        "x.go:1:1: not built yet (X1)\n",
+        "x.go:3:20: wrong number of values (E7)\n",
+    ),
+    (
+        "package main\n\nfunc main() { println(1 << 63) }\n",
+        "x.go:3:23: constant out of range (K1)\n",
     ),
     (
         "package main\n\nfunc main() { println(1) println(2) }\n",
@@ -92,7 +96,8 @@ const LINES: &[(&str, u8, &str)] = &[
         1,
         "hello.go:1:1: not built yet (X1)\n",
     ),
-    ("hello.go", 1, "hello.go:1:1: not built yet (X1)\n"),
+    ("hello.go", 0, ""),
+    ("-build=N hello.go", 1, "hello.go:1:1: not built yet (X1)\n"),
     ("-gen=3", 1, "gen.go:1:1: not built yet (X1)\n"),
 ];
 

@@ -1,0 +1,201 @@
+//! Composite literals as they are written. Go specification, "Composite literals".
+
+use crate::exprs::see;
+use crate::own::Position;
+use crate::scope::Scope;
+use crate::types::see_type;
+use go_ast::Token;
+use go_base::{NameId, NoMemory, Pos};
+use go_load::SourceFile;
+use go_syntax::{Element, Expr, TypeExpr};
+use std::alloc::Global;
+use typed_rules::{
+    Entry, FieldEntry, Hint, Literal, LiteralKind, Seen, elided_literal, indexed_literal,
+    map_literal, open_array_literal, struct_literal, written_literal,
+};
+
+/// The value or key of an element, which may be a composite literal without its type: then the hint says what it is.
+#[cycle(seeing)]
+fn see_part(
+    alloc: Global,
+    source: &SourceFile,
+    scope: &mut Scope,
+    part: &Expr,
+    hint: Hint,
+) -> Result<Seen, NoMemory> {
+    match part {
+        Expr::Composite {
+            form: None,
+            open,
+            elements,
+            ..
+        } => {
+            let brace = scope.pos(open.start);
+            let literal = elided_literal(&mut scope.ground, brace, hint);
+            see_elements(alloc, source, scope, elements.as_slice(), brace, literal)
+        }
+        _ => see(alloc, source, scope, part),
+    }
+}
+
+/// The first byte of a composite literal, and what it is by its type. One without a type stands only where a hint says what
+/// it is.
+#[cycle(seeing)]
+pub(crate) fn see_form(
+    alloc: Global,
+    source: &SourceFile,
+    scope: &mut Scope,
+    form: &Option<Box<TypeExpr>>,
+    open: Token,
+) -> Result<(Pos, Option<Literal>), NoMemory> {
+    let brace = scope.pos(open.start);
+    let Some(form) = form else {
+        return Ok((
+            brace,
+            elided_literal(&mut scope.ground, brace, Hint::Nothing),
+        ));
+    };
+    let at = scope.type_place(form);
+    if let TypeExpr::OpenArray { element, .. } = &**form {
+        let elem = see_type(alloc, source, scope, element, Position::Apart)?;
+        return Ok((at, open_array_literal(at, brace, elem)));
+    }
+    let of = see_type(alloc, source, scope, form, Position::Apart)?;
+    Ok((at, written_literal(&mut scope.ground, at, brace, of)))
+}
+
+/// The elements of a composite literal, and the literal that they make.
+#[cycle(seeing)]
+pub(crate) fn see_elements(
+    alloc: Global,
+    source: &SourceFile,
+    scope: &mut Scope,
+    elements: &[Element],
+    at: Pos,
+    literal: Option<Literal>,
+) -> Result<Seen, NoMemory> {
+    let Some(known) = literal else {
+        see_values(alloc, source, scope, elements)?;
+        return Ok(Seen { at, meaning: None });
+    };
+    let expr = match known.kind {
+        LiteralKind::Struct => {
+            let entries = see_fields(alloc, source, scope, elements)?;
+            let package = scope.package;
+            struct_literal(&mut scope.ground, package, literal, entries)?
+        }
+        LiteralKind::Map { .. } => {
+            let entries = see_entries(alloc, source, scope, elements, known)?;
+            map_literal(&mut scope.ground, literal, entries)?
+        }
+        _ => {
+            let entries = see_entries(alloc, source, scope, elements, known)?;
+            indexed_literal(&mut scope.ground, literal, entries)?
+        }
+    };
+    Ok(Seen::value(at, expr))
+}
+
+/// The values of a literal that is not sound.
+#[cycle(seeing)]
+fn see_values(
+    alloc: Global,
+    source: &SourceFile,
+    scope: &mut Scope,
+    elements: &[Element],
+) -> Result<(), NoMemory> {
+    for element in elements {
+        let _ = see_part(alloc, source, scope, &element.value, Hint::Unsound)?;
+    }
+    Ok(())
+}
+
+/// The elements of a struct.
+#[cycle(seeing)]
+fn see_fields(
+    alloc: Global,
+    source: &SourceFile,
+    scope: &mut Scope,
+    elements: &[Element],
+) -> Result<Vec<FieldEntry>, NoMemory> {
+    let mut entries = Vec::new(alloc);
+    for element in elements {
+        let value = see_part(alloc, source, scope, &element.value, Hint::Nothing)?;
+        let entry = scope.field_entry(source, element, value)?;
+        entries.push(entry)?;
+    }
+    Ok(entries)
+}
+
+/// The elements of an array, a slice or a map.
+#[cycle(seeing)]
+fn see_entries(
+    alloc: Global,
+    source: &SourceFile,
+    scope: &mut Scope,
+    elements: &[Element],
+    literal: Literal,
+) -> Result<Vec<Entry>, NoMemory> {
+    let mut entries = Vec::new(alloc);
+    for element in elements {
+        let key = match &element.key {
+            Some(key) => { Some(see_part(alloc, source, scope, key, literal.key_hint())?) }
+            None => None,
+        };
+        let value = see_part(alloc, source, scope, &element.value, literal.value_hint())?;
+        entries.push(entry(key, value))?;
+    }
+    Ok(entries)
+}
+
+fn entry(key: Option<Seen>, value: Seen) -> Entry {
+    let at = match &key {
+        Some(key) => key.at,
+        None => value.at,
+    };
+    Entry { at, key, value }
+}
+
+impl Scope {
+    fn field_entry(
+        &mut self,
+        source: &SourceFile,
+        element: &Element,
+        value: Seen,
+    ) -> Result<FieldEntry, NoMemory> {
+        let Some(key) = &element.key else {
+            return Ok(FieldEntry {
+                at: value.at,
+                has_key: false,
+                name: None,
+                package: self.package,
+                value,
+            });
+        };
+        let at = self.pos(go_places::expr_start(key));
+        let (name, package) = match &**key {
+            Expr::Name(token) => self.field_name(source, *token)?,
+            _ => (None, self.package),
+        };
+        Ok(FieldEntry {
+            at,
+            has_key: true,
+            name,
+            package,
+            value,
+        })
+    }
+
+    /// The name of a key and its package; no name where it is `_`.
+    fn field_name(
+        &mut self,
+        source: &SourceFile,
+        token: Token,
+    ) -> Result<(Option<NameId>, u32), NoMemory> {
+        let (name, package) = self.named_in_package(source, token)?;
+        if name == self.blank() {
+            return Ok((None, package));
+        }
+        Ok((Some(name), package))
+    }
+}

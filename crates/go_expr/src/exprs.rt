@@ -1,0 +1,253 @@
+//! Expressions as they are written. Go specification, "Expressions".
+
+use crate::composites::{see_elements, see_form};
+use crate::literals::literal_of_token;
+use crate::own::Position;
+use crate::scope::Scope;
+use crate::types::{see_signature, see_type};
+use go_ast::Token;
+use go_base::{FuncId, NameId, NoMemory, Pos, TypeId};
+use go_load::SourceFile;
+use go_names::Mentioned;
+use go_syntax::{Expr, ListedExpr};
+use go_tree::{ExprKind, Method, TypedExpr};
+use go_type::{SelectError, SelectionKind, find_selector};
+use std::alloc::Global;
+use typed_rules::{
+    Seen, call, index_expression, parenthesized, selector, slice_expression, type_assertion,
+};
+
+/// What an expression is seen to be. Each row that is broken in it is reported.
+#[cycle(seeing)]
+pub(crate) fn see(
+    alloc: Global,
+    source: &SourceFile,
+    scope: &mut Scope,
+    expr: &Expr,
+) -> Result<Seen, NoMemory> {
+    match expr {
+        Expr::Int(token) | Expr::Rune(token) | Expr::Text(token) => {
+            literal_of_token(alloc, source, scope, *token)
+        }
+        Expr::Name(token) => scope.see_name(source, *token),
+        Expr::Paren { open, inner, .. } => {
+            let inside = see(alloc, source, scope, inner)?;
+            Ok(parenthesized(&scope.ground.types, scope.pos(open.start), inside))
+        }
+        Expr::Function {
+            word,
+            signature,
+            body,
+        } => {
+            let of = see_signature(alloc, source, scope, signature)?;
+            scope.literal_met(*word, body.close, of)
+        }
+        Expr::TypeForm(form) => {
+            let of = see_type(alloc, source, scope, form, Position::Apart)?;
+            Ok(Seen::of_type(scope.type_place(form), of))
+        }
+        Expr::Composite {
+            form,
+            open,
+            elements,
+            ..
+        } => {
+            let (at, literal) = see_form(alloc, source, scope, form, *open)?;
+            see_elements(alloc, source, scope, elements.as_slice(), at, literal)
+        }
+        Expr::Selector { operand, name, .. } => {
+            if let Some(qualified) = scope.see_import(source, operand, *name)? {
+                return Ok(qualified);
+            }
+            let x = see(alloc, source, scope, operand)?;
+            scope.select(source, x, *name)
+        }
+        Expr::Assertion { operand, form, .. } => {
+            let x = see(alloc, source, scope, operand)?;
+            let to = see_type(alloc, source, scope, form, Position::Apart)?;
+            let (at, to_at) = (x.at, scope.type_place(form));
+            let expr = type_assertion(&mut scope.ground, x, to, to_at)?;
+            Ok(Seen::value(at, expr))
+        }
+        Expr::Index { operand, index, .. } => {
+            let x = see(alloc, source, scope, operand)?;
+            let index = see(alloc, source, scope, index)?;
+            let at = x.at;
+            let expr = index_expression(&mut scope.ground, x, index)?;
+            Ok(Seen::value(at, expr))
+        }
+        Expr::Slice {
+            operand,
+            low,
+            high,
+            ..
+        } => {
+            let x = see(alloc, source, scope, operand)?;
+            let low = see_bound(alloc, source, scope, low)?;
+            let high = see_bound(alloc, source, scope, high)?;
+            let at = x.at;
+            let expr = slice_expression(&mut scope.ground, x, low, high, None)?;
+            Ok(Seen::value(at, expr))
+        }
+        Expr::FullSlice {
+            operand,
+            low,
+            high,
+            max,
+            ..
+        } => {
+            let x = see(alloc, source, scope, operand)?;
+            let low = see_bound(alloc, source, scope, low)?;
+            let high = see(alloc, source, scope, high)?;
+            let max = see(alloc, source, scope, max)?;
+            let at = x.at;
+            let expr = slice_expression(&mut scope.ground, x, low, Some(high), Some(max))?;
+            Ok(Seen::value(at, expr))
+        }
+        Expr::Call {
+            callee,
+            open,
+            arguments,
+            ellipsis,
+            ..
+        } => {
+            let callee = see(alloc, source, scope, callee)?;
+            let arguments = see_all(alloc, source, scope, arguments.as_slice())?;
+            scope.call(callee, *open, arguments, *ellipsis)
+        }
+        Expr::Unary { operator, operand } => {
+            let x = see(alloc, source, scope, operand)?;
+            scope.unary(*operator, x)
+        }
+        Expr::Binary {
+            left,
+            operator,
+            right,
+        } => {
+            let left = see(alloc, source, scope, left)?;
+            let right = see(alloc, source, scope, right)?;
+            scope.binary(*operator, left, right)
+        }
+    }
+}
+
+/// A bound of a slice expression, where it is written.
+#[cycle(seeing)]
+fn see_bound(
+    alloc: Global,
+    source: &SourceFile,
+    scope: &mut Scope,
+    bound: &Option<Box<Expr>>,
+) -> Result<Option<Seen>, NoMemory> {
+    match bound {
+        Some(bound) => {
+            let seen = see(alloc, source, scope, bound)?;
+            Ok(Some(seen))
+        }
+        None => Ok(None),
+    }
+}
+
+/// The expressions of a list.
+#[cycle(seeing)]
+pub(crate) fn see_all(
+    alloc: Global,
+    source: &SourceFile,
+    scope: &mut Scope,
+    exprs: &[ListedExpr],
+) -> Result<Vec<Seen>, NoMemory> {
+    let mut all = Vec::new(alloc);
+    for listed in exprs {
+        let seen = see(alloc, source, scope, &listed.expr)?;
+        all.push(seen)?;
+    }
+    Ok(all)
+}
+
+impl Scope {
+    /// `p.name`, where the operand is the name of an import.
+    fn see_import(
+        &mut self,
+        source: &SourceFile,
+        operand: &Expr,
+        name: Token,
+    ) -> Result<Option<Seen>, NoMemory> {
+        let Expr::Name(package) = operand else {
+            return Ok(None);
+        };
+        let Some(import) = self.import_named(source, *package)? else {
+            return Ok(None);
+        };
+        let at = self.pos(package.start);
+        let seen = self.see_qualified(source, at, import, name)?;
+        Ok(Some(seen))
+    }
+
+    /// `x.name`, where `x` is no import.
+    fn select(&mut self, source: &SourceFile, x: Seen, token: Token) -> Result<Seen, NoMemory> {
+        let at = x.at;
+        let name_at = self.pos(token.start);
+        let (name, package) = self.named_in_package(source, token)?;
+        let expr = selector(&mut self.ground, x, name_at, name, package)?;
+        if let Some(expr) = &expr {
+            self.mention_method(name_at, expr)?;
+        }
+        Ok(Seen::value(at, expr))
+    }
+
+    /// Notes that the concrete method is read that a selector selects.
+    fn mention_method(&mut self, at: Pos, expr: &TypedExpr) -> Result<(), NoMemory> {
+        match self.method_of(expr)? {
+            Some(function) => self.mention_of(at, Mentioned::Function(function)),
+            None => Ok(()),
+        }
+    }
+
+    fn method_of(&self, expr: &TypedExpr) -> Result<Option<FuncId>, NoMemory> {
+        match &expr.kind {
+            ExprKind::MethodValue {
+                method: Method::Concrete(function),
+                ..
+            } => Ok(Some(*function)),
+            ExprKind::MethodExpr {
+                receiver,
+                name,
+                package,
+            } => self.method_of_type(*receiver, *name, *package),
+            _ => Ok(None),
+        }
+    }
+
+    fn method_of_type(
+        &self,
+        of: TypeId,
+        name: NameId,
+        package: u32,
+    ) -> Result<Option<FuncId>, NoMemory> {
+        match find_selector(self.alloc, &self.ground.types, of, name, package) {
+            Ok(selection) => match selection.kind {
+                SelectionKind::Method(function) => Ok(Some(function)),
+                _ => Ok(None),
+            },
+            Err(SelectError::OutOfMemory) => Err(NoMemory),
+            Err(_) => Ok(None),
+        }
+    }
+
+    fn call(
+        &mut self,
+        callee: Seen,
+        open: Token,
+        arguments: Vec<Seen>,
+        ellipsis: Option<Token>,
+    ) -> Result<Seen, NoMemory> {
+        let at = callee.at;
+        let parenthesis = self.pos(open.start);
+        let dots = match ellipsis {
+            Some(token) => Some(self.pos(token.start)),
+            None => None,
+        };
+        let expr = call(&mut self.ground, callee, parenthesis, arguments, dots)?;
+        Ok(Seen::value(at, expr))
+    }
+}
