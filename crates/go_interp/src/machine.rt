@@ -13,7 +13,7 @@ use std::alloc::{AllocError, AllocFailed, Global};
 use std::rc::Rc;
 
 /// What a step came to. What an ending is stands in the machine.
-#[derive(Clone, Copy, Debug, PartialEq, Eq)]
+#[derive(Clone, Copy)]
 pub(crate) enum Turn {
     Goes,
     Ends,
@@ -21,7 +21,7 @@ pub(crate) enum Turn {
 }
 
 /// A pair of types: one in an interface, and an interface.
-#[derive(Clone, Copy, Debug, PartialEq, Eq, Hash)]
+#[derive(Clone, Copy, PartialEq, Eq, Hash)]
 pub(crate) struct TypePair {
     pub of: TypeId,
     pub interface: TypeId,

@@ -14,7 +14,7 @@ pub(crate) enum Arg {
 }
 
 /// What a function is to the machine.
-#[derive(Clone, Copy, Debug, PartialEq, Eq)]
+#[derive(Clone, Copy, PartialEq, Eq)]
 pub(crate) enum Role {
     /// Its entry spends a tick and counts as a frame.
     Source,
@@ -58,14 +58,14 @@ pub(crate) struct PlannedEdge {
 }
 
 /// The name of a method, with its package where it is not exported.
-#[derive(Clone, Copy, Debug, PartialEq, Eq, Hash)]
+#[derive(Clone, Copy, PartialEq, Eq, Hash)]
 pub(crate) struct MethodName {
     pub name: NameId,
     pub package: u32,
 }
 
 /// What is sliced.
-#[derive(Clone, Copy, Debug, PartialEq, Eq)]
+#[derive(Clone, Copy, PartialEq, Eq)]
 pub(crate) enum CutForm {
     Slice,
     Text,
@@ -74,7 +74,7 @@ pub(crate) enum CutForm {
 }
 
 /// A conversion that changes the value.
-#[derive(Clone, Copy, Debug, PartialEq, Eq)]
+#[derive(Clone, Copy, PartialEq, Eq)]
 pub(crate) enum ConvertForm {
     Int(IntKind),
     IntToText,
@@ -186,7 +186,7 @@ pub(crate) enum Step {
 }
 
 /// The function that a method of a type is.
-#[derive(Clone, Copy, Debug, PartialEq, Eq, Hash)]
+#[derive(Clone, Copy, PartialEq, Eq, Hash)]
 pub(crate) struct MethodOf {
     pub receiver: TypeId,
     pub method: MethodName,

@@ -91,7 +91,7 @@ impl Planner<'_> {
             None => None,
         };
         Ok(PlannedFunction {
-            role: role(function),
+            role: role_of(function),
             params: small(params)?,
             slots: small(slots)?,
             blocks: self.blocks(function)?,
@@ -291,7 +291,7 @@ fn add_method(all: &mut IndexMap<MethodOf, u32>, line: &MethodLine) -> Result<()
     Ok(())
 }
 
-fn role(function: &Function) -> Role {
+fn role_of(function: &Function) -> Role {
     match function.kind {
         FunctionKind::Source => Role::Source,
         FunctionKind::Init => Role::Init,

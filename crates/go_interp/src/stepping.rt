@@ -215,6 +215,11 @@ impl<'a> Machine<'a> {
             let value = self.phi_value(phi, from)?;
             self.waiting.push(value)?;
         }
+        self.write_phis(phis)
+    }
+
+    /// The last phi gets the last value that was read.
+    fn write_phis(&mut self, phis: &'a [PlannedPhi]) -> Result<(), NoMemory> {
         for phi in phis.iter().rev() {
             match self.waiting.pop() {
                 Some(value) => self.set(phi.to, value),
