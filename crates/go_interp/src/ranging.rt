@@ -5,6 +5,35 @@ use crate::machine::{Machine, Met, Turn};
 use crate::plan::Arg;
 use go_base::{MapId, NoMemory};
 use go_value::{Part, RangeState, Value, decode_rune};
+use std::alloc::Global;
+
+/// The next character of a text that is ranged over, and where it begins. None at the end.
+fn next_rune(state: &mut RangeState) -> Result<Option<(u64, u32)>, NoMemory> {
+    match state {
+        RangeState::Text { bytes, next } => {
+            let at = *next;
+            let text = bytes.as_slice();
+            if at >= text.len() as u64 {
+                return Ok(None);
+            }
+            let (rune, width) = decode_rune(text, at as usize);
+            *next = at.saturating_add(u64::from(width.max(1)));
+            Ok(Some((at, rune)))
+        }
+        RangeState::Map { .. } => Err(lost()),
+    }
+}
+
+/// Takes the entries that a range over a map has not produced yet.
+fn taken_entries(
+    alloc: Global,
+    state: &mut RangeState,
+) -> Result<(Option<MapId>, Vec<u64>), NoMemory> {
+    match state {
+        RangeState::Map { map, left } => Ok((*map, std::mem::replace(left, Vec::new(alloc)))),
+        RangeState::Text { .. } => Err(lost()),
+    }
+}
 
 impl<'a> Machine<'a> {
     pub fn range(&mut self, operand: &Arg, to: u32) -> Turn {
@@ -42,19 +71,16 @@ impl<'a> Machine<'a> {
     }
 
     fn text_turn(&mut self, range: u32) -> Result<Value, Met> {
-        let Some(Value::Iter(state)) = self.current.stack.get_mut(range) else {
-            return Err(Met::Memory);
+        let next = match self.current.stack.get_mut(range) {
+            Some(Value::Iter(state)) => next_rune(state)?,
+            _ => return Err(Met::Memory),
         };
-        let RangeState::Text { bytes, next } = &mut **state else {
-            return Err(Met::Memory);
-        };
-        let at = *next as usize;
-        if at >= bytes.len() {
-            return Ok(self.turn(false, Value::Int(0), Value::Int(0))?);
+        match next {
+            Some((at, rune)) => {
+                Ok(self.turn(true, Value::Int(i128::from(at)), Value::Int(i128::from(rune)))?)
+            }
+            None => Ok(self.turn(false, Value::Int(0), Value::Int(0))?),
         }
-        let (rune, width) = decode_rune(bytes.as_slice(), at);
-        *next = next.saturating_add(u64::from(width.max(1)));
-        Ok(self.turn(true, Value::Int(at as i128), Value::Int(i128::from(rune)))?)
     }
 
     pub fn next_map(&mut self, range: u32, key: &Value, value: &Value, to: u32) -> Turn {
@@ -63,14 +89,10 @@ impl<'a> Machine<'a> {
     }
 
     fn map_turn(&mut self, range: u32, key: &Value, value: &Value) -> Result<Value, Met> {
-        let Some(Value::Iter(state)) = self.current.stack.get_mut(range) else {
-            return Err(Met::Memory);
+        let (map, left) = match self.current.stack.get_mut(range) {
+            Some(Value::Iter(state)) => taken_entries(self.alloc, state)?,
+            _ => return Err(Met::Memory),
         };
-        let RangeState::Map { map, left } = &mut **state else {
-            return Err(Met::Memory);
-        };
-        let map = *map;
-        let left = std::mem::replace(left, Vec::new(self.alloc));
         let (entry, left) = self.chosen_entry(map, left)?;
         self.keep_left(range, left);
         match entry {
