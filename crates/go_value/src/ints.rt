@@ -1,10 +1,11 @@
 //! Integers of each kind. Go specification, "Arithmetic operators", "Integer operators", "Integer overflow" and
 //! "Conversions between numeric types".
 
-ghost use Rattle.std.specs.Prelude.{◌≡◌, ◌^◌, pos, ◌+ℤ◌, ◌-ℤ◌, ◌*ℤ◌, ◌≢◌, int_div};
+ghost use Rattle.std.specs.Prelude.{◌≡◌, ◌^◌, ◌<◌, ◌≤◌, pos, ◌+ℤ◌, ◌-ℤ◌, ◌*ℤ◌, ◌≢◌, int_div};
+ghost use Rattle.std.specs.Int.{int_shr};
 ghost use Rattle.go_type.specs.declared.constants.ConstOp.TheVariants as op;
 ghost use Rattle.go_type.specs.Constants.{value_of};
-ghost use Rattle.go_value.specs.Ints.{bits_of, residue, wrapped, operated};
+ghost use Rattle.go_value.specs.Ints.{bits_of, residue, wrapped, operated, shift_value};
 
 use crate::faults::Fault;
 use go_type::{ConstOp, IntKind};
@@ -22,8 +23,9 @@ fn size_of_kind(kind: IntKind) -> i128
 }
 
 /// The width of a kind.
-fn width(kind: IntKind) -> i128
-    ensures { result ≡ pos (bits_of kind) }
+fn width(kind: IntKind) -> u128
+    ensures same { result ≡ bits_of kind }
+    ensures most { result ≤ 64 }
 {
     match kind.bits {
         8 => 8,
@@ -134,26 +136,40 @@ fn remainder(kind: IntKind, a: i128, b: i128) -> Result<i128, Fault>
 
 /// An integer shifted by a count, in a kind: to the left where `left` says so, and else to the right, which rounds down.
 /// `NegativeShift` exactly where the count is negative.
-pub fn shift_op(kind: IntKind, left: bool, a: i128, count: i128) -> Result<i128, Fault> {
+pub fn shift_op(kind: IntKind, left: bool, a: i128, count: i128) -> Result<i128, Fault>
+    ensures { result ≡ shift_value kind left a count }
+{
     if count < 0 {
         return Err(Fault::NegativeShift);
     }
     if left {
-        Ok(shifted_left(kind, a, count))
+        Ok(shifted_left(kind, a, count.unsigned_abs()))
     } else {
-        Ok(shifted_right(a, count))
+        Ok(shifted_right(a, count.unsigned_abs()))
     }
 }
 
-fn shifted_left(kind: IntKind, a: i128, count: i128) -> i128 {
-    match u32::try_from(count) {
-        Ok(places) if count < width(kind) => convert_int(kind, a.wrapping_shl(places)),
-        _ => 0,
+fn shifted_left(kind: IntKind, a: i128, count: u128) -> i128
+    ensures { result ≡ wrapped kind (a *ℤ pos (2 ^ count)) }
+{
+    if count < width(kind) {
+        shifted_near(kind, a, count as u32)
+    } else {
+        0
     }
 }
 
-fn shifted_right(a: i128, count: i128) -> i128 {
-    let count = count.unsigned_abs();
+/// An integer times 2 to a count below 64, in a kind.
+fn shifted_near(kind: IntKind, a: i128, count: u32) -> i128
+    requires { count < 64 }
+    ensures { result ≡ wrapped kind (a *ℤ pos (2 ^ count)) }
+{
+    convert_int(kind, a.wrapping_shl(count))
+}
+
+fn shifted_right(a: i128, count: u128) -> i128
+    ensures { result ≡ int_shr a count }
+{
     if count < 127 {
         a >> count as u32
     } else {

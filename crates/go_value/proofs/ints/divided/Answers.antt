@@ -1,4 +1,4 @@
-use Rattle.std.proofs.Common.{rules, ◌≡◌, ◌∙◌, ap}
+use Rattle.std.proofs.Common.{rules, ◌∙◌, ap}
 use Rattle.std.specs.Int.RustNames.{FitsSigned, int_div}
 use Rattle.std.specs.Int.{w128, cast_signed, cast_unsigned, int_wrapping_div}
 use Rattle.std.proofs.lemmas.Int.{to_z-of_z}

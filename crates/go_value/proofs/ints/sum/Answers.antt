@@ -1,6 +1,6 @@
-use Rattle.std.proofs.Common.{rules, ◌≡◌, ◌∙◌, ap, ◌+ℤ◌}
+use Rattle.std.proofs.Common.{rules, ◌∙◌, ap, ◌+ℤ◌}
 use Rattle.std.specs.Int.RustNames.{FitsSigned}
-use Rattle.std.specs.Int.{w128, int_wrap, int_wrapping_add}
+use Rattle.std.specs.Int.{w128}
 use Rattle.std.proofs.lemmas.Int.{to_z-of_z, wrapping_add_is}
 use Rattle.go_value.specs.Ints.{wrapped}
 use Rattle.go_value.proofs.Wraps.{wrapped_wrap}
