@@ -3,8 +3,9 @@
 use crate::error::lost;
 use crate::machine::{Machine, Met, Turn};
 use crate::plan::{Arg, BuiltinForm};
-use go_base::NoMemory;
+use go_base::{Bytes, NoMemory};
 use go_value::{SliceValue, Value, push_printed};
+use std::rc::Rc;
 
 impl<'a> Machine<'a> {
     /// A call of a built-in function in an expression or a statement.
@@ -114,10 +115,18 @@ impl<'a> Machine<'a> {
         }
     }
 
-    /// Takes the two values that are on their way.
-    fn two(&mut self) -> Result<(Value, Value), NoMemory> {
-        match (self.waiting.pop(), self.waiting.pop()) {
-            (Some(second), Some(first)) => Ok((first, second)),
+    /// Takes the last value that is on its way, a slice.
+    fn taken_slice(&mut self) -> Result<Rc<SliceValue>, NoMemory> {
+        match self.waiting.pop() {
+            Some(Value::Slice(slice)) => Ok(slice),
+            _ => Err(lost()),
+        }
+    }
+
+    /// Takes the last value that is on its way, a text.
+    fn taken_text(&mut self) -> Result<Rc<Bytes>, NoMemory> {
+        match self.waiting.pop() {
+            Some(Value::Text(text)) => Ok(text),
             _ => Err(lost()),
         }
     }
@@ -131,9 +140,8 @@ impl<'a> Machine<'a> {
     }
 
     fn append_slice(&mut self, leaves: u32) -> Result<Value, Met> {
-        let (Value::Slice(slice), Value::Slice(more)) = self.two()? else {
-            return Err(Met::Memory);
-        };
+        let more = self.taken_slice()?;
+        let slice = self.taken_slice()?;
         let items = self.elements(&more)?;
         let appended = self.store.append(leaves, &slice, items.as_slice())?;
         Ok(Value::slice(self.alloc, appended)?)
@@ -150,9 +158,8 @@ impl<'a> Machine<'a> {
     }
 
     fn append_text(&mut self, leaves: u32) -> Result<Value, Met> {
-        let (Value::Slice(slice), Value::Text(text)) = self.two()? else {
-            return Err(Met::Memory);
-        };
+        let text = self.taken_text()?;
+        let slice = self.taken_slice()?;
         let mut items = Vec::new(self.alloc);
         for byte in text.as_slice() {
             items.push(Value::Int(i128::from(*byte)))?;
@@ -162,17 +169,15 @@ impl<'a> Machine<'a> {
     }
 
     fn copy_slice(&mut self) -> Result<Value, Met> {
-        let (Value::Slice(to), Value::Slice(from)) = self.two()? else {
-            return Err(Met::Memory);
-        };
+        let from = self.taken_slice()?;
+        let to = self.taken_slice()?;
         let count = self.store.copy_items(&to, &from)?;
         Ok(Value::Int(i128::from(count)))
     }
 
     fn copy_text(&mut self) -> Result<Value, Met> {
-        let (Value::Slice(to), Value::Text(text)) = self.two()? else {
-            return Err(Met::Memory);
-        };
+        let text = self.taken_text()?;
+        let to = self.taken_slice()?;
         let count = to.len.min(text.len() as u64);
         let mut index = 0u64;
         for byte in text.as_slice() {
@@ -209,7 +214,10 @@ impl<'a> Machine<'a> {
     }
 
     fn delete(&mut self) -> Result<Option<Value>, Met> {
-        let (Value::Map(map), key) = self.two()? else {
+        let Some(key) = self.waiting.pop() else {
+            return Err(Met::Memory);
+        };
+        let Some(Value::Map(map)) = self.waiting.pop() else {
             return Err(Met::Memory);
         };
         self.store.map_remove(&self.code.types, map, &key)?;

@@ -221,14 +221,19 @@ impl<'a> Machine<'a> {
 
     /// A goroutine that waited goes on with what its operation gave.
     fn wake(&mut self, wake: Wake) -> Result<(), NoMemory> {
-        let place = wake.goroutine.number as usize;
+        let Wake {
+            goroutine,
+            index,
+            result: outcome,
+        } = wake;
+        let place = goroutine.number as usize;
         let Some(step) = self.waits_at(place) else {
             return Err(lost());
         };
-        let given = match wake.result {
+        let given = match outcome {
             WakeResult::SendOnClosed => return self.wake_with_fault(place),
-            WakeResult::Sent => self.woken_value(step, wake.index, None)?,
-            WakeResult::Received(value) => self.woken_value(step, wake.index, value)?,
+            WakeResult::Sent => self.woken_value(step, index, None)?,
+            WakeResult::Received(value) => self.woken_value(step, index, value)?,
         };
         match self.goroutines.get_mut(place) {
             Some(goroutine) => {
