@@ -79,14 +79,7 @@ impl<'a> Machine<'a> {
         }
     }
 
-    pub fn shift(
-        &mut self,
-        left: bool,
-        kind: IntKind,
-        value: &Arg,
-        count: &Arg,
-        to: u32,
-    ) -> Turn {
+    pub fn shift(&mut self, left: bool, kind: IntKind, value: &Arg, count: &Arg, to: u32) -> Turn {
         let Ok((a, count)) = self.ints(value, count) else {
             return Turn::WantsMemory;
         };

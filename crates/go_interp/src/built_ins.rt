@@ -9,7 +9,12 @@ use std::rc::Rc;
 
 impl<'a> Machine<'a> {
     /// A call of a built-in function in an expression or a statement.
-    pub fn call_builtin(&mut self, form: &'a BuiltinForm, args: &'a [Arg], to: Option<u32>) -> Turn {
+    pub fn call_builtin(
+        &mut self,
+        form: &'a BuiltinForm,
+        args: &'a [Arg],
+        to: Option<u32>,
+    ) -> Turn {
         if let (BuiltinForm::Len, [arg], Some(to)) = (form, args, to) {
             return self.len(arg, to);
         }

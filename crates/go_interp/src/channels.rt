@@ -5,7 +5,9 @@ use crate::frames::Goroutine;
 use crate::machine::{Machine, Met, Turn};
 use crate::plan::{Arg, Plan, PlannedCase, Step};
 use go_base::{Ending, GoId, NoMemory};
-use go_sched::{Cases, ChanOp, Point, Received, SchedError, Selected, Sent, Wake, WakeResult, Wakes};
+use go_sched::{
+    Cases, ChanOp, Point, Received, SchedError, Selected, Sent, Wake, WakeResult, Wakes,
+};
 use go_value::{Part, Value};
 
 impl From<SchedError> for Met {
@@ -133,11 +135,13 @@ impl<'a> Machine<'a> {
     #[inline(never)]
     pub fn select(&mut self, blocking: bool, cases: &'a [PlannedCase], to: u32) -> Turn {
         match self.selected(blocking, cases) {
-            Ok(Selected::Case {
-                index,
-                value,
-                wakes,
-            }) => match self.select_value(cases, Some(index), value) {
+            Ok(
+                Selected::Case {
+                    index,
+                    value,
+                    wakes,
+                },
+            ) => match self.select_value(cases, Some(index), value) {
                 Ok(value) => {
                     self.set(to, value);
                     self.completed(wakes)
@@ -207,7 +211,11 @@ impl<'a> Machine<'a> {
         let mut index = 0u32;
         for case in cases {
             if let PlannedCase::Receive { zero, .. } = case {
-                let received = if chosen == Some(index) { value.take() } else { None };
+                let received = if chosen == Some(index) {
+                    value.take()
+                } else {
+                    None
+                };
                 let received = match received {
                     Some(received) => received,
                     None => zero.copy(self.alloc)?,

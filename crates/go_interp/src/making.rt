@@ -5,9 +5,9 @@ use crate::machine::{Machine, Met, Turn};
 use crate::plan::{Arg, ConvertForm, CutForm, Step};
 use go_base::{ChanId, FuncId, MapId, NoMemory, TypeId};
 use go_value::{
-    Address, BoundTarget, Fault, FuncValue, MAX_SLICE_LEAVES, Part, SliceValue, Value,
-    array_slice, assertion_fault, bytes_of_text, convert_int, runes_of_text, slice_of,
-    text_of_bytes, text_of_int, text_of_runes, text_slice, to_interface,
+    Address, BoundTarget, Fault, FuncValue, MAX_SLICE_LEAVES, Part, SliceValue, Value, array_slice,
+    assertion_fault, bytes_of_text, convert_int, runes_of_text, slice_of, text_of_bytes,
+    text_of_int, text_of_runes, text_slice, to_interface,
 };
 
 impl<'a> Machine<'a> {
@@ -203,7 +203,9 @@ impl<'a> Machine<'a> {
                 let text = text_of_runes(self.alloc, &self.store, &slice)?;
                 Ok(Value::text(self.alloc, text)?)
             }
-            ConvertForm::TextToBytes | ConvertForm::TextToRunes => self.text_to_slice(form, operand),
+            ConvertForm::TextToBytes | ConvertForm::TextToRunes => self.text_to_slice(
+                form, operand,
+            ),
         }
     }
 

@@ -81,11 +81,7 @@ fn plan_value(
         }),
         Op::Index { operand, index } => planner.index(function, operand, index, to),
         Op::IndexAddress { operand, index } => planner.index_address(function, operand, index, to),
-        Op::Lookup {
-            map,
-            key,
-            comma_ok,
-        } => planner.lookup(function, map, key, *comma_ok, to),
+        Op::Lookup { map, key, comma_ok } => planner.lookup(function, map, key, *comma_ok, to),
         Op::Slice { .. } => planner.slice(function, op, to),
         Op::Convert { to: of, operand } => planner.convert(function, *of, operand, to),
         Op::ChangeType { operand, .. } | Op::ChangeInterface { operand, .. } => Ok(Step::Keep {
@@ -345,7 +341,10 @@ impl Planner<'_> {
                 let variables = self.code.variables.as_slice();
                 variables.get(variable.number as usize)?.of
             }
-            _ => match self.types().underlying_term(self.type_of(function, operand)?) {
+            _ => match self
+                .types()
+                .underlying_term(self.type_of(function, operand)?)
+            {
                 Some(TypeTerm::Pointer(base)) => *base,
                 _ => return None,
             },
@@ -609,11 +608,7 @@ impl Planner<'_> {
         })
     }
 
-    fn select_case(
-        &self,
-        function: &Function,
-        case: &SelectCase,
-    ) -> Result<PlannedCase, NoMemory> {
+    fn select_case(&self, function: &Function, case: &SelectCase) -> Result<PlannedCase, NoMemory> {
         match case {
             SelectCase::Send { channel, value } => Ok(PlannedCase::Send {
                 channel: self.arg(function, channel)?,
@@ -720,11 +715,7 @@ impl Planner<'_> {
 
     /// Two operands of which the second is a slice of the elements of the first, or a text for bytes, are that slice's
     /// elements; all others are items.
-    fn append(
-        &self,
-        function: &Function,
-        arguments: &[Operand],
-    ) -> Result<BuiltinForm, NoMemory> {
+    fn append(&self, function: &Function, arguments: &[Operand]) -> Result<BuiltinForm, NoMemory> {
         let Some(first) = arguments.first() else {
             return Err(lost());
         };

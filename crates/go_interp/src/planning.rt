@@ -65,12 +65,7 @@ impl Planner<'_> {
 
     /// How many leaves a type has.
     pub(crate) fn leaves(&self, of: TypeId) -> Result<u32, NoMemory> {
-        small(leaves_up_to(
-            self.types(),
-            of,
-            16_777_217,
-            go_type::MAX_NESTING,
-        ))
+        small(leaves_up_to(self.types(), of, 16_777_217, go_type::MAX_NESTING))
     }
 
     fn functions(&self) -> Result<Vec<PlannedFunction>, NoMemory> {
@@ -175,10 +170,7 @@ impl Planner<'_> {
 
     fn function_arg(&self, function: FuncId) -> Result<Arg, NoMemory> {
         let captured = Vec::new(self.alloc);
-        Ok(Arg::Held(Value::function(
-            self.alloc,
-            FuncValue::Closure { function, captured },
-        )?))
+        Ok(Arg::Held(Value::function(self.alloc, FuncValue::Closure { function, captured })?))
     }
 
     fn constant(&self, value: &ConstValue, of: TypeId) -> Result<Value, NoMemory> {

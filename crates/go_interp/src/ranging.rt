@@ -77,7 +77,11 @@ impl<'a> Machine<'a> {
         };
         match next {
             Some((at, rune)) => {
-                Ok(self.turn(true, Value::Int(i128::from(at)), Value::Int(i128::from(rune)))?)
+                Ok(self.turn(
+                    true,
+                    Value::Int(i128::from(at)),
+                    Value::Int(i128::from(rune)),
+                )?)
             }
             None => Ok(self.turn(false, Value::Int(0), Value::Int(0))?),
         }

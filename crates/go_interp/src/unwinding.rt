@@ -32,10 +32,7 @@ impl<'a> Machine<'a> {
                 let dynamic = Rc::new(self.alloc, Dynamic { of, value })?;
                 Ok(Thrown::Value(Value::Interface(dynamic)))
             }
-            None => Ok(Thrown::Fault(self.shown(
-                b"runtime error: ",
-                text.as_slice(),
-            )?)),
+            None => Ok(Thrown::Fault(self.shown(b"runtime error: ", text.as_slice())?)),
         }
     }
 
