@@ -184,7 +184,8 @@ impl<'a> Builder<'a> {
             Some(of) => Some(self.add_register(of)?),
             None => None,
         };
-        let Some(block) = self.blocks.get_mut(self.current) else {
+        let current = self.current;
+        let Some(block) = self.blocks.get_mut(current) else {
             return Err(lost());
         };
         block.instrs.push(Instr { op, register, at })?;
@@ -206,15 +207,13 @@ impl<'a> Builder<'a> {
         let Some(to) = to else {
             return Ok(());
         };
-        match self.blocks.get_mut(to.number as usize) {
-            Some(block) => {
-                if block.preds.as_slice().last().copied() == Some(from) {
-                    return Ok(());
-                }
-                block.preds.push(from)
-            }
-            None => Err(lost()),
+        let Some(block) = self.blocks.get_mut(to.number as usize) else {
+            return Err(lost());
+        };
+        if is_last(block.preds.as_slice(), from) {
+            return Ok(());
         }
+        block.preds.push(from)
     }
 
     /// An instruction that gives a register.
@@ -350,6 +349,14 @@ impl<'a> Builder<'a> {
         Ok(FuncId {
             number: count.saturating_add(place),
         })
+    }
+}
+
+/// Whether a block is the last of several.
+fn is_last(blocks: &[BlockId], block: BlockId) -> bool {
+    match blocks.last() {
+        Some(last) => *last == block,
+        None => false,
     }
 }
 

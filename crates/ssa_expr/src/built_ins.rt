@@ -31,7 +31,7 @@ pub(crate) fn lower_builtin(
         Builtin::New => new(builder, *form, expr),
         Builtin::Append => append(builder, values, arguments.as_slice(), *spread, expr),
         Builtin::Len | Builtin::Cap => length(builder, *builtin, values, arguments.as_slice(), expr),
-        _ => call(builder, *builtin, values, expr.of, expr.at),
+        _ => value_of(builder, *builtin, values, expr.of, expr.at),
     }
 }
 
@@ -46,7 +46,7 @@ pub(crate) fn builtin_call(
     Ok(Call::Builtin { builtin, arguments })
 }
 
-fn call(
+fn value_of(
     builder: &mut Builder<'_>,
     builtin: Builtin,
     values: Vec<Operand>,
@@ -75,18 +75,21 @@ fn make(
     };
     let op = match builder.under(of)? {
         TypeTerm::Map { .. } => Op::MakeMap(of),
-        TypeTerm::Chan { .. } => {
-            let size = values.into_iter().next();
-            let size = match size {
-                Some(size) => size,
-                None => integer(0, int_type()),
-            };
-            Op::MakeChan { of, size }
-        }
+        TypeTerm::Chan { .. } => make_chan(of, values),
         TypeTerm::Slice(_) => make_slice(builder, of, values)?,
         _ => return Err(lost()),
     };
     builder.value(op, of, at)
+}
+
+/// `make` of a channel. Without a size that is zero.
+fn make_chan(of: TypeId, values: Vec<Operand>) -> Op {
+    let mut values = values.into_iter();
+    let size = match values.next() {
+        Some(size) => size,
+        None => integer(0, int_type()),
+    };
+    Op::MakeChan { of, size }
 }
 
 /// `make` of a slice. Without a capacity that is the length.
@@ -122,20 +125,23 @@ fn append(
     expr: &TypedExpr,
 ) -> Result<Operand, NoMemory> {
     let [slice, item] = arguments else {
-        return call(builder, Builtin::Append, values, expr.of, expr.at);
+        return value_of(builder, Builtin::Append, values, expr.of, expr.at);
     };
     if spread || !reads_as_spread(builder, slice.of, item.of)? {
-        return call(builder, Builtin::Append, values, expr.of, expr.at);
+        return value_of(builder, Builtin::Append, values, expr.of, expr.at);
     }
     let mut values = values.into_iter();
-    let (Some(slice_value), Some(item_value)) = (values.next(), values.next()) else {
+    let Some(slice_value) = values.next() else {
+        return Err(lost());
+    };
+    let Some(item_value) = values.next() else {
         return Err(lost());
     };
     let packed = packed(builder, slice.of, item_value, item.of, expr.at)?;
     let mut both = Vec::new(builder.allocator());
     both.push(slice_value)?;
     both.push(packed)?;
-    call(builder, Builtin::Append, both, expr.of, expr.at)
+    value_of(builder, Builtin::Append, both, expr.of, expr.at)
 }
 
 /// Whether an item of a type would read as a slice of the elements of another.
@@ -189,7 +195,7 @@ fn length(
     };
     match array_length(builder, argument.of) {
         Some(len) => Ok(integer(i128::from(len), expr.of)),
-        None => call(builder, builtin, values, expr.of, expr.at),
+        None => value_of(builder, builtin, values, expr.of, expr.at),
     }
 }
 

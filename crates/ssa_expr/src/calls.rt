@@ -1,6 +1,6 @@
 //! Calls and lists of values. Go specification, "Calls".
 
-use crate::builder::{Builder, Parts};
+use crate::builder::{Builder, Parts, zero};
 use crate::built_ins::builtin_call;
 use crate::error::lost;
 use crate::exprs::{literal, lower_expr};
@@ -71,9 +71,9 @@ pub fn lower_values(
         Values::Each(exprs) => lower_list(builder, exprs.as_slice()),
         Values::Spread { tuple, parts } => {
             let tuple = lower_expr(builder, tuple)?;
-            let outer = std::mem::replace(&mut builder.parts, Parts::Tuple(tuple));
+            let outer = builder.set_parts(Parts::Tuple(tuple));
             let values = lower_list(builder, parts.as_slice())?;
-            builder.parts = outer;
+            builder.set_parts(outer);
             Ok(values)
         }
     }
@@ -170,7 +170,7 @@ fn make_call(
     let register = register_type(builder, of);
     match builder.emit(Op::Call(call), register, at)? {
         Some(operand) => Ok(operand),
-        None => Ok(crate::builder::zero(of)),
+        None => Ok(zero(of)),
     }
 }
 

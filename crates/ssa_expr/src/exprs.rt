@@ -6,7 +6,7 @@ use crate::calls::lower_call;
 use crate::composites::{composite_address, composite_value};
 use crate::error::lost;
 use crate::places::{address, read_place};
-use go_base::{Bytes, FuncId, NameId, NoMemory, Pos, TypeId};
+use go_base::{BlockId, Bytes, FuncId, NameId, NoMemory, Pos, TypeId};
 use go_tree::{ExprKind, IndexBase, Method, TypedExpr};
 use go_type::{Basic, BinaryOp, CompareOp, Const, SelectionKind, TypeTerm, UnaryOp, basic, int_kind};
 use ssa_ir::{ConstValue, Infix, Op, Operand, Operands, PhiEdge, PhiEdges, WrapNeed};
@@ -16,78 +16,73 @@ use std::alloc::Global;
 #[cycle(lower)]
 pub fn lower_expr(builder: &mut Builder<'_>, expr: &TypedExpr) -> Result<Operand, NoMemory> {
     match &expr.kind {
+        ExprKind::ConstOf(_)
+        | ExprKind::NilOf
+        | ExprKind::VarOf(_)
+        | ExprKind::FunctionOf(_)
+        | ExprKind::LiteralOf(_)
+        | ExprKind::MethodExpr { .. }
+        | ExprKind::PartOf(_) => lower_leaf(builder, expr),
+        ExprKind::MethodValue { .. }
+        | ExprKind::UnaryOf { .. }
+        | ExprKind::Receive { .. }
+        | ExprKind::ConvertTo(_)
+        | ExprKind::ToInterface(_)
+        | ExprKind::AssertTo { .. } => lower_unary(builder, expr),
+        ExprKind::BinaryOf { .. }
+        | ExprKind::CompareOf { .. }
+        | ExprKind::AndAlso { .. }
+        | ExprKind::OrElse { .. }
+        | ExprKind::MapIndex { .. }
+        | ExprKind::IndexOf {
+            base: IndexBase::Text,
+            ..
+        } => lower_binary(builder, expr),
+        ExprKind::FieldOf { .. } | ExprKind::Deref(_) | ExprKind::IndexOf { .. } => {
+            read_place(builder, expr)
+        }
+        ExprKind::SliceOf { .. } => lower_slice(builder, expr),
+        ExprKind::AddressOf(place) => address_of(builder, place, expr.of),
+        ExprKind::CallOf { .. } => lower_call(builder, expr),
+        ExprKind::BuiltinOf { .. } => lower_builtin(builder, expr),
+        ExprKind::CompositeOf(elements) => composite_value(builder, elements, expr.of, expr.at),
+    }
+}
+
+/// An expression without operands.
+fn lower_leaf(builder: &mut Builder<'_>, expr: &TypedExpr) -> Result<Operand, NoMemory> {
+    match &expr.kind {
         ExprKind::ConstOf(value) => constant(builder.allocator(), value, expr.of),
         ExprKind::NilOf => Ok(nil(expr.of)),
         ExprKind::VarOf(var) => builder.read_var(*var, expr.at),
         ExprKind::FunctionOf(function) => Ok(Operand::Function(*function)),
         ExprKind::LiteralOf(function) => literal(builder, *function, expr.of, expr.at),
-        ExprKind::MethodValue { receiver, method } => {
-            let operand = lower_expr(builder, receiver)?;
-            bound_method(builder, operand, receiver.of, *method, expr)
-        }
         ExprKind::MethodExpr {
             receiver,
             name,
             package,
         } => method_expression(builder, *receiver, *name, *package),
-        ExprKind::FieldOf { .. } | ExprKind::Deref(_) => read_place(builder, expr),
-        ExprKind::IndexOf {
-            base: IndexBase::Text,
-            operand,
-            index,
-        } => {
-            let operand = lower_expr(builder, operand)?;
-            let index = lower_expr(builder, index)?;
-            builder.value(Op::Index { operand, index }, expr.of, expr.at)
+        ExprKind::PartOf(part) => lower_part(builder, *part, expr.of, expr.at),
+        _ => Err(lost()),
+    }
+}
+
+/// An expression of one operand.
+#[cycle(lower)]
+fn lower_unary(builder: &mut Builder<'_>, expr: &TypedExpr) -> Result<Operand, NoMemory> {
+    match &expr.kind {
+        ExprKind::MethodValue { receiver, method } => {
+            let operand = lower_expr(builder, receiver)?;
+            bound_method(builder, operand, receiver.of, *method, expr)
         }
-        ExprKind::IndexOf { .. } => read_place(builder, expr),
-        ExprKind::MapIndex {
-            map,
-            key,
-            comma_ok,
-        } => {
-            let map = lower_expr(builder, map)?;
-            let key = lower_expr(builder, key)?;
-            let comma_ok = *comma_ok;
-            builder.value(Op::Lookup { map, key, comma_ok }, expr.of, expr.at)
-        }
-        ExprKind::SliceOf {
-            operand,
-            low,
-            high,
-            max,
-            ..
-        } => {
-            let operand = lower_expr(builder, operand)?;
-            let low = lower_bound(builder, low)?;
-            let high = lower_bound(builder, high)?;
-            let max = lower_bound(builder, max)?;
-            slice(builder, operand, low, high, max, expr)
-        }
-        ExprKind::AddressOf(place) => address_of(builder, place, expr.of),
         ExprKind::UnaryOf { op, operand } => {
             let operand = lower_expr(builder, operand)?;
             unary(builder, *op, operand, expr)
         }
-        ExprKind::BinaryOf { op, left, right } => {
-            let left = lower_expr(builder, left)?;
-            let right = lower_expr(builder, right)?;
-            binary(builder, *op, left, right, expr)
-        }
-        ExprKind::CompareOf { op, left, right } => {
-            let left = lower_expr(builder, left)?;
-            let right = lower_expr(builder, right)?;
-            compare(builder, *op, left, right, expr)
-        }
-        ExprKind::AndAlso { left, right } => lower_logic(builder, true, left, right, expr),
-        ExprKind::OrElse { left, right } => lower_logic(builder, false, left, right, expr),
         ExprKind::Receive { channel, comma_ok } => {
             let channel = lower_expr(builder, channel)?;
-            let comma_ok = *comma_ok;
-            builder.value(Op::Receive { channel, comma_ok }, expr.of, expr.at)
+            receive(builder, channel, *comma_ok, expr)
         }
-        ExprKind::CallOf { .. } => lower_call(builder, expr),
-        ExprKind::BuiltinOf { .. } => lower_builtin(builder, expr),
         ExprKind::ConvertTo(operand) => {
             let from = operand.of;
             let operand = lower_expr(builder, operand)?;
@@ -106,9 +101,67 @@ pub fn lower_expr(builder: &mut Builder<'_>, expr: &TypedExpr) -> Result<Operand
             let operand = lower_expr(builder, operand)?;
             assert(builder, operand, *to, *comma_ok, expr)
         }
-        ExprKind::CompositeOf(elements) => composite_value(builder, elements, expr.of, expr.at),
-        ExprKind::PartOf(part) => lower_part(builder, *part, expr.of, expr.at),
+        _ => Err(lost()),
     }
+}
+
+/// An expression of two operands, the left one first.
+#[cycle(lower)]
+fn lower_binary(builder: &mut Builder<'_>, expr: &TypedExpr) -> Result<Operand, NoMemory> {
+    match &expr.kind {
+        ExprKind::BinaryOf { op, left, right } => {
+            let left = lower_expr(builder, left)?;
+            let right = lower_expr(builder, right)?;
+            binary(builder, *op, left, right, expr)
+        }
+        ExprKind::CompareOf { op, left, right } => {
+            let left = lower_expr(builder, left)?;
+            let right = lower_expr(builder, right)?;
+            compare(builder, *op, left, right, expr)
+        }
+        ExprKind::AndAlso { left, right } => {
+            let test = lower_expr(builder, left)?;
+            lower_right(builder, true, test, right, expr.of, expr.at)
+        }
+        ExprKind::OrElse { left, right } => {
+            let test = lower_expr(builder, left)?;
+            lower_right(builder, false, test, right, expr.of, expr.at)
+        }
+        ExprKind::MapIndex {
+            map,
+            key,
+            comma_ok,
+        } => {
+            let map = lower_expr(builder, map)?;
+            let key = lower_expr(builder, key)?;
+            lookup(builder, map, key, *comma_ok, expr)
+        }
+        ExprKind::IndexOf { operand, index, .. } => {
+            let operand = lower_expr(builder, operand)?;
+            let index = lower_expr(builder, index)?;
+            builder.value(Op::Index { operand, index }, expr.of, expr.at)
+        }
+        _ => Err(lost()),
+    }
+}
+
+#[cycle(lower)]
+fn lower_slice(builder: &mut Builder<'_>, expr: &TypedExpr) -> Result<Operand, NoMemory> {
+    let ExprKind::SliceOf {
+        operand,
+        low,
+        high,
+        max,
+        ..
+    } = &expr.kind
+    else {
+        return Err(lost());
+    };
+    let operand = lower_expr(builder, operand)?;
+    let low = lower_bound(builder, low)?;
+    let high = lower_bound(builder, high)?;
+    let max = lower_bound(builder, max)?;
+    slice(builder, operand, low, high, max, expr)
 }
 
 #[cycle(lower)]
@@ -143,17 +196,43 @@ fn address_of(
     }
 }
 
-/// `&&` and `||`: the right side is evaluated where the left one does not decide.
+/// `&&` and `||`, the left side evaluated: the right side is evaluated where that does not decide.
 #[cycle(lower)]
-fn lower_logic(
+fn lower_right(
     builder: &mut Builder<'_>,
     both: bool,
-    left: &TypedExpr,
+    test: Operand,
     right: &TypedExpr,
-    expr: &TypedExpr,
+    of: TypeId,
+    at: Pos,
 ) -> Result<Operand, NoMemory> {
-    let test = lower_expr(builder, left)?;
     let from = builder.current();
+    let join = branch_right(builder, both, test, at)?;
+    let value = lower_expr(builder, right)?;
+    let end = builder.current();
+    builder.jump(join, at)?;
+    builder.enter(join);
+    builder.seal(join)?;
+    let decided = truth(!both, of);
+    if is_truth(&value, !both) {
+        return Ok(decided);
+    }
+    let mut edges = PhiEdges::new(builder.allocator());
+    edges.push(PhiEdge {
+        from,
+        value: decided,
+    })?;
+    edges.push(PhiEdge { from: end, value })?;
+    builder.value(Op::Phi(edges), of, at)
+}
+
+/// The builder then stands where the right side is evaluated. The answer is the block behind it.
+fn branch_right(
+    builder: &mut Builder<'_>,
+    both: bool,
+    test: Operand,
+    at: Pos,
+) -> Result<BlockId, NoMemory> {
     let right_block = builder.add_block()?;
     let join = builder.add_block()?;
     let (then_to, else_to) = if both {
@@ -167,26 +246,11 @@ fn lower_logic(
             then_to,
             else_to,
         },
-        expr.at,
+        at,
     )?;
     builder.enter(right_block);
     builder.seal(right_block)?;
-    let value = lower_expr(builder, right)?;
-    let end = builder.current();
-    builder.jump(join, expr.at)?;
-    builder.enter(join);
-    builder.seal(join)?;
-    let decided = truth(!both, expr.of);
-    if is_truth(&value, !both) {
-        return Ok(decided);
-    }
-    let mut edges = PhiEdges::new(builder.allocator());
-    edges.push(PhiEdge {
-        from,
-        value: decided,
-    })?;
-    edges.push(PhiEdge { from: end, value })?;
-    builder.value(Op::Phi(edges), expr.of, expr.at)
+    Ok(join)
 }
 
 /// Whether an operand is the constant of a truth.
@@ -339,6 +403,25 @@ fn unary(
     builder.value(Op::Unary { op, operand }, expr.of, expr.at)
 }
 
+fn receive(
+    builder: &mut Builder<'_>,
+    channel: Operand,
+    comma_ok: bool,
+    expr: &TypedExpr,
+) -> Result<Operand, NoMemory> {
+    builder.value(Op::Receive { channel, comma_ok }, expr.of, expr.at)
+}
+
+fn lookup(
+    builder: &mut Builder<'_>,
+    map: Operand,
+    key: Operand,
+    comma_ok: bool,
+    expr: &TypedExpr,
+) -> Result<Operand, NoMemory> {
+    builder.value(Op::Lookup { map, key, comma_ok }, expr.of, expr.at)
+}
+
 fn binary(
     builder: &mut Builder<'_>,
     op: BinaryOp,
@@ -382,10 +465,15 @@ fn changes_value(builder: &Builder<'_>, from: TypeId, to: TypeId) -> Result<bool
     if int_kind(builder.types(), from).is_some() {
         return Ok(true);
     }
-    let text = TypeTerm::Basic(Basic::Text);
-    let (from, to) = (builder.under(from)?, builder.under(to)?);
+    let from = builder.under(from)?;
+    let to = builder.under(to)?;
     let slices = matches!(from, TypeTerm::Slice(_)) || matches!(to, TypeTerm::Slice(_));
-    Ok(slices && (*from == text || *to == text))
+    let texts = is_text(from) || is_text(to);
+    Ok(slices && texts)
+}
+
+fn is_text(term: &TypeTerm) -> bool {
+    matches!(term, TypeTerm::Basic(Basic::Text))
 }
 
 fn to_interface(

@@ -2,7 +2,6 @@
 //! statements".
 
 use crate::builder::{Builder, integer};
-
 use crate::error::lost;
 use crate::exprs::{int_type, lower_expr};
 use go_base::{NoMemory, Pos, TypeId, VarId};
@@ -173,7 +172,6 @@ pub(crate) fn index_address(
 }
 
 /// Evaluates the operands of a left side.
-#[cycle(lower_place)]
 pub fn lower_place(
     builder: &mut Builder<'_>,
     place: &TypedExpr,
@@ -241,17 +239,34 @@ pub fn store_place(
     value: Operand,
     at: Pos,
 ) -> Result<(), NoMemory> {
-    if let Root::Entry { map, key } = place.root {
-        return builder.effect(Op::Update { map, key, value }, at);
-    }
-    if place.steps.is_empty() {
-        if let Root::Variable(var) = place.root {
-            return builder.write_var(var, value, at);
-        }
+    if let Some(var) = whole_variable(&place) {
+        return builder.write_var(var, value, at);
     }
     match place_address(builder, &place)? {
         Some(address) => builder.effect(Op::Store { at: address, value }, at),
-        None => Err(lost()),
+        None => store_entry(builder, place, value, at),
+    }
+}
+
+/// The variable that a left side is. None where it is another place.
+fn whole_variable(place: &PlaceOperand) -> Option<VarId> {
+    match &place.root {
+        Root::Variable(var) if place.steps.is_empty() => Some(*var),
+        _ => None,
+    }
+}
+
+/// Assigns a value to an entry of a map.
+fn store_entry(
+    builder: &mut Builder<'_>,
+    place: PlaceOperand,
+    value: Operand,
+    at: Pos,
+) -> Result<(), NoMemory> {
+    let PlaceOperand { root, .. } = place;
+    match root {
+        Root::Entry { map, key } => builder.effect(Op::Update { map, key, value }, at),
+        _ => Err(lost()),
     }
 }
 
