@@ -4,10 +4,10 @@ use crate::error::lost;
 use crate::flow::Flow;
 use crate::functions::{free_types, lower_body, lower_package_init, param_types, signature_of};
 use crate::made::push_made;
-use crate::methods::method_lines;
+use crate::methods::{Line, finished, is_blank, method_lines};
 use crate::ordering::{function_order, sorted_needs, wrapper_place};
 use crate::renumbering::{Numbers, renumber};
-use go_base::{FuncId, NoMemory};
+use go_base::{FuncId, NoMemory, TypeId};
 use go_text::Labels;
 use go_tree::{FunctionDecl, FunctionForm, Program};
 use go_type::{TypeIds, TypeTerm, Types};
@@ -40,7 +40,7 @@ struct Workshop<'a> {
     made: Vec<Made>,
     needs: Vec<WrapNeed>,
     /// The unnamed struct types, and pointers to such, of values that are put into interfaces.
-    dynamic: IndexSet<go_base::TypeId>,
+    dynamic: IndexSet<TypeId>,
 }
 
 /// The code of a program.
@@ -119,33 +119,32 @@ impl<'a> Workshop<'a> {
             &types,
             &dynamic,
         )?;
-        let mut promoted = Vec::new(workshop.alloc);
-        for line in lines.as_slice() {
-            let need = match line.need {
-                Some(need) => Some(workshop.need(need)?),
-                None => None,
-            };
-            promoted.push(need)?;
-        }
+        let promoted = workshop.promoted(lines.as_slice())?;
         let wrappers = workshop.wrappers(&mut types)?;
         workshop.assemble(types, lines, promoted, wrappers)
+    }
+
+    /// For each line the number of its need among all.
+    fn promoted(&mut self, lines: &[Line]) -> Result<Vec<Option<u64>>, NoMemory> {
+        let mut promoted = Vec::new(self.alloc);
+        for line in lines {
+            promoted.push(self.need_of_line(line)?)?;
+        }
+        Ok(promoted)
+    }
+
+    fn need_of_line(&mut self, line: &Line) -> Result<Option<u64>, NoMemory> {
+        match line.need {
+            Some(need) => Ok(Some(self.need(need)?)),
+            None => Ok(None),
+        }
     }
 
     /// The wrappers, by the number of their need.
     fn wrappers(&self, types: &mut Types) -> Result<Vec<Function>, NoMemory> {
         let mut wrappers = Vec::new(self.alloc);
-        for place in 0..self.needs.len() {
-            let Some(need) = self.needs.get(place).copied() else {
-                return Err(lost());
-            };
-            let function = wrapper(
-                self.alloc,
-                self.program,
-                &self.labels,
-                types,
-                &need,
-            )?;
-            wrappers.push(function)?;
+        for need in self.needs.as_slice() {
+            wrappers.push(wrapper(self.alloc, self.program, &self.labels, types, need)?)?;
         }
         Ok(wrappers)
     }
@@ -154,7 +153,7 @@ impl<'a> Workshop<'a> {
     fn assemble(
         self,
         types: Types,
-        lines: Vec<crate::methods::Line>,
+        lines: Vec<Line>,
         promoted: Vec<Option<u64>>,
         wrappers: Vec<Function>,
     ) -> Result<Code, NoMemory> {
@@ -172,12 +171,9 @@ impl<'a> Workshop<'a> {
         let order = sorted_needs(alloc, wrappers.as_slice())?;
         let numbers = numbers_of(alloc, program, made.as_slice(), order.as_slice())?;
         let mut functions = Functions::new(alloc);
-        for one in made {
-            let Made { function, needs, .. } = one;
-            functions.push(renumber(alloc, function, &numbers, needs.as_slice())?)?;
-        }
+        push_functions(alloc, &mut functions, made, &numbers)?;
         push_wrappers(alloc, &mut functions, wrappers, order.as_slice(), &numbers)?;
-        let methods = crate::methods::finished(alloc, lines, promoted, &numbers)?;
+        let methods = finished(alloc, lines, promoted, &numbers)?;
         Ok(Code {
             types,
             names: program.names.copy(alloc)?,
@@ -254,10 +250,26 @@ fn numbers_of(
     order: &[u64],
 ) -> Result<Numbers, NoMemory> {
     let count = program.functions.as_slice().len();
-    let mut functions = Vec::new(alloc);
+    let functions = function_numbers(alloc, count, made)?;
+    let wrappers = wrapper_numbers(alloc, made.len() as u64, order)?;
+    Ok(Numbers {
+        functions,
+        wrappers,
+    })
+}
+
+/// So many zeros.
+fn zeros(alloc: Global, count: usize) -> Result<Vec<u64>, NoMemory> {
+    let mut numbers = Vec::new(alloc);
     for _ in 0..count {
-        functions.push(0u64)?;
+        numbers.push(0u64)?;
     }
+    Ok(numbers)
+}
+
+/// For each function of the program its place among those made.
+fn function_numbers(alloc: Global, count: usize, made: &[Made]) -> Result<Vec<u64>, NoMemory> {
+    let mut functions = zeros(alloc, count)?;
     let mut next = 0u64;
     for one in made {
         if let Some(number) = functions.get_mut(one.number as usize) {
@@ -265,15 +277,32 @@ fn numbers_of(
         }
         next = next.saturating_add(1);
     }
+    Ok(functions)
+}
+
+/// The numbers of the wrappers, from a first one on.
+fn wrapper_numbers(alloc: Global, first: u64, order: &[u64]) -> Result<Vec<u64>, NoMemory> {
     let mut wrappers = Vec::new(alloc);
     for need in 0..order.len() {
         let place = wrapper_place(order, need as u64);
-        wrappers.push(next.saturating_add(place))?;
+        wrappers.push(first.saturating_add(place))?;
     }
-    Ok(Numbers {
-        functions,
-        wrappers,
-    })
+    Ok(wrappers)
+}
+
+fn push_functions(
+    alloc: Global,
+    functions: &mut Functions,
+    made: Vec<Made>,
+    numbers: &Numbers,
+) -> Result<(), NoMemory> {
+    for one in made {
+        let Made {
+            function, needs, ..
+        } = one;
+        functions.push(renumber(alloc, function, numbers, needs.as_slice())?)?;
+    }
+    Ok(())
 }
 
 fn push_wrappers(
@@ -283,21 +312,33 @@ fn push_wrappers(
     order: &[u64],
     numbers: &Numbers,
 ) -> Result<(), NoMemory> {
-    let mut left = Vec::new(alloc);
-    for function in wrappers {
-        left.push(Some(function))?;
-    }
+    let mut left = all_there(alloc, wrappers)?;
     for need in order {
-        let taken = match left.get_mut(*need as usize) {
-            Some(slot) => slot.take(),
-            None => None,
-        };
-        match taken {
-            Some(function) => functions.push(renumber(alloc, function, numbers, &[])?)?,
-            None => return Err(lost()),
-        }
+        let function = taken(&mut left, *need)?;
+        functions.push(renumber(alloc, function, numbers, &[])?)?;
     }
     Ok(())
+}
+
+/// Functions to be taken one by one.
+fn all_there(alloc: Global, functions: Vec<Function>) -> Result<Vec<Option<Function>>, NoMemory> {
+    let mut left = Vec::new(alloc);
+    for function in functions {
+        left.push(Some(function))?;
+    }
+    Ok(left)
+}
+
+/// The function of a number, which then is absent.
+fn taken(left: &mut Vec<Option<Function>>, number: u64) -> Result<Function, NoMemory> {
+    let taken = match left.get_mut(number as usize) {
+        Some(slot) => slot.take(),
+        None => None,
+    };
+    match taken {
+        Some(function) => Ok(function),
+        None => Err(lost()),
+    }
 }
 
 /// The declared types but those named `_`.
@@ -305,7 +346,7 @@ fn declared(alloc: Global, program: &Program) -> Result<TypeIds, NoMemory> {
     let blank = program.names.find("_");
     let mut ids = TypeIds::new(alloc);
     for one in program.declared.as_slice() {
-        if !crate::methods::is_blank(program, one.id, blank) {
+        if !is_blank(program, one.id, blank) {
             ids.push(one.id)?;
         }
     }

@@ -5,7 +5,7 @@ use crate::flow::{Exit, Flow};
 use crate::statements::{lower_block, lower_init};
 use crate::storing::begin_with;
 use go_base::{BlockId, NoMemory, Pos, TypeId};
-use go_tree::{TypeCase, TypeClause, TypedArm, TypedBlock, TypedCase, TypedClause, TypedExpr, TypedStmt};
+use go_tree::{TypeCase, TypeClause, TypedArm, TypedCase, TypedClause, TypedExpr, TypedStmt};
 use go_type::{Basic, CompareOp, TypeTerm, basic};
 use ssa_expr::lower_expr;
 use ssa_ir::{ConstValue, Infix, Op, Operand};
@@ -16,13 +16,15 @@ pub(crate) fn bool_type() -> TypeId {
 }
 
 #[cycle(statements)]
-pub(crate) fn lower_if(
-    flow: &mut Flow<'_>,
-    arms: &[TypedArm],
-    otherwise: &Option<TypedBlock>,
-) -> Result<(), NoMemory> {
+pub(crate) fn lower_if(flow: &mut Flow<'_>, stmt: &TypedStmt) -> Result<(), NoMemory> {
+    let TypedStmt::If {
+        arms, otherwise, ..
+    } = stmt
+    else {
+        return Err(lost());
+    };
     let mut join = None;
-    lower_arms(flow, arms, otherwise.is_some(), &mut join)?;
+    lower_arms(flow, arms.as_slice(), otherwise.is_some(), &mut join)?;
     if let Some(block) = otherwise {
         if !flow.builder.is_ended() {
             lower_block(flow, block)?;
@@ -164,20 +166,24 @@ impl Tests {
 }
 
 #[cycle(statements)]
-pub(crate) fn lower_switch(
-    flow: &mut Flow<'_>,
-    init: &Option<Box<TypedStmt>>,
-    tag: &Option<TypedExpr>,
-    clauses: &[TypedClause],
-    at: Pos,
-) -> Result<(), NoMemory> {
+pub(crate) fn lower_switch(flow: &mut Flow<'_>, stmt: &TypedStmt) -> Result<(), NoMemory> {
+    let TypedStmt::Switch {
+        at,
+        init,
+        tag,
+        clauses,
+        ..
+    } = stmt
+    else {
+        return Err(lost());
+    };
     lower_init(flow, init)?;
     if flow.builder.is_ended() {
         return Ok(());
     }
     flow.push_exit(Exit::of_choice())?;
-    let slots = lower_tests(flow, tag, clauses, at)?;
-    lower_clauses(flow, clauses, slots)?;
+    let slots = lower_tests(flow, tag, clauses.as_slice(), *at)?;
+    lower_clauses(flow, clauses.as_slice(), slots)?;
     leave_choice(flow)
 }
 
@@ -317,13 +323,17 @@ struct Looked {
 }
 
 #[cycle(statements)]
-pub(crate) fn lower_type_switch(
-    flow: &mut Flow<'_>,
-    init: &Option<Box<TypedStmt>>,
-    operand: &TypedExpr,
-    clauses: &[TypeClause],
-    at: Pos,
-) -> Result<(), NoMemory> {
+pub(crate) fn lower_type_switch(flow: &mut Flow<'_>, stmt: &TypedStmt) -> Result<(), NoMemory> {
+    let TypedStmt::TypeSwitch {
+        at,
+        init,
+        operand,
+        clauses,
+        ..
+    } = stmt
+    else {
+        return Err(lost());
+    };
     lower_init(flow, init)?;
     if flow.builder.is_ended() {
         return Ok(());
@@ -336,9 +346,21 @@ pub(crate) fn lower_type_switch(
         of,
         asserted: Vec::new(flow.builder.allocator()),
     };
-    let slots = lower_type_tests(flow, &mut looked, clauses, at)?;
-    lower_type_clauses(flow, clauses, slots, looked)?;
+    let slots = lower_type_tests(flow, &mut looked, clauses.as_slice(), *at)?;
+    lower_type_clauses(flow, clauses.as_slice(), slots, looked)?;
     leave_choice(flow)
+}
+
+fn type_case_count(clauses: &[TypeClause]) -> usize {
+    let mut count = 0usize;
+    for clause in clauses {
+        count = count.saturating_add(clause.cases.len());
+    }
+    count
+}
+
+fn type_default_of(clauses: &[TypeClause]) -> Option<usize> {
+    clauses.iter().position(|clause| clause.is_default)
 }
 
 fn lower_type_tests(
@@ -347,16 +369,12 @@ fn lower_type_tests(
     clauses: &[TypeClause],
     at: Pos,
 ) -> Result<Slots, NoMemory> {
-    let mut count = 0usize;
-    for clause in clauses {
-        count = count.saturating_add(clause.cases.len());
-    }
     let mut tests = Tests {
         slots: Slots::new(flow, clauses.len())?,
-        left: count,
-        default: clauses.iter().position(|clause| clause.is_default),
+        left: type_case_count(clauses),
+        default: type_default_of(clauses),
     };
-    if count == 0 {
+    if tests.left == 0 {
         tests.untested(flow, at)?;
     }
     for (place, clause) in clauses.iter().enumerate() {

@@ -176,6 +176,11 @@ impl<'a> Flow<'a> {
         self.exits.last()?.clause
     }
 
+    /// Where the next turn of the innermost loop begins, once something leads there.
+    pub fn next(&self) -> Option<BlockId> {
+        self.exits.last()?.next
+    }
+
     /// A turn of a loop begins.
     pub fn tick(&mut self, at: Pos) -> Result<(), NoMemory> {
         self.builder.effect(Op::Tick, at)

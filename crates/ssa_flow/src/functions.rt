@@ -3,18 +3,20 @@
 use crate::error::lost;
 use crate::flow::Flow;
 use crate::statements::lower_block;
-use go_base::{NoMemory, Pos, TypeId, VarId};
+use go_base::{FuncId, NoMemory, Pos, TypeId, VarId};
 use go_tree::{Body, FunctionDecl, FunctionForm, InitStep, Values};
 use go_type::{Signature, TypeIds, TypeTerm};
 use ssa_expr::{Builder, lower_values};
 use ssa_ir::{Call, Op, Operand, Operands};
+use std::alloc::Global;
 
 /// The body of a function: its entry, its statements, and its recover block.
 pub(crate) fn lower_body(flow: &mut Flow<'_>, body: &Body) -> Result<(), NoMemory> {
     enter_function(&mut flow.builder, body)?;
     lower_block(flow, &body.block)?;
     if !flow.builder.is_ended() {
-        give(flow, body, Vec::new(flow.builder.allocator()), true, body.block.end)?;
+        let values = Vec::new(flow.builder.allocator());
+        give(flow, body, values, true, body.block.end)?;
     }
     if body.has_defer {
         recover(flow, body)?;
@@ -24,13 +26,18 @@ pub(crate) fn lower_body(flow: &mut Flow<'_>, body: &Body) -> Result<(), NoMemor
 
 /// The cells of results, then those of parameters, which hold the arguments.
 fn enter_function(builder: &mut Builder<'_>, body: &Body) -> Result<(), NoMemory> {
-    for var in body.results.as_slice() {
-        builder.begin_var(*var)?;
-    }
+    begin_results(builder, body)?;
     let mut number = 0u64;
     for var in body.params.as_slice() {
         enter_param(builder, *var, number)?;
         number = number.saturating_add(1);
+    }
+    Ok(())
+}
+
+fn begin_results(builder: &mut Builder<'_>, body: &Body) -> Result<(), NoMemory> {
+    for var in body.results.as_slice() {
+        builder.begin_var(*var)?;
     }
     Ok(())
 }
@@ -74,11 +81,16 @@ fn give(
     if body.has_defer || is_bare {
         return give_loaded(&mut flow.builder, body, at);
     }
-    let mut given = Operands::new(flow.builder.allocator());
-    for value in values {
-        given.push(value)?;
-    }
+    let given = operands_of(flow.builder.allocator(), values)?;
     flow.builder.effect(Op::Return(given), at)
+}
+
+fn operands_of(alloc: Global, values: Vec<Operand>) -> Result<Operands, NoMemory> {
+    let mut operands = Operands::new(alloc);
+    for value in values {
+        operands.push(value)?;
+    }
+    Ok(operands)
 }
 
 fn store_results(
@@ -123,25 +135,45 @@ pub(crate) fn lower_package_init(
     decl: &FunctionDecl,
 ) -> Result<(), NoMemory> {
     let program = flow.builder.program();
-    for step in program.initialisers.as_slice() {
-        if step.package == decl.package {
-            lower_step(&mut flow.builder, step)?;
-        }
-    }
-    let mut number = 0u64;
-    for other in program.functions.as_slice() {
-        if other.form == FunctionForm::Init && other.package == decl.package {
-            call_init(&mut flow.builder, number, other.at)?;
-        }
-        number = number.saturating_add(1);
-    }
+    lower_steps(&mut flow.builder, program.initialisers.as_slice(), decl.package)?;
+    call_inits(&mut flow.builder, program.functions.as_slice(), decl.package)?;
     let given = Operands::new(flow.builder.allocator());
     flow.builder.effect(Op::Return(given), decl.at)
 }
 
+/// The steps of a package.
+fn lower_steps(
+    builder: &mut Builder<'_>,
+    steps: &[InitStep],
+    package: u32,
+) -> Result<(), NoMemory> {
+    for step in steps {
+        if step.package == package {
+            lower_step(builder, step)?;
+        }
+    }
+    Ok(())
+}
+
+/// Calls of the functions named `init` of a package.
+fn call_inits(
+    builder: &mut Builder<'_>,
+    functions: &[FunctionDecl],
+    package: u32,
+) -> Result<(), NoMemory> {
+    let mut number = 0u64;
+    for other in functions {
+        if other.form == FunctionForm::Init && other.package == package {
+            call_init(builder, number, other.at)?;
+        }
+        number = number.saturating_add(1);
+    }
+    Ok(())
+}
+
 fn call_init(builder: &mut Builder<'_>, number: u64, at: Pos) -> Result<(), NoMemory> {
     let call = Call::Static {
-        function: go_base::FuncId { number },
+        function: FuncId { number },
         arguments: Operands::new(builder.allocator()),
     };
     builder.effect(Op::Call(call), at)

@@ -1,21 +1,27 @@
 //! `for` with a condition, or without. Go specification, "For statements".
 
+use crate::error::lost;
 use crate::flow::{Exit, Flow};
 use crate::statements::{lower_block, lower_init};
 use go_base::{BlockId, NoMemory, Pos};
-use go_tree::{TypedBlock, TypedExpr, TypedStmt};
+use go_tree::{TypedExpr, TypedStmt};
 use ssa_expr::lower_expr;
-use ssa_ir::Op;
+use ssa_ir::{Op, Operand};
 
 #[cycle(statements)]
-pub(crate) fn lower_for(
-    flow: &mut Flow<'_>,
-    init: &Option<Box<TypedStmt>>,
-    condition: &Option<TypedExpr>,
-    post: &Option<Box<TypedStmt>>,
-    body: &TypedBlock,
-    at: Pos,
-) -> Result<(), NoMemory> {
+pub(crate) fn lower_for(flow: &mut Flow<'_>, stmt: &TypedStmt) -> Result<(), NoMemory> {
+    let TypedStmt::For {
+        at,
+        init,
+        condition,
+        post,
+        body,
+        ..
+    } = stmt
+    else {
+        return Err(lost());
+    };
+    let at = *at;
     lower_init(flow, init)?;
     if flow.builder.is_ended() {
         return Ok(());
@@ -23,14 +29,21 @@ pub(crate) fn lower_for(
     let head = flow.builder.add_block()?;
     flow.builder.jump(head, at)?;
     flow.builder.enter(head);
-    let next = if post.is_some() { None } else { Some(head) };
-    flow.push_exit(Exit::of_loop(next))?;
+    flow.push_exit(Exit::of_loop(first_next(post, head)))?;
     lower_condition(flow, condition)?;
     flow.tick(at)?;
     lower_block(flow, body)?;
     end_turn(flow, body.end)?;
     lower_post(flow, post, head, at)?;
     leave_loop(flow, head)
+}
+
+/// Where the next turn begins: at the head, where nothing is done between two turns.
+fn first_next(post: &Option<Box<TypedStmt>>, head: BlockId) -> Option<BlockId> {
+    match post {
+        Some(_) => None,
+        None => Some(head),
+    }
 }
 
 /// Where a condition does not hold, the loop is left.
@@ -48,7 +61,7 @@ fn lower_condition(
 /// The body is next where a test holds, and else what follows the loop.
 pub(crate) fn branch_into(
     flow: &mut Flow<'_>,
-    test: ssa_ir::Operand,
+    test: Operand,
     at: Pos,
 ) -> Result<(), NoMemory> {
     let then_to = flow.builder.add_block()?;
@@ -81,11 +94,7 @@ fn lower_post(
     if post.is_none() {
         return Ok(());
     }
-    let next = match flow.exits.last() {
-        Some(exit) => exit.next,
-        None => None,
-    };
-    let Some(next) = next else {
+    let Some(next) = flow.next() else {
         return Ok(());
     };
     flow.enter(next)?;

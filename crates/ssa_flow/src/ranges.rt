@@ -7,8 +7,8 @@ use crate::loops::{branch_into, leave_loop};
 use crate::statements::lower_block;
 use crate::storing::{Side, lower_target, store};
 use go_base::{NoMemory, Pos, TypeId, VarId};
-use go_tree::{RangeOver, RangeTargets, Target, TypedBlock, TypedExpr};
-use go_type::{Basic, BinaryOp, CompareOp, TypeTerm, basic};
+use go_tree::{RangeOver, RangeTargets, Target, TypedExpr, TypedStmt};
+use go_type::{Basic, BinaryOp, Builtin, CompareOp, TypeTerm, basic};
 use ssa_expr::{Parts, integer, lower_expr, zero};
 use ssa_ir::{Call, Infix, Op, Operand, Operands};
 
@@ -40,15 +40,20 @@ fn int_type() -> TypeId {
 }
 
 #[cycle(statements)]
-pub(crate) fn lower_range(
-    flow: &mut Flow<'_>,
-    over: RangeOver,
-    operand: &TypedExpr,
-    targets: &RangeTargets,
-    body: &TypedBlock,
-    at: Pos,
-) -> Result<(), NoMemory> {
-    let ranged = begin(flow, over, operand, targets, at)?;
+pub(crate) fn lower_range(flow: &mut Flow<'_>, stmt: &TypedStmt) -> Result<(), NoMemory> {
+    let TypedStmt::Range {
+        at,
+        over,
+        operand,
+        targets,
+        body,
+        ..
+    } = stmt
+    else {
+        return Err(lost());
+    };
+    let at = *at;
+    let ranged = begin(flow, *over, operand, targets, at)?;
     let head = flow.builder.add_block()?;
     flow.builder.jump(head, at)?;
     flow.builder.enter(head);
@@ -69,31 +74,59 @@ fn begin(
     targets: &RangeTargets,
     at: Pos,
 ) -> Result<Ranged, NoMemory> {
-    let value = match over {
-        RangeOver::Constant(_) => None,
-        _ => Some(lower_expr(&mut flow.builder, operand)?),
-    };
-    let mut ranged = Ranged {
+    let value = range_operand(flow, over, operand)?;
+    let of = operand.of;
+    let count = count(flow, over, of, &value, at)?;
+    let iterator = iterator(flow, over, of, &value, at)?;
+    begin_variables(flow, targets)?;
+    let index = index_cell(flow, over, of, count.is_some(), at)?;
+    Ok(Ranged {
         over,
         operand: value,
-        of: operand.of,
-        count: None,
-        index: None,
-        iterator: None,
+        of,
+        count,
+        index,
+        iterator,
         at,
-    };
-    ranged.count = count(flow, &ranged)?;
-    ranged.iterator = iterator(flow, &ranged)?;
-    if let RangeTargets::Define { key, value } = targets {
-        begin_variable(flow, *key)?;
-        begin_variable(flow, *value)?;
+    })
+}
+
+/// The operand, where not only a constant length counts.
+fn range_operand(
+    flow: &mut Flow<'_>,
+    over: RangeOver,
+    operand: &TypedExpr,
+) -> Result<Option<Operand>, NoMemory> {
+    match over {
+        RangeOver::Constant(_) => Ok(None),
+        _ => Ok(Some(lower_expr(&mut flow.builder, operand)?)),
     }
-    if ranged.count.is_some() {
-        let of = index_type(&ranged);
-        let pointer = flow.builder.pointer_to(of)?;
-        ranged.index = Some(flow.builder.value(Op::New(of), pointer, at)?);
+}
+
+/// The cell of the hidden index, where there is one.
+fn index_cell(
+    flow: &mut Flow<'_>,
+    over: RangeOver,
+    of: TypeId,
+    is_counted: bool,
+    at: Pos,
+) -> Result<Option<Operand>, NoMemory> {
+    if !is_counted {
+        return Ok(None);
     }
-    Ok(ranged)
+    let of = index_type(over, of);
+    let pointer = flow.builder.pointer_to(of)?;
+    Ok(Some(flow.builder.value(Op::New(of), pointer, at)?))
+}
+
+fn begin_variables(flow: &mut Flow<'_>, targets: &RangeTargets) -> Result<(), NoMemory> {
+    match targets {
+        RangeTargets::Define { key, value } => {
+            begin_variable(flow, *key)?;
+            begin_variable(flow, *value)
+        }
+        _ => Ok(()),
+    }
 }
 
 fn begin_variable(flow: &mut Flow<'_>, var: Option<VarId>) -> Result<(), NoMemory> {
@@ -104,9 +137,9 @@ fn begin_variable(flow: &mut Flow<'_>, var: Option<VarId>) -> Result<(), NoMemor
 }
 
 /// The type of the hidden index.
-fn index_type(ranged: &Ranged) -> TypeId {
-    match ranged.over {
-        RangeOver::Integer => ranged.of,
+fn index_type(over: RangeOver, of: TypeId) -> TypeId {
+    match over {
+        RangeOver::Integer => of,
         _ => int_type(),
     }
 }
@@ -119,23 +152,35 @@ fn copy_of(flow: &Flow<'_>, operand: &Option<Operand>) -> Result<Operand, NoMemo
 }
 
 /// The number of turns, where an index is counted up to it.
-fn count(flow: &mut Flow<'_>, ranged: &Ranged) -> Result<Option<Operand>, NoMemory> {
-    match ranged.over {
+fn count(
+    flow: &mut Flow<'_>,
+    over: RangeOver,
+    of: TypeId,
+    operand: &Option<Operand>,
+    at: Pos,
+) -> Result<Option<Operand>, NoMemory> {
+    match over {
         RangeOver::Array | RangeOver::ArrayPointer => {
-            let len = array_len(flow, ranged.of)?;
+            let len = array_len(flow, of)?;
             Ok(Some(integer(i128::from(len), int_type())))
         }
         RangeOver::Constant(len) => Ok(Some(integer(i128::from(len), int_type()))),
-        RangeOver::Integer => Ok(Some(copy_of(flow, &ranged.operand)?)),
-        RangeOver::Slice => {
-            let mut arguments = Operands::new(flow.builder.allocator());
-            arguments.push(copy_of(flow, &ranged.operand)?)?;
-            let builtin = go_type::Builtin::Len;
-            let op = Op::Call(Call::Builtin { builtin, arguments });
-            Ok(Some(flow.builder.value(op, int_type(), ranged.at)?))
-        }
+        RangeOver::Integer => Ok(Some(copy_of(flow, operand)?)),
+        RangeOver::Slice => Ok(Some(slice_len(flow, operand, at)?)),
         RangeOver::Text | RangeOver::Map | RangeOver::Channel => Ok(None),
     }
+}
+
+fn slice_len(
+    flow: &mut Flow<'_>,
+    operand: &Option<Operand>,
+    at: Pos,
+) -> Result<Operand, NoMemory> {
+    let mut arguments = Operands::new(flow.builder.allocator());
+    arguments.push(copy_of(flow, operand)?)?;
+    let builtin = Builtin::Len;
+    let op = Op::Call(Call::Builtin { builtin, arguments });
+    flow.builder.value(op, int_type(), at)
 }
 
 fn array_len(flow: &Flow<'_>, of: TypeId) -> Result<u64, NoMemory> {
@@ -149,13 +194,18 @@ fn array_len(flow: &Flow<'_>, of: TypeId) -> Result<u64, NoMemory> {
     }
 }
 
-fn iterator(flow: &mut Flow<'_>, ranged: &Ranged) -> Result<Option<Operand>, NoMemory> {
-    match ranged.over {
+fn iterator(
+    flow: &mut Flow<'_>,
+    over: RangeOver,
+    of: TypeId,
+    operand: &Option<Operand>,
+    at: Pos,
+) -> Result<Option<Operand>, NoMemory> {
+    match over {
         RangeOver::Text | RangeOver::Map => {
-            let operand = copy_of(flow, &ranged.operand)?;
-            let of = flow.builder.hold(TypeTerm::Iter(ranged.of))?;
-            let op = Op::Range(operand);
-            Ok(Some(flow.builder.value(op, of, ranged.at)?))
+            let operand = copy_of(flow, operand)?;
+            let of = flow.builder.hold(TypeTerm::Iter(of))?;
+            Ok(Some(flow.builder.value(Op::Range(operand), of, at)?))
         }
         _ => Ok(None),
     }
@@ -171,7 +221,7 @@ fn lower_turn(flow: &mut Flow<'_>, ranged: &Ranged) -> Result<Turn, NoMemory> {
 }
 
 fn lower_index(flow: &mut Flow<'_>, ranged: &Ranged) -> Result<Turn, NoMemory> {
-    let of = index_type(ranged);
+    let of = index_type(ranged.over, ranged.of);
     let cell = copy_of(flow, &ranged.index)?;
     let index = flow.builder.value(Op::Load(cell), of, ranged.at)?;
     let left = index.copy(flow.builder.allocator())?;
@@ -316,7 +366,10 @@ fn write(
     var: Option<VarId>,
     value: Option<Operand>,
 ) -> Result<(), NoMemory> {
-    let (Some(var), Some(value)) = (var, value) else {
+    let Some(var) = var else {
+        return Ok(());
+    };
+    let Some(value) = value else {
         return Ok(());
     };
     let at = flow.builder.variable(var)?.at;
@@ -324,12 +377,38 @@ fn write(
 }
 
 fn lower_side(flow: &mut Flow<'_>, target: &Option<Target>) -> Result<Option<Side>, NoMemory> {
+    let Some(target) = target else {
+        return Ok(None);
+    };
     match target {
-        Some(Target::Place(_)) => match target {
-            Some(target) => Ok(Some(lower_target(flow, target)?)),
-            None => Ok(None),
-        },
-        _ => Ok(None),
+        Target::Place(_) => Ok(Some(lower_target(flow, target)?)),
+        Target::Blank => Ok(None),
+    }
+}
+
+/// The key of a turn, where it goes anywhere.
+fn key_for(
+    flow: &mut Flow<'_>,
+    ranged: &Ranged,
+    turn: &Turn,
+    side: &Option<Side>,
+) -> Result<Operand, NoMemory> {
+    match side {
+        Some(_) => key_of(flow, ranged, turn),
+        None => Ok(zero(int_type())),
+    }
+}
+
+/// The value of a turn, where it goes anywhere.
+fn value_for(
+    flow: &mut Flow<'_>,
+    ranged: &Ranged,
+    turn: &Turn,
+    side: &Option<Side>,
+) -> Result<Operand, NoMemory> {
+    match side {
+        Some(_) => value_of(flow, ranged, turn),
+        None => Ok(zero(int_type())),
     }
 }
 
@@ -344,14 +423,8 @@ fn assign(
     let key = lower_side(flow, key)?;
     let value = lower_side(flow, value)?;
     let mut operands = Vec::new(flow.builder.allocator());
-    operands.push(match &key {
-        Some(_) => key_of(flow, ranged, turn)?,
-        None => zero(int_type()),
-    })?;
-    operands.push(match &value {
-        Some(_) => value_of(flow, ranged, turn)?,
-        None => zero(int_type()),
-    })?;
+    operands.push(key_for(flow, ranged, turn, &key)?)?;
+    operands.push(value_for(flow, ranged, turn, &value)?)?;
     let outer = flow.builder.set_parts(Parts::List(operands));
     let first = lower_part(flow, &key, parts.first())?;
     let second = lower_part(flow, &value, parts.get(1))?;
@@ -365,10 +438,12 @@ fn lower_part(
     side: &Option<Side>,
     part: Option<&TypedExpr>,
 ) -> Result<Option<Operand>, NoMemory> {
-    match (side, part) {
-        (Some(_), Some(part)) => Ok(Some(lower_expr(&mut flow.builder, part)?)),
-        (Some(_), None) => Err(lost()),
-        (None, _) => Ok(None),
+    if side.is_none() {
+        return Ok(None);
+    }
+    match part {
+        Some(part) => Ok(Some(lower_expr(&mut flow.builder, part)?)),
+        None => Err(lost()),
     }
 }
 
@@ -377,8 +452,11 @@ fn store_part(
     side: Option<Side>,
     value: Option<Operand>,
 ) -> Result<(), NoMemory> {
-    match (side, value) {
-        (Some(side), Some(value)) => store(flow, side, value),
-        _ => Ok(()),
+    let Some(side) = side else {
+        return Ok(());
+    };
+    match value {
+        Some(value) => store(flow, side, value),
+        None => Ok(()),
     }
 }

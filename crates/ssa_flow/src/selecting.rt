@@ -5,9 +5,9 @@ use crate::error::lost;
 use crate::flow::{Exit, Flow};
 use crate::statements::lower_block;
 use crate::storing::{lower_targets, put, store_all};
-use go_base::{NoMemory, Pos, TypeId};
+use go_base::{BlockId, NoMemory, Pos, TypeId};
 use go_tree::{Comm, DefineTarget, ReceiveInto, SelectClause, Target, TypedExpr};
-use go_type::{Basic, CompareOp, TypeIds, TypeTerm, basic};
+use go_type::{Basic, CompareOp, MethodTypes, TypeIds, TypeTerm, basic};
 use ssa_expr::{Parts, integer, lower_expr};
 use ssa_ir::{ConstValue, Infix, Op, Operand, SelectCase, SelectCases};
 
@@ -36,7 +36,8 @@ pub(crate) fn lower_select(
         return wait_for_ever(flow, at);
     }
     flow.push_exit(Exit::of_choice())?;
-    lower_clauses(flow, clauses, chosen)?;
+    lower_chosen(flow, clauses, chosen)?;
+    lower_default(flow, clauses)?;
     let exit = flow.pop_exit()?;
     if flow.builder.is_ended() {
         flow.enter_if_filled(exit.behind)?;
@@ -46,7 +47,7 @@ pub(crate) fn lower_select(
 
 /// Behind `select {}` nothing is reached.
 fn wait_for_ever(flow: &mut Flow<'_>, at: Pos) -> Result<(), NoMemory> {
-    let methods = go_type::MethodTypes::new(flow.builder.allocator());
+    let methods = MethodTypes::new(flow.builder.allocator());
     let of = flow.builder.hold(TypeTerm::Interface(methods))?;
     let value = ConstValue::Nil;
     flow.builder.effect(Op::Panic(Operand::Constant { value, of }), at)
@@ -69,8 +70,7 @@ fn lower_cases(
             Comm::Send { channel, value } => cases.push(lower_send(flow, channel, value)?)?,
             Comm::Receive { channel, .. } => {
                 types.push(elem_of(flow, channel.of)?)?;
-                let channel = lower_expr(&mut flow.builder, channel)?;
-                cases.push(SelectCase::Receive { channel })?;
+                cases.push(lower_received(flow, channel)?)?;
             }
         }
     }
@@ -118,6 +118,11 @@ fn lower_send(
     Ok(SelectCase::Send { channel, value })
 }
 
+fn lower_received(flow: &mut Flow<'_>, channel: &TypedExpr) -> Result<SelectCase, NoMemory> {
+    let channel = lower_expr(&mut flow.builder, channel)?;
+    Ok(SelectCase::Receive { channel })
+}
+
 fn elem_of(flow: &Flow<'_>, channel: TypeId) -> Result<TypeId, NoMemory> {
     match flow.builder.under(channel)? {
         TypeTerm::Chan { elem, .. } => Ok(*elem),
@@ -125,10 +130,10 @@ fn elem_of(flow: &Flow<'_>, channel: TypeId) -> Result<TypeId, NoMemory> {
     }
 }
 
-/// The cases in source order, each behind its test; the last of those that block needs none, and the default stands behind
-/// all tests.
+/// The cases in source order, each behind its test; the last of those that block needs none. The default stands behind all
+/// tests.
 #[cycle(statements)]
-fn lower_clauses(
+fn lower_chosen(
     flow: &mut Flow<'_>,
     clauses: &[SelectClause],
     chosen: Chosen,
@@ -146,6 +151,11 @@ fn lower_clauses(
             flow.enter(block)?;
         }
     }
+    Ok(())
+}
+
+#[cycle(statements)]
+fn lower_default(flow: &mut Flow<'_>, clauses: &[SelectClause]) -> Result<(), NoMemory> {
     for clause in clauses {
         if let Comm::Default = clause.comm {
             lower_block(flow, &clause.body)?;
@@ -160,7 +170,7 @@ fn test(
     flow: &mut Flow<'_>,
     chosen: &mut Chosen,
     at: Pos,
-) -> Result<Option<go_base::BlockId>, NoMemory> {
+) -> Result<Option<BlockId>, NoMemory> {
     chosen.left = chosen.left.saturating_sub(1);
     let Some(index) = &chosen.index else {
         return Ok(None);
@@ -262,10 +272,15 @@ fn assign(
     operands.push(extract(flow, chosen, part, elem, at)?)?;
     operands.push(extract(flow, chosen, 1, bool_type(), at)?)?;
     let outer = flow.builder.set_parts(Parts::List(operands));
+    let values = lower_parts(flow, parts)?;
+    flow.builder.set_parts(outer);
+    store_all(flow, sides, values)
+}
+
+fn lower_parts(flow: &mut Flow<'_>, parts: &[TypedExpr]) -> Result<Vec<Operand>, NoMemory> {
     let mut values = Vec::new(flow.builder.allocator());
     for part in parts {
         values.push(lower_expr(&mut flow.builder, part)?)?;
     }
-    flow.builder.set_parts(outer);
-    store_all(flow, sides, values)
+    Ok(values)
 }

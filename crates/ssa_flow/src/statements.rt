@@ -6,7 +6,7 @@ use crate::functions::lower_return;
 use crate::loops::lower_for;
 use crate::ranges::lower_range;
 use crate::selecting::lower_select;
-use crate::storing::{assign, assign_operated, define, define_without_values};
+use crate::storing::{assign, assign_operated, declare, define, define_without_values};
 use go_base::{NoMemory, Pos};
 use go_tree::{TypedBlock, TypedExpr, TypedStmt};
 use ssa_expr::{later_call, lower_expr, panic_argument};
@@ -46,10 +46,10 @@ pub(crate) fn lower_stmt(flow: &mut Flow<'_>, stmt: &TypedStmt) -> Result<(), No
             ..
         } => define_without_values(flow, variables.as_slice()),
         TypedStmt::Var {
-            at,
             variables,
             values: Some(values),
-        } => crate::storing::declare(flow, variables.as_slice(), values, *at),
+            ..
+        } => declare(flow, variables.as_slice(), values),
         TypedStmt::Labeled { stmt, .. } => lower_init(flow, stmt),
         TypedStmt::Expr { expr, .. } => lower_effect(flow, expr),
         TypedStmt::Send { at, channel, value } => lower_send(flow, channel, value, *at),
@@ -80,40 +80,12 @@ pub(crate) fn lower_stmt(flow: &mut Flow<'_>, stmt: &TypedStmt) -> Result<(), No
         TypedStmt::Continue { at, levels } => flow.go_on(*levels, *at),
         TypedStmt::Fallthrough { at } => flow.fall_through(*at),
         TypedStmt::Block(block) => lower_block(flow, block),
-        TypedStmt::If {
-            arms, otherwise, ..
-        } => lower_if(flow, arms.as_slice(), otherwise),
-        TypedStmt::Switch {
-            at,
-            init,
-            tag,
-            clauses,
-            ..
-        } => lower_switch(flow, init, tag, clauses.as_slice(), *at),
-        TypedStmt::TypeSwitch {
-            at,
-            init,
-            operand,
-            clauses,
-            ..
-        } => lower_type_switch(flow, init, operand, clauses.as_slice(), *at),
+        TypedStmt::If { .. } => lower_if(flow, stmt),
+        TypedStmt::Switch { .. } => lower_switch(flow, stmt),
+        TypedStmt::TypeSwitch { .. } => lower_type_switch(flow, stmt),
         TypedStmt::Select { at, clauses, .. } => lower_select(flow, clauses.as_slice(), *at),
-        TypedStmt::For {
-            at,
-            init,
-            condition,
-            post,
-            body,
-            ..
-        } => lower_for(flow, init, condition, post, body, *at),
-        TypedStmt::Range {
-            at,
-            over,
-            operand,
-            targets,
-            body,
-            ..
-        } => lower_range(flow, *over, operand, targets, body, *at),
+        TypedStmt::For { .. } => lower_for(flow, stmt),
+        TypedStmt::Range { .. } => lower_range(flow, stmt),
     }
 }
 

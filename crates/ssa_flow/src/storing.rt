@@ -140,7 +140,6 @@ pub(crate) fn declare(
     flow: &mut Flow<'_>,
     variables: &[VarId],
     values: &Values,
-    _at: Pos,
 ) -> Result<(), NoMemory> {
     let values = lower_values(&mut flow.builder, values)?;
     let mut values = values.into_iter();
