@@ -127,48 +127,52 @@ impl Reader<'_> {
     fn cases(self, cases: &SelectCases) -> Result<SelectCases, NoMemory> {
         let mut copies = SelectCases::new(self.alloc);
         for case in cases.as_slice() {
-            copies.push(match case {
-                SelectCase::Send { channel, value } => SelectCase::Send {
-                    channel: self.operand(channel)?,
-                    value: self.operand(value)?,
-                },
-                SelectCase::Receive { channel } => SelectCase::Receive {
-                    channel: self.operand(channel)?,
-                },
-            })?;
+            copies.push(self.case(case)?)?;
         }
         Ok(copies)
     }
 
+    fn case(self, case: &SelectCase) -> Result<SelectCase, NoMemory> {
+        match case {
+            SelectCase::Send { channel, value } => Ok(SelectCase::Send {
+                channel: self.operand(channel)?,
+                value: self.operand(value)?,
+            }),
+            SelectCase::Receive { channel } => Ok(SelectCase::Receive {
+                channel: self.operand(channel)?,
+            }),
+        }
+    }
+
     fn call(self, call: &Call) -> Result<Call, NoMemory> {
-        Ok(match call {
+        match call {
             Call::Static {
                 function,
                 arguments,
-            } => Call::Static {
+            } => Ok(Call::Static {
                 function: self.function(*function)?,
                 arguments: self.operands(arguments)?,
-            },
-            Call::Dynamic { callee, arguments } => Call::Dynamic {
+            }),
+            Call::Dynamic { callee, arguments } => Ok(Call::Dynamic {
                 callee: self.operand(callee)?,
                 arguments: self.operands(arguments)?,
-            },
+            }),
             Call::Invoke {
                 receiver,
                 name,
                 package,
                 arguments,
-            } => Call::Invoke {
+            } => Ok(Call::Invoke {
                 receiver: self.operand(receiver)?,
                 name: *name,
                 package: *package,
                 arguments: self.operands(arguments)?,
-            },
-            Call::Builtin { builtin, arguments } => Call::Builtin {
+            }),
+            Call::Builtin { builtin, arguments } => Ok(Call::Builtin {
                 builtin: *builtin,
                 arguments: self.operands(arguments)?,
-            },
-        })
+            }),
+        }
     }
 
     fn op(self, op: &Op) -> Result<Op, NoMemory> {
@@ -192,132 +196,146 @@ impl Reader<'_> {
 
     /// An instruction with a fixed number of operands.
     fn plain(self, op: &Op) -> Result<Op, NoMemory> {
-        Ok(match op {
-            Op::New(of) => Op::New(*of),
-            Op::Binary { op, left, right } => Op::Binary {
+        match op {
+            Op::New(of) => Ok(Op::New(*of)),
+            Op::Binary { op, left, right } => Ok(Op::Binary {
                 op: *op,
                 left: self.operand(left)?,
                 right: self.operand(right)?,
-            },
-            Op::Unary { op, operand } => Op::Unary {
+            }),
+            Op::Unary { op, operand } => Ok(Op::Unary {
                 op: *op,
                 operand: self.operand(operand)?,
-            },
-            Op::Load(at) => Op::Load(self.operand(at)?),
-            Op::Store { at, value } => Op::Store {
+            }),
+            Op::Load(at) => Ok(Op::Load(self.operand(at)?)),
+            Op::Store { at, value } => Ok(Op::Store {
                 at: self.operand(at)?,
                 value: self.operand(value)?,
-            },
-            Op::Field { operand, field } => Op::Field {
+            }),
+            Op::Field { operand, field } => Ok(Op::Field {
                 operand: self.operand(operand)?,
                 field: *field,
-            },
-            Op::FieldAddress { operand, field } => Op::FieldAddress {
+            }),
+            Op::FieldAddress { operand, field } => Ok(Op::FieldAddress {
                 operand: self.operand(operand)?,
                 field: *field,
-            },
-            Op::Index { operand, index } => Op::Index {
+            }),
+            _ => self.element(op),
+        }
+    }
+
+    /// An instruction on the elements of a value.
+    fn element(self, op: &Op) -> Result<Op, NoMemory> {
+        match op {
+            Op::Index { operand, index } => Ok(Op::Index {
                 operand: self.operand(operand)?,
                 index: self.operand(index)?,
-            },
-            Op::IndexAddress { operand, index } => Op::IndexAddress {
+            }),
+            Op::IndexAddress { operand, index } => Ok(Op::IndexAddress {
                 operand: self.operand(operand)?,
                 index: self.operand(index)?,
-            },
+            }),
             Op::Lookup {
                 map,
                 key,
                 comma_ok,
-            } => Op::Lookup {
+            } => Ok(Op::Lookup {
                 map: self.operand(map)?,
                 key: self.operand(key)?,
                 comma_ok: *comma_ok,
-            },
-            Op::Update { map, key, value } => Op::Update {
+            }),
+            Op::Update { map, key, value } => Ok(Op::Update {
                 map: self.operand(map)?,
                 key: self.operand(key)?,
                 value: self.operand(value)?,
-            },
+            }),
             Op::Slice {
                 operand,
                 low,
                 high,
                 max,
-            } => Op::Slice {
+            } => Ok(Op::Slice {
                 operand: self.operand(operand)?,
                 low: self.some(low)?,
                 high: self.some(high)?,
                 max: self.some(max)?,
-            },
-            _ => return self.other(op),
-        })
+            }),
+            Op::Extract { operand, part } => Ok(Op::Extract {
+                operand: self.operand(operand)?,
+                part: *part,
+            }),
+            _ => self.typed(op),
+        }
     }
 
-    fn other(self, op: &Op) -> Result<Op, NoMemory> {
-        Ok(match op {
-            Op::Convert { to, operand } => Op::Convert {
+    /// An instruction that names a type.
+    fn typed(self, op: &Op) -> Result<Op, NoMemory> {
+        match op {
+            Op::Convert { to, operand } => Ok(Op::Convert {
                 to: *to,
                 operand: self.operand(operand)?,
-            },
-            Op::ChangeType { to, operand } => Op::ChangeType {
+            }),
+            Op::ChangeType { to, operand } => Ok(Op::ChangeType {
                 to: *to,
                 operand: self.operand(operand)?,
-            },
-            Op::MakeInterface { to, operand } => Op::MakeInterface {
+            }),
+            Op::MakeInterface { to, operand } => Ok(Op::MakeInterface {
                 to: *to,
                 operand: self.operand(operand)?,
-            },
-            Op::ChangeInterface { to, operand } => Op::ChangeInterface {
+            }),
+            Op::ChangeInterface { to, operand } => Ok(Op::ChangeInterface {
                 to: *to,
                 operand: self.operand(operand)?,
-            },
-            Op::MakeMap(of) => Op::MakeMap(*of),
-            Op::MakeChan { of, size } => Op::MakeChan {
-                of: *of,
-                size: self.operand(size)?,
-            },
-            Op::MakeSlice { of, len, cap } => Op::MakeSlice {
-                of: *of,
-                len: self.operand(len)?,
-                cap: self.operand(cap)?,
-            },
+            }),
             Op::TypeAssert {
                 operand,
                 to,
                 comma_ok,
-            } => Op::TypeAssert {
+            } => Ok(Op::TypeAssert {
                 operand: self.operand(operand)?,
                 to: *to,
                 comma_ok: *comma_ok,
-            },
-            Op::RunDefers => Op::RunDefers,
-            Op::Send { channel, value } => Op::Send {
+            }),
+            Op::MakeMap(of) => Ok(Op::MakeMap(*of)),
+            Op::MakeChan { of, size } => Ok(Op::MakeChan {
+                of: *of,
+                size: self.operand(size)?,
+            }),
+            Op::MakeSlice { of, len, cap } => Ok(Op::MakeSlice {
+                of: *of,
+                len: self.operand(len)?,
+                cap: self.operand(cap)?,
+            }),
+            _ => self.other(op),
+        }
+    }
+
+    fn other(self, op: &Op) -> Result<Op, NoMemory> {
+        match op {
+            Op::RunDefers => Ok(Op::RunDefers),
+            Op::Send { channel, value } => Ok(Op::Send {
                 channel: self.operand(channel)?,
                 value: self.operand(value)?,
-            },
-            Op::Receive { channel, comma_ok } => Op::Receive {
+            }),
+            Op::Receive { channel, comma_ok } => Ok(Op::Receive {
                 channel: self.operand(channel)?,
                 comma_ok: *comma_ok,
-            },
-            Op::Range(operand) => Op::Range(self.operand(operand)?),
-            Op::Next(operand) => Op::Next(self.operand(operand)?),
-            Op::Extract { operand, part } => Op::Extract {
-                operand: self.operand(operand)?,
-                part: *part,
-            },
-            Op::Tick => Op::Tick,
-            Op::Jump(to) => Op::Jump(*to),
+            }),
+            Op::Range(operand) => Ok(Op::Range(self.operand(operand)?)),
+            Op::Next(operand) => Ok(Op::Next(self.operand(operand)?)),
+            Op::Tick => Ok(Op::Tick),
+            Op::Jump(to) => Ok(Op::Jump(*to)),
             Op::If {
                 test,
                 then_to,
                 else_to,
-            } => Op::If {
+            } => Ok(Op::If {
                 test: self.operand(test)?,
                 then_to: *then_to,
                 else_to: *else_to,
-            },
-            Op::Panic(value) => Op::Panic(self.operand(value)?),
-            _ => return Err(lost()),
-        })
+            }),
+            Op::Panic(value) => Ok(Op::Panic(self.operand(value)?)),
+            _ => Err(lost()),
+        }
     }
 }
