@@ -6,7 +6,7 @@ use ssa_expr::Builder;
 use ssa_ir::Op;
 
 /// A statement that `break` or `continue` may leave.
-#[derive(Clone, Copy, Debug)]
+#[derive(Clone, Copy)]
 pub(crate) struct Exit {
     /// The block behind it, once something leads there.
     pub behind: Option<BlockId>,

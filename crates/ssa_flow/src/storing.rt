@@ -42,8 +42,9 @@ pub(crate) fn lower_targets(
 
 /// Assigns a value to a left side.
 pub(crate) fn store(flow: &mut Flow<'_>, side: Side, value: Operand) -> Result<(), NoMemory> {
-    match side.place {
-        Some(place) => store_place(&mut flow.builder, place, value, side.at),
+    let Side { place, at } = side;
+    match place {
+        Some(place) => store_place(&mut flow.builder, place, value, at),
         None => Ok(()),
     }
 }
