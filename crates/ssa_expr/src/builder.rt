@@ -90,13 +90,20 @@ impl<'a> Builder<'a> {
     /// The function that is built.
     pub fn decl(&self) -> Option<&'a FunctionDecl> {
         let program: &'a Program = self.program;
-        program.functions.as_slice().get(self.function.number as usize)
+        program
+            .functions
+            .as_slice()
+            .get(self.function.number as usize)
     }
 
     /// Its body.
     pub fn body(&self) -> Option<&'a Body> {
         let program: &'a Program = self.program;
-        program.bodies.as_slice().get(self.function.number as usize)?.as_ref()
+        program
+            .bodies
+            .as_slice()
+            .get(self.function.number as usize)?
+            .as_ref()
     }
 
     /// The id of a type.

@@ -30,7 +30,13 @@ pub(crate) fn lower_builtin(
         Builtin::Make => make(builder, *form, values, expr.at),
         Builtin::New => new(builder, *form, expr),
         Builtin::Append => append(builder, values, arguments.as_slice(), *spread, expr),
-        Builtin::Len | Builtin::Cap => length(builder, *builtin, values, arguments.as_slice(), expr),
+        Builtin::Len | Builtin::Cap => length(
+            builder,
+            *builtin,
+            values,
+            arguments.as_slice(),
+            expr,
+        ),
         _ => value_of(builder, *builtin, values, expr.of, expr.at),
     }
 }
@@ -145,11 +151,7 @@ fn append(
 }
 
 /// Whether an item of a type would read as a slice of the elements of another.
-fn reads_as_spread(
-    builder: &Builder<'_>,
-    slice: TypeId,
-    item: TypeId,
-) -> Result<bool, NoMemory> {
+fn reads_as_spread(builder: &Builder<'_>, slice: TypeId, item: TypeId) -> Result<bool, NoMemory> {
     match (builder.under(slice)?, builder.under(item)?) {
         (TypeTerm::Slice(elem), TypeTerm::Slice(of)) => Ok(*elem == *of),
         _ => Ok(false),

@@ -63,10 +63,7 @@ fn lower_callee(builder: &mut Builder<'_>, expr: &TypedExpr) -> Result<Call, NoM
 
 /// The values of a list, in order.
 #[cycle(lower)]
-pub fn lower_values(
-    builder: &mut Builder<'_>,
-    values: &Values,
-) -> Result<Vec<Operand>, NoMemory> {
+pub fn lower_values(builder: &mut Builder<'_>, values: &Values) -> Result<Vec<Operand>, NoMemory> {
     match values {
         Values::Each(exprs) => lower_list(builder, exprs.as_slice()),
         Values::Spread { tuple, parts } => {
@@ -104,11 +101,7 @@ fn called_literal(builder: &mut Builder<'_>, function: FuncId) -> Result<Called,
     }
 }
 
-fn call_of(
-    builder: &Builder<'_>,
-    called: Called,
-    values: Vec<Operand>,
-) -> Result<Call, NoMemory> {
+fn call_of(builder: &Builder<'_>, called: Called, values: Vec<Operand>) -> Result<Call, NoMemory> {
     let mut arguments = Operands::new(builder.allocator());
     match called {
         Called::Function(function) => {
@@ -179,7 +172,9 @@ pub fn later_call(builder: &mut Builder<'_>, expr: &TypedExpr) -> Result<Call, N
     match &expr.kind {
         ExprKind::CallOf { .. } => lower_callee(builder, expr),
         ExprKind::BuiltinOf {
-            builtin, arguments, ..
+            builtin,
+            arguments,
+            ..
         } => {
             let values = lower_list(builder, arguments.as_slice())?;
             builtin_call(builder, *builtin, values)

@@ -64,10 +64,7 @@ fn lower_elements(
 }
 
 #[cycle(lower)]
-fn lower_fields(
-    builder: &mut Builder<'_>,
-    fields: &[FieldInit],
-) -> Result<Vec<Element>, NoMemory> {
+fn lower_fields(builder: &mut Builder<'_>, fields: &[FieldInit]) -> Result<Vec<Element>, NoMemory> {
     let mut values = Vec::new(builder.allocator());
     for field in fields {
         let value = lower_expr(builder, &field.value)?;

@@ -8,7 +8,9 @@ use crate::error::lost;
 use crate::places::{address, read_place};
 use go_base::{BlockId, Bytes, FuncId, NameId, NoMemory, Pos, TypeId};
 use go_tree::{ExprKind, IndexBase, Method, TypedExpr};
-use go_type::{Basic, BinaryOp, CompareOp, Const, SelectionKind, TypeTerm, UnaryOp, basic, int_kind};
+use go_type::{
+    Basic, BinaryOp, CompareOp, Const, SelectionKind, TypeTerm, UnaryOp, basic, int_kind,
+};
 use ssa_ir::{ConstValue, Infix, Op, Operand, Operands, PhiEdge, PhiEdges, WrapNeed};
 use std::alloc::Global;
 
@@ -127,11 +129,7 @@ fn lower_binary(builder: &mut Builder<'_>, expr: &TypedExpr) -> Result<Operand, 
             let test = lower_expr(builder, left)?;
             lower_right(builder, false, test, right, expr.of, expr.at)
         }
-        ExprKind::MapIndex {
-            map,
-            key,
-            comma_ok,
-        } => {
+        ExprKind::MapIndex { map, key, comma_ok } => {
             let map = lower_expr(builder, map)?;
             let key = lower_expr(builder, key)?;
             lookup(builder, map, key, *comma_ok, expr)

@@ -172,10 +172,7 @@ pub(crate) fn index_address(
 }
 
 /// Evaluates the operands of a left side.
-pub fn lower_place(
-    builder: &mut Builder<'_>,
-    place: &TypedExpr,
-) -> Result<PlaceOperand, NoMemory> {
+pub fn lower_place(builder: &mut Builder<'_>, place: &TypedExpr) -> Result<PlaceOperand, NoMemory> {
     match &place.kind {
         ExprKind::FieldOf { operand, field } => {
             let outer = lower_place(builder, operand)?;

@@ -298,7 +298,9 @@ fn push_functions(
 ) -> Result<(), NoMemory> {
     for one in made {
         let Made {
-            function, needs, ..
+            function,
+            needs,
+            ..
         } = one;
         functions.push(renumber(alloc, function, numbers, needs.as_slice())?)?;
     }

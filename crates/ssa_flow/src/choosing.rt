@@ -18,7 +18,9 @@ pub(crate) fn bool_type() -> TypeId {
 #[cycle(statements)]
 pub(crate) fn lower_if(flow: &mut Flow<'_>, stmt: &TypedStmt) -> Result<(), NoMemory> {
     let TypedStmt::If {
-        arms, otherwise, ..
+        arms,
+        otherwise,
+        ..
     } = stmt
     else {
         return Err(lost());

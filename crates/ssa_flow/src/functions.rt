@@ -130,13 +130,18 @@ fn recover(flow: &mut Flow<'_>, body: &Body) -> Result<(), NoMemory> {
 }
 
 /// The initialisation of a package: its steps, then its functions named `init`.
-pub(crate) fn lower_package_init(
-    flow: &mut Flow<'_>,
-    decl: &FunctionDecl,
-) -> Result<(), NoMemory> {
+pub(crate) fn lower_package_init(flow: &mut Flow<'_>, decl: &FunctionDecl) -> Result<(), NoMemory> {
     let program = flow.builder.program();
-    lower_steps(&mut flow.builder, program.initialisers.as_slice(), decl.package)?;
-    call_inits(&mut flow.builder, program.functions.as_slice(), decl.package)?;
+    lower_steps(
+        &mut flow.builder,
+        program.initialisers.as_slice(),
+        decl.package,
+    )?;
+    call_inits(
+        &mut flow.builder,
+        program.functions.as_slice(),
+        decl.package,
+    )?;
     let given = Operands::new(flow.builder.allocator());
     flow.builder.effect(Op::Return(given), decl.at)
 }

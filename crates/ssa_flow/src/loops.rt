@@ -47,10 +47,7 @@ fn first_next(post: &Option<Box<TypedStmt>>, head: BlockId) -> Option<BlockId> {
 }
 
 /// Where a condition does not hold, the loop is left.
-fn lower_condition(
-    flow: &mut Flow<'_>,
-    condition: &Option<TypedExpr>,
-) -> Result<(), NoMemory> {
+fn lower_condition(flow: &mut Flow<'_>, condition: &Option<TypedExpr>) -> Result<(), NoMemory> {
     let Some(condition) = condition else {
         return Ok(());
     };
@@ -59,11 +56,7 @@ fn lower_condition(
 }
 
 /// The body is next where a test holds, and else what follows the loop.
-pub(crate) fn branch_into(
-    flow: &mut Flow<'_>,
-    test: Operand,
-    at: Pos,
-) -> Result<(), NoMemory> {
+pub(crate) fn branch_into(flow: &mut Flow<'_>, test: Operand, at: Pos) -> Result<(), NoMemory> {
     let then_to = flow.builder.add_block()?;
     let else_to = flow.behind()?;
     let op = Op::If {

@@ -171,11 +171,7 @@ fn count(
     }
 }
 
-fn slice_len(
-    flow: &mut Flow<'_>,
-    operand: &Option<Operand>,
-    at: Pos,
-) -> Result<Operand, NoMemory> {
+fn slice_len(flow: &mut Flow<'_>, operand: &Option<Operand>, at: Pos) -> Result<Operand, NoMemory> {
     let mut arguments = Operands::new(flow.builder.allocator());
     arguments.push(copy_of(flow, operand)?)?;
     let builtin = Builtin::Len;
@@ -361,11 +357,7 @@ fn define(
     write(flow, value, second)
 }
 
-fn write(
-    flow: &mut Flow<'_>,
-    var: Option<VarId>,
-    value: Option<Operand>,
-) -> Result<(), NoMemory> {
+fn write(flow: &mut Flow<'_>, var: Option<VarId>, value: Option<Operand>) -> Result<(), NoMemory> {
     let Some(var) = var else {
         return Ok(());
     };

@@ -235,11 +235,7 @@ impl Reader<'_> {
                 operand: self.operand(operand)?,
                 index: self.operand(index)?,
             }),
-            Op::Lookup {
-                map,
-                key,
-                comma_ok,
-            } => Ok(Op::Lookup {
+            Op::Lookup { map, key, comma_ok } => Ok(Op::Lookup {
                 map: self.operand(map)?,
                 key: self.operand(key)?,
                 comma_ok: *comma_ok,

@@ -50,15 +50,12 @@ fn wait_for_ever(flow: &mut Flow<'_>, at: Pos) -> Result<(), NoMemory> {
     let methods = MethodTypes::new(flow.builder.allocator());
     let of = flow.builder.hold(TypeTerm::Interface(methods))?;
     let value = ConstValue::Nil;
-    flow.builder.effect(Op::Panic(Operand::Constant { value, of }), at)
+    flow.builder
+        .effect(Op::Panic(Operand::Constant { value, of }), at)
 }
 
 /// All channels and values, in source order, and the choice.
-fn lower_cases(
-    flow: &mut Flow<'_>,
-    clauses: &[SelectClause],
-    at: Pos,
-) -> Result<Chosen, NoMemory> {
+fn lower_cases(flow: &mut Flow<'_>, clauses: &[SelectClause], at: Pos) -> Result<Chosen, NoMemory> {
     let mut cases = SelectCases::new(flow.builder.allocator());
     let mut types = TypeIds::new(flow.builder.allocator());
     types.push(basic(Basic::Int))?;
@@ -166,11 +163,7 @@ fn lower_default(flow: &mut Flow<'_>, clauses: &[SelectClause]) -> Result<(), No
 }
 
 /// The test of the next case; the builder then stands where it holds. The answer is the block where it does not.
-fn test(
-    flow: &mut Flow<'_>,
-    chosen: &mut Chosen,
-    at: Pos,
-) -> Result<Option<BlockId>, NoMemory> {
+fn test(flow: &mut Flow<'_>, chosen: &mut Chosen, at: Pos) -> Result<Option<BlockId>, NoMemory> {
     chosen.left = chosen.left.saturating_sub(1);
     let Some(index) = &chosen.index else {
         return Ok(None);

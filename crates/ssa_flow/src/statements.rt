@@ -60,7 +60,9 @@ pub(crate) fn lower_stmt(flow: &mut Flow<'_>, stmt: &TypedStmt) -> Result<(), No
             one,
         } => assign_operated(flow, target, *op, one, *at),
         TypedStmt::Assign {
-            targets, values, ..
+            targets,
+            values,
+            ..
         } => assign(flow, targets.as_slice(), values),
         TypedStmt::AssignOp {
             at,

@@ -126,11 +126,7 @@ pub(crate) fn put(
 }
 
 /// A variable begins with a value.
-pub(crate) fn begin_with(
-    flow: &mut Flow<'_>,
-    var: VarId,
-    value: Operand,
-) -> Result<(), NoMemory> {
+pub(crate) fn begin_with(flow: &mut Flow<'_>, var: VarId, value: Operand) -> Result<(), NoMemory> {
     let at = flow.builder.variable(var)?.at;
     flow.builder.begin_var(var)?;
     flow.builder.write_var(var, value, at)

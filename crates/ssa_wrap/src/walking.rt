@@ -151,12 +151,7 @@ impl Straight {
     }
 
     /// Goes along the embedded fields of a path.
-    pub fn walk(
-        &mut self,
-        types: &mut Types,
-        from: Held,
-        path: &[u32],
-    ) -> Result<Held, NoMemory> {
+    pub fn walk(&mut self, types: &mut Types, from: Held, path: &[u32]) -> Result<Held, NoMemory> {
         let mut held = from;
         for field in path {
             held = self.step(types, held, *field)?;

@@ -90,7 +90,13 @@ fn wrapper_name(
     bytes.extend_from_slice(wanted.word.as_bytes())?;
     push_type(&mut bytes, &program.names, labels, types, wanted.receiver)?;
     bytes.extend_from_slice(b").")?;
-    push_method(&mut bytes, &program.names, labels, wanted.name, wanted.package)?;
+    push_method(
+        &mut bytes,
+        &program.names,
+        labels,
+        wanted.name,
+        wanted.package,
+    )?;
     match std::str::from_utf8(bytes.as_slice()) {
         Ok(text) => Text::new(alloc, text),
         Err(_) => Err(lost()),
