@@ -109,16 +109,12 @@ impl<'a> Workshop<'a> {
 
     fn finish(self) -> Result<Code, NoMemory> {
         let mut workshop = self;
-        let dynamic = std::mem::replace(&mut workshop.dynamic, IndexSet::new(workshop.alloc));
+        let alloc = workshop.alloc;
+        let program = workshop.program;
+        let dynamic = std::mem::replace(&mut workshop.dynamic, IndexSet::new(alloc));
         let mut types = workshop.take_types()?;
-        hold_pointers(workshop.program, &mut types)?;
-        let lines = method_lines(
-            workshop.alloc,
-            workshop.program,
-            &workshop.labels,
-            &types,
-            &dynamic,
-        )?;
+        hold_pointers(program, &mut types)?;
+        let lines = method_lines(alloc, program, &workshop.labels, &types, &dynamic)?;
         let promoted = workshop.promoted(lines.as_slice())?;
         let wrappers = workshop.wrappers(&mut types)?;
         workshop.assemble(types, lines, promoted, wrappers)
