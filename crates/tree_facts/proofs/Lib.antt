@@ -1,4 +1,0 @@
-pub mod Rooting
-pub mod Assigning
-pub mod Meetings
-pub mod Walking

@@ -1,10 +1,5 @@
 //! Which variables need a cell.
 
-ghost use Rattle.std.specs.Prelude.{◌≡◌, Some};
-ghost use Rattle.tree_facts.specs.Assigned.{met_in_block};
-ghost use Rattle.tree_facts.specs.Cells.{needs_cell, needs_in, is_result_with_defer, is_captured_by_any, is_captured_in};
-ghost use Rattle.tree_facts.specs.Meeting.{has_number};
-
 use crate::roots::Roots;
 use go_base::{FuncId, NoMemory, VarId};
 use go_tree::{Body, Program, Variable};
@@ -41,90 +36,47 @@ impl VarSet {
 /// Whether a variable needs a cell in a function: one of the function itself whose address, or that of a part, is taken
 /// there, or of which a part is assigned; that a literal captures; or that is a result where a `defer` stands. And one of
 /// another function that the function captures. A variable of a package needs none.
-pub fn needs_cell(program: &Program, function: FuncId, var: VarId) -> bool
-    ensures { result ≡ needs_cell program.now.variables program.now.bodies function var }
-{
+pub fn needs_cell(program: &Program, function: FuncId, var: VarId) -> bool {
     let Some(variable) = program.variables.as_slice().get(var.number as usize) else {
         return false;
     };
-    let bodies = program.bodies.as_slice();
-    let Some(Some(body)) = bodies.get(function.number as usize) else {
+    let Some(Some(body)) = program.bodies.as_slice().get(function.number as usize) else {
         return false;
     };
     match variable.function {
         None => false,
-        Some(own) => needs_in(program.types.allocator(), bodies, body, function, var, own),
-    }
-}
-
-/// Whether a variable of a function needs a cell in the body of one.
-fn needs_in(
-    alloc: Global,
-    bodies: &[Option<Body>],
-    body: &Body,
-    function: FuncId,
-    var: VarId,
-    own: FuncId,
-) -> bool
-    ensures { result ≡ needs_in bodies.now body.now function var (Some own) }
-{
-    if own.number == function.number {
-        is_result_with_defer(body, var)
-            || is_captured_by_any(bodies, var)
-            || is_met(alloc, body, var)
-    } else {
-        has_number(body.captured.as_slice(), var.number)
+        Some(own) if own == function => {
+            is_result_with_defer(body, var)
+                || is_captured_by_any(program.bodies.as_slice(), var)
+                || is_met(program, body, var)
+        }
+        Some(_) => body.captured.as_slice().contains(&var),
     }
 }
 
 /// Whether a variable is a result of a function with a `defer`.
-fn is_result_with_defer(body: &Body, var: VarId) -> bool
-    ensures { result ≡ is_result_with_defer body.now var }
-{
-    body.has_defer && has_number(body.results.as_slice(), var.number)
+fn is_result_with_defer(body: &Body, var: VarId) -> bool {
+    body.has_defer && body.results.as_slice().contains(&var)
 }
 
 /// Whether a variable is captured in one of the bodies.
-fn is_captured_by_any(bodies: &[Option<Body>], var: VarId) -> bool
-    ensures { result ≡ is_captured_by_any var bodies.now }
-{
+fn is_captured_by_any(bodies: &[Option<Body>], var: VarId) -> bool {
     for body in bodies {
-        if is_captured_in(body, var) {
-            return true;
-        }
-    }
-    false
-}
-
-fn is_captured_in(body: &Option<Body>, var: VarId) -> bool
-    ensures { result ≡ is_captured_in var body.now }
-{
-    match body {
-        Some(body) => has_number(body.captured.as_slice(), var.number),
-        None => false,
-    }
-}
-
-/// Whether a variable of a number is among variables.
-fn has_number(variables: &[VarId], number: u64) -> bool
-    ensures { result ≡ has_number number variables.now }
-{
-    for variable in variables {
-        if number == variable.number {
-            return true;
+        if let Some(body) = body {
+            if body.captured.as_slice().contains(&var) {
+                return true;
+            }
         }
     }
     false
 }
 
 /// Whether the address of a variable or of a part is taken in a body, or a part is assigned.
-fn is_met(alloc: Global, body: &Body, var: VarId) -> bool
-    ensures { result ≡ has_number var.number (met_in_block body.now.block) }
-{
-    let mut roots = Roots::one(alloc, var);
+fn is_met(program: &Program, body: &Body, var: VarId) -> bool {
+    let mut roots = Roots::one(program.types.allocator(), var);
     match roots.in_block(&body.block) {
-        Ok(()) => roots.is_met(),
-        Err(_) => unreachable!(),
+        Ok(()) => roots.is_met,
+        Err(_) => true,
     }
 }
 
@@ -137,7 +89,7 @@ pub fn cells_of(alloc: Global, program: &Program, function: FuncId) -> Result<Va
     let mut roots = Roots::all(alloc);
     roots.in_block(&body.block)?;
     let variables = program.variables.as_slice();
-    push_own(&mut items, variables, function, roots.met())?;
+    push_own(&mut items, variables, function, &roots.met)?;
     if body.has_defer {
         push_own(&mut items, variables, function, body.results.as_slice())?;
     }

@@ -1,16 +1,9 @@
 //! The variables whose address, or that of a part, is taken in an expression.
 
-ghost use Rattle.std.specs.Prelude.{◌≡◌, ◌→◌, [], None, Some, false, OnOk, IsOk, IsSome};
-ghost use Rattle.std.specs.Global.{Box};
-ghost use Rattle.go_tree.specs.declared.exprs.TypedExpr.{TypedExpr as Expression};
-ghost use Rattle.tree_facts.specs.Meeting.{after};
-ghost use Rattle.tree_facts.specs.Roots.{if_some, met_if, met_each, roots_expr, roots_callee, roots_values, roots_elements, roots_field, roots_item, roots_entry};
-
 use crate::places::root_of;
 use go_base::{NoMemory, VarId};
 use go_tree::{Callee, Elements, EntryInit, ExprKind, FieldInit, ItemInit, TypedExpr, Values};
 use std::alloc::Global;
-use std::marker::Model;
 
 /// Variables that are looked for: all of them, or one.
 #[derive(Drop)]
@@ -18,25 +11,14 @@ pub struct Roots {
     /// The one that is looked for; None where all are.
     wanted: Option<VarId>,
     /// Whether it was met.
-    is_met: bool,
+    pub is_met: bool,
     /// Those that were met, where all are looked for.
-    met: Vec<VarId>,
+    pub met: Vec<VarId>,
 }
 
-impl Model for Roots {
-    ghost use Rattle.tree_facts.specs.Meeting.{Meeting};
-
-    ghost Value = { Meeting };
-
-    ghost view = { λ r. record { wanted = r.wanted; is_met = r.is_met; met = r.met.items } };
-}
-
-#[tactic(auto, using(crate::proofs::Walking::walking))]
 impl Roots {
     /// All are looked for.
-    pub fn all(alloc: Global) -> Roots
-        ensures { result ≡ record { wanted = None; is_met = false; met = [] } }
-    {
+    pub fn all(alloc: Global) -> Roots {
         Roots {
             wanted: None,
             is_met: false,
@@ -45,9 +27,7 @@ impl Roots {
     }
 
     /// One is looked for. No memory is taken, so no call fails.
-    pub fn one(alloc: Global, wanted: VarId) -> Roots
-        ensures { result ≡ record { wanted = Some wanted; is_met = false; met = [] } }
-    {
+    pub fn one(alloc: Global, wanted: VarId) -> Roots {
         Roots {
             wanted: Some(wanted),
             is_met: false,
@@ -55,26 +35,8 @@ impl Roots {
         }
     }
 
-    /// Whether the one that is looked for was met.
-    pub fn is_met(&self) -> bool
-        ensures { result ≡ self.now.is_met }
-    {
-        self.is_met
-    }
-
-    /// Those that were met, where all are looked for.
-    pub fn met(&self) -> &[VarId]
-        ensures { result.now ≡ self.now.met }
-    {
-        self.met.as_slice()
-    }
-
     /// A variable is met, if there is one.
-    pub fn meet(&mut self, variable: Option<VarId>) -> Result<(), NoMemory>
-        ensures met { OnOk result (self.new ≡ after (if_some variable) self.old) }
-        ensures wanted { OnOk result (self.new.wanted ≡ self.old.wanted) }
-        ensures sure { IsSome self.old.wanted → IsOk result }
-    {
+    pub fn meet(&mut self, variable: Option<VarId>) -> Result<(), NoMemory> {
         let Some(variable) = variable else {
             return Ok(());
         };
@@ -91,11 +53,7 @@ impl Roots {
 
     /// Those of an expression.
     #[cycle(roots)]
-    pub fn in_expr(&mut self, expr: &TypedExpr) -> Result<(), NoMemory>
-        ensures met { OnOk result (self.new ≡ after ((roots_expr expr.now).met) self.old) }
-        ensures wanted { OnOk result (self.new.wanted ≡ self.old.wanted) }
-        ensures sure { IsSome self.old.wanted → IsOk result }
-    {
+    pub fn in_expr(&mut self, expr: &TypedExpr) -> Result<(), NoMemory> {
         match &expr.kind {
             ExprKind::ConstOf(_)
             | ExprKind::NilOf
@@ -153,11 +111,7 @@ impl Roots {
     }
 
     #[cycle(roots)]
-    fn in_option(&mut self, expr: &Option<Box<TypedExpr>>) -> Result<(), NoMemory>
-        ensures met { OnOk result (self.new ≡ after (met_if (λ (y : Box Expression). roots_expr y.value) expr.now) self.old) }
-        ensures wanted { OnOk result (self.new.wanted ≡ self.old.wanted) }
-        ensures sure { IsSome self.old.wanted → IsOk result }
-    {
+    fn in_option(&mut self, expr: &Option<Box<TypedExpr>>) -> Result<(), NoMemory> {
         match expr {
             Some(expr) => self.in_expr(expr),
             None => Ok(()),
@@ -166,11 +120,7 @@ impl Roots {
 
     /// Those of a list of expressions.
     #[cycle(roots)]
-    pub fn in_list(&mut self, exprs: &[TypedExpr]) -> Result<(), NoMemory>
-        ensures met { OnOk result (self.new ≡ after (met_each roots_expr exprs.now) self.old) }
-        ensures wanted { OnOk result (self.new.wanted ≡ self.old.wanted) }
-        ensures sure { IsSome self.old.wanted → IsOk result }
-    {
+    pub fn in_list(&mut self, exprs: &[TypedExpr]) -> Result<(), NoMemory> {
         for expr in exprs {
             self.in_expr(expr)?;
         }
@@ -178,11 +128,7 @@ impl Roots {
     }
 
     #[cycle(roots)]
-    fn in_callee(&mut self, callee: &Callee) -> Result<(), NoMemory>
-        ensures met { OnOk result (self.new ≡ after ((roots_callee callee.now).met) self.old) }
-        ensures wanted { OnOk result (self.new.wanted ≡ self.old.wanted) }
-        ensures sure { IsSome self.old.wanted → IsOk result }
-    {
+    fn in_callee(&mut self, callee: &Callee) -> Result<(), NoMemory> {
         match callee {
             Callee::Function(_) | Callee::Literal(_) => Ok(()),
             Callee::Method { receiver, .. } | Callee::Interface { receiver, .. } => {
@@ -194,11 +140,7 @@ impl Roots {
 
     /// Those of the values of a list.
     #[cycle(roots)]
-    pub fn in_values(&mut self, values: &Values) -> Result<(), NoMemory>
-        ensures met { OnOk result (self.new ≡ after ((roots_values values.now).met) self.old) }
-        ensures wanted { OnOk result (self.new.wanted ≡ self.old.wanted) }
-        ensures sure { IsSome self.old.wanted → IsOk result }
-    {
+    pub fn in_values(&mut self, values: &Values) -> Result<(), NoMemory> {
         match values {
             Values::Each(exprs) => self.in_list(exprs),
             Values::Spread { tuple, parts } => {
@@ -209,11 +151,7 @@ impl Roots {
     }
 
     #[cycle(roots)]
-    fn in_elements(&mut self, elements: &Elements) -> Result<(), NoMemory>
-        ensures met { OnOk result (self.new ≡ after ((roots_elements elements.now).met) self.old) }
-        ensures wanted { OnOk result (self.new.wanted ≡ self.old.wanted) }
-        ensures sure { IsSome self.old.wanted → IsOk result }
-    {
+    fn in_elements(&mut self, elements: &Elements) -> Result<(), NoMemory> {
         match elements {
             Elements::Fields(fields) => self.in_fields(fields),
             Elements::Items { items, .. } => self.in_items(items),
@@ -222,11 +160,7 @@ impl Roots {
     }
 
     #[cycle(roots)]
-    fn in_fields(&mut self, fields: &[FieldInit]) -> Result<(), NoMemory>
-        ensures met { OnOk result (self.new ≡ after (met_each roots_field fields.now) self.old) }
-        ensures wanted { OnOk result (self.new.wanted ≡ self.old.wanted) }
-        ensures sure { IsSome self.old.wanted → IsOk result }
-    {
+    fn in_fields(&mut self, fields: &[FieldInit]) -> Result<(), NoMemory> {
         for field in fields {
             self.in_expr(&field.value)?;
         }
@@ -234,11 +168,7 @@ impl Roots {
     }
 
     #[cycle(roots)]
-    fn in_items(&mut self, items: &[ItemInit]) -> Result<(), NoMemory>
-        ensures met { OnOk result (self.new ≡ after (met_each roots_item items.now) self.old) }
-        ensures wanted { OnOk result (self.new.wanted ≡ self.old.wanted) }
-        ensures sure { IsSome self.old.wanted → IsOk result }
-    {
+    fn in_items(&mut self, items: &[ItemInit]) -> Result<(), NoMemory> {
         for item in items {
             self.in_expr(&item.value)?;
         }
@@ -246,11 +176,7 @@ impl Roots {
     }
 
     #[cycle(roots)]
-    fn in_entries(&mut self, entries: &[EntryInit]) -> Result<(), NoMemory>
-        ensures met { OnOk result (self.new ≡ after (met_each roots_entry entries.now) self.old) }
-        ensures wanted { OnOk result (self.new.wanted ≡ self.old.wanted) }
-        ensures sure { IsSome self.old.wanted → IsOk result }
-    {
+    fn in_entries(&mut self, entries: &[EntryInit]) -> Result<(), NoMemory> {
         for entry in entries {
             self.in_expr(&entry.key)?;
             self.in_expr(&entry.value)?;

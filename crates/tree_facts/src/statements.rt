@@ -1,12 +1,5 @@
 //! The variables whose address, or that of a part, is taken in statements, or of which a part is assigned.
 
-ghost use Rattle.std.specs.Prelude.{◌≡◌, ◌→◌, OnOk, IsOk, IsSome};
-ghost use Rattle.std.specs.Global.{Box};
-ghost use Rattle.go_tree.specs.declared.stmts.TypedStmt.{TypedStmt as Statement};
-ghost use Rattle.tree_facts.specs.Meeting.{after};
-ghost use Rattle.tree_facts.specs.Roots.{met_if, roots_expr, roots_values};
-ghost use Rattle.tree_facts.specs.Assigned.{assigned, in_target, in_targets, in_cases, in_received, in_comm, in_range_targets, met_in_each, met_in_some, met_in_stmt, met_in_block, met_in_arm, met_in_clause, met_in_type_clause, met_in_select_clause};
-
 use crate::places::part_root;
 use crate::roots::Roots;
 use go_base::NoMemory;
@@ -15,24 +8,15 @@ use go_tree::{
     TypedCase, TypedClause, TypedExpr, TypedStmt, Values,
 };
 
-#[tactic(auto, using(crate::proofs::Walking::walking_statements))]
 impl Roots {
     /// Those of a block.
     #[cycle(statement_roots)]
-    pub fn in_block(&mut self, block: &TypedBlock) -> Result<(), NoMemory>
-        ensures met { OnOk result (self.new ≡ after (met_in_block block.now) self.old) }
-        ensures wanted { OnOk result (self.new.wanted ≡ self.old.wanted) }
-        ensures sure { IsSome self.old.wanted → IsOk result }
-    {
+    pub fn in_block(&mut self, block: &TypedBlock) -> Result<(), NoMemory> {
         self.in_statements(&block.statements)
     }
 
     #[cycle(statement_roots)]
-    fn in_statements(&mut self, statements: &[TypedStmt]) -> Result<(), NoMemory>
-        ensures met { OnOk result (self.new ≡ after (met_in_each met_in_stmt statements.now) self.old) }
-        ensures wanted { OnOk result (self.new.wanted ≡ self.old.wanted) }
-        ensures sure { IsSome self.old.wanted → IsOk result }
-    {
+    fn in_statements(&mut self, statements: &[TypedStmt]) -> Result<(), NoMemory> {
         for stmt in statements {
             self.in_statement(stmt)?;
         }
@@ -40,11 +24,7 @@ impl Roots {
     }
 
     #[cycle(statement_roots)]
-    fn in_optional(&mut self, stmt: &Option<Box<TypedStmt>>) -> Result<(), NoMemory>
-        ensures met { OnOk result (self.new ≡ after (met_in_some (λ (y : Box Statement). met_in_stmt y.value) stmt.now) self.old) }
-        ensures wanted { OnOk result (self.new.wanted ≡ self.old.wanted) }
-        ensures sure { IsSome self.old.wanted → IsOk result }
-    {
+    fn in_optional(&mut self, stmt: &Option<Box<TypedStmt>>) -> Result<(), NoMemory> {
         match stmt {
             Some(stmt) => self.in_statement(stmt),
             None => Ok(()),
@@ -52,11 +32,7 @@ impl Roots {
     }
 
     #[cycle(statement_roots)]
-    fn in_statement(&mut self, stmt: &TypedStmt) -> Result<(), NoMemory>
-        ensures met { OnOk result (self.new ≡ after (met_in_stmt stmt.now) self.old) }
-        ensures wanted { OnOk result (self.new.wanted ≡ self.old.wanted) }
-        ensures sure { IsSome self.old.wanted → IsOk result }
-    {
+    fn in_statement(&mut self, stmt: &TypedStmt) -> Result<(), NoMemory> {
         match stmt {
             TypedStmt::Const { .. }
             | TypedStmt::TypeDecl { .. }
@@ -149,11 +125,7 @@ impl Roots {
     }
 
     #[cycle(statement_roots)]
-    fn in_arms(&mut self, arms: &[TypedArm]) -> Result<(), NoMemory>
-        ensures met { OnOk result (self.new ≡ after (met_in_each met_in_arm arms.now) self.old) }
-        ensures wanted { OnOk result (self.new.wanted ≡ self.old.wanted) }
-        ensures sure { IsSome self.old.wanted → IsOk result }
-    {
+    fn in_arms(&mut self, arms: &[TypedArm]) -> Result<(), NoMemory> {
         for arm in arms {
             self.in_optional(&arm.init)?;
             self.in_expr(&arm.condition)?;
@@ -163,11 +135,7 @@ impl Roots {
     }
 
     #[cycle(statement_roots)]
-    fn in_clauses(&mut self, clauses: &[TypedClause]) -> Result<(), NoMemory>
-        ensures met { OnOk result (self.new ≡ after (met_in_each met_in_clause clauses.now) self.old) }
-        ensures wanted { OnOk result (self.new.wanted ≡ self.old.wanted) }
-        ensures sure { IsSome self.old.wanted → IsOk result }
-    {
+    fn in_clauses(&mut self, clauses: &[TypedClause]) -> Result<(), NoMemory> {
         for clause in clauses {
             self.in_cases(&clause.cases)?;
             self.in_block(&clause.body)?;
@@ -176,11 +144,7 @@ impl Roots {
     }
 
     #[cycle(statement_roots)]
-    fn in_type_clauses(&mut self, clauses: &[TypeClause]) -> Result<(), NoMemory>
-        ensures met { OnOk result (self.new ≡ after (met_in_each met_in_type_clause clauses.now) self.old) }
-        ensures wanted { OnOk result (self.new.wanted ≡ self.old.wanted) }
-        ensures sure { IsSome self.old.wanted → IsOk result }
-    {
+    fn in_type_clauses(&mut self, clauses: &[TypeClause]) -> Result<(), NoMemory> {
         for clause in clauses {
             self.in_block(&clause.body)?;
         }
@@ -188,11 +152,7 @@ impl Roots {
     }
 
     #[cycle(statement_roots)]
-    fn in_select(&mut self, clauses: &[SelectClause]) -> Result<(), NoMemory>
-        ensures met { OnOk result (self.new ≡ after (met_in_each met_in_select_clause clauses.now) self.old) }
-        ensures wanted { OnOk result (self.new.wanted ≡ self.old.wanted) }
-        ensures sure { IsSome self.old.wanted → IsOk result }
-    {
+    fn in_select(&mut self, clauses: &[SelectClause]) -> Result<(), NoMemory> {
         for clause in clauses {
             self.in_comm(&clause.comm)?;
             self.in_block(&clause.body)?;
@@ -200,22 +160,14 @@ impl Roots {
         Ok(())
     }
 
-    fn in_cases(&mut self, cases: &[TypedCase]) -> Result<(), NoMemory>
-        ensures met { OnOk result (self.new ≡ after (in_cases cases.now) self.old) }
-        ensures wanted { OnOk result (self.new.wanted ≡ self.old.wanted) }
-        ensures sure { IsSome self.old.wanted → IsOk result }
-    {
+    fn in_cases(&mut self, cases: &[TypedCase]) -> Result<(), NoMemory> {
         for case in cases {
             self.in_expr(&case.value)?;
         }
         Ok(())
     }
 
-    fn in_comm(&mut self, comm: &Comm) -> Result<(), NoMemory>
-        ensures met { OnOk result (self.new ≡ after (in_comm comm.now) self.old) }
-        ensures wanted { OnOk result (self.new.wanted ≡ self.old.wanted) }
-        ensures sure { IsSome self.old.wanted → IsOk result }
-    {
+    fn in_comm(&mut self, comm: &Comm) -> Result<(), NoMemory> {
         match comm {
             Comm::Default => Ok(()),
             Comm::Send { channel, value } => {
@@ -229,11 +181,7 @@ impl Roots {
         }
     }
 
-    fn in_received(&mut self, into: &ReceiveInto) -> Result<(), NoMemory>
-        ensures met { OnOk result (self.new ≡ after (in_received into.now) self.old) }
-        ensures wanted { OnOk result (self.new.wanted ≡ self.old.wanted) }
-        ensures sure { IsSome self.old.wanted → IsOk result }
-    {
+    fn in_received(&mut self, into: &ReceiveInto) -> Result<(), NoMemory> {
         match into {
             ReceiveInto::Nothing | ReceiveInto::Define { .. } => Ok(()),
             ReceiveInto::Assign { targets, parts } => {
@@ -243,11 +191,7 @@ impl Roots {
         }
     }
 
-    fn in_range_targets(&mut self, targets: &RangeTargets) -> Result<(), NoMemory>
-        ensures met { OnOk result (self.new ≡ after (in_range_targets targets.now) self.old) }
-        ensures wanted { OnOk result (self.new.wanted ≡ self.old.wanted) }
-        ensures sure { IsSome self.old.wanted → IsOk result }
-    {
+    fn in_range_targets(&mut self, targets: &RangeTargets) -> Result<(), NoMemory> {
         match targets {
             RangeTargets::None | RangeTargets::Define { .. } => Ok(()),
             RangeTargets::Assign { key, value, parts } => {
@@ -258,33 +202,21 @@ impl Roots {
         }
     }
 
-    fn in_optional_target(&mut self, target: &Option<Target>) -> Result<(), NoMemory>
-        ensures met { OnOk result (self.new ≡ after (met_in_some in_target target.now) self.old) }
-        ensures wanted { OnOk result (self.new.wanted ≡ self.old.wanted) }
-        ensures sure { IsSome self.old.wanted → IsOk result }
-    {
+    fn in_optional_target(&mut self, target: &Option<Target>) -> Result<(), NoMemory> {
         match target {
             Some(target) => self.in_target(target),
             None => Ok(()),
         }
     }
 
-    fn in_targets(&mut self, targets: &[Target]) -> Result<(), NoMemory>
-        ensures met { OnOk result (self.new ≡ after (in_targets targets.now) self.old) }
-        ensures wanted { OnOk result (self.new.wanted ≡ self.old.wanted) }
-        ensures sure { IsSome self.old.wanted → IsOk result }
-    {
+    fn in_targets(&mut self, targets: &[Target]) -> Result<(), NoMemory> {
         for target in targets {
             self.in_target(target)?;
         }
         Ok(())
     }
 
-    fn in_target(&mut self, target: &Target) -> Result<(), NoMemory>
-        ensures met { OnOk result (self.new ≡ after (in_target target.now) self.old) }
-        ensures wanted { OnOk result (self.new.wanted ≡ self.old.wanted) }
-        ensures sure { IsSome self.old.wanted → IsOk result }
-    {
+    fn in_target(&mut self, target: &Target) -> Result<(), NoMemory> {
         match target {
             Target::Blank => Ok(()),
             Target::Place(place) => self.in_assigned(place),
@@ -292,31 +224,19 @@ impl Roots {
     }
 
     /// What is assigned to: where it is a part of a variable, that is met.
-    fn in_assigned(&mut self, place: &TypedExpr) -> Result<(), NoMemory>
-        ensures met { OnOk result (self.new ≡ after (assigned place.now) self.old) }
-        ensures wanted { OnOk result (self.new.wanted ≡ self.old.wanted) }
-        ensures sure { IsSome self.old.wanted → IsOk result }
-    {
+    fn in_assigned(&mut self, place: &TypedExpr) -> Result<(), NoMemory> {
         self.meet(part_root(place))?;
         self.in_expr(place)
     }
 
-    fn in_optional_values(&mut self, values: &Option<Values>) -> Result<(), NoMemory>
-        ensures met { OnOk result (self.new ≡ after (met_if roots_values values.now) self.old) }
-        ensures wanted { OnOk result (self.new.wanted ≡ self.old.wanted) }
-        ensures sure { IsSome self.old.wanted → IsOk result }
-    {
+    fn in_optional_values(&mut self, values: &Option<Values>) -> Result<(), NoMemory> {
         match values {
             Some(values) => self.in_values(values),
             None => Ok(()),
         }
     }
 
-    fn in_optional_expr(&mut self, expr: &Option<TypedExpr>) -> Result<(), NoMemory>
-        ensures met { OnOk result (self.new ≡ after (met_if roots_expr expr.now) self.old) }
-        ensures wanted { OnOk result (self.new.wanted ≡ self.old.wanted) }
-        ensures sure { IsSome self.old.wanted → IsOk result }
-    {
+    fn in_optional_expr(&mut self, expr: &Option<TypedExpr>) -> Result<(), NoMemory> {
         match expr {
             Some(expr) => self.in_expr(expr),
             None => Ok(()),
