@@ -1,5 +1,9 @@
 //! The run of a code.
 
+ghost use Rattle.std.specs.Prelude.{◌≡◌, ◌≤◌, IsErrOf};
+ghost use Rattle.go_base.specs.Devices.{HasFaulted};
+ghost use Rattle.go_interp.specs.Output.{HasWritten};
+
 use crate::error::{RunError, lost};
 use crate::frames::Goroutine;
 use crate::machine::{Machine, Turn};
@@ -23,16 +27,46 @@ pub fn run<O: Sink>(
     choices: &[u32],
     bound: u64,
     out: &mut O,
-) -> Result<Ending, RunError> {
-    let plan = plan(alloc, code)?;
-    let mut machine = start(alloc, code, &plan, choices, bound)?;
+) -> Result<Ending, RunError>
+    ensures written { HasWritten (O.written out.old) (O.written out.new) }
+    ensures fault { IsErrOf result RunError.WriteFault → HasFaulted (O.faults out.old) (O.faults out.new) }
+    ensures later { O.faults out.old ≤ O.faults out.new }
+{
+    match plan(alloc, code) {
+        Ok(plan) => run_plan(alloc, code, &plan, choices, bound, out),
+        Err(_) => Err(RunError::OutOfMemory),
+    }
+}
+
+/// Runs a code that was planned.
+fn run_plan<O: Sink>(
+    alloc: Global,
+    code: &Code,
+    plan: &Plan,
+    choices: &[u32],
+    bound: u64,
+    out: &mut O,
+) -> Result<Ending, RunError>
+    ensures written { HasWritten (O.written out.old) (O.written out.new) }
+    ensures fault { IsErrOf result RunError.WriteFault → HasFaulted (O.faults out.old) (O.faults out.new) }
+    ensures later { O.faults out.old ≤ O.faults out.new }
+{
+    match start(alloc, code, plan, choices, bound) {
+        Ok(machine) => drive(machine, out),
+        Err(_) => Err(RunError::OutOfMemory),
+    }
+}
+
+/// Steps a machine to its end.
+fn drive<O: Sink>(machine: Machine<'_>, out: &mut O) -> Result<Ending, RunError>
+    ensures written { HasWritten (O.written out.old) (O.written out.new) }
+    ensures fault { IsErrOf result RunError.WriteFault → HasFaulted (O.faults out.old) (O.faults out.new) }
+    ensures later { O.faults out.old ≤ O.faults out.new }
+{
+    let mut machine = machine;
     for _ in 0..u64::MAX {
         match machine.step() {
-            Turn::Goes => {
-                if machine.output.len() >= PIECE {
-                    write(&mut machine, out)?;
-                }
-            }
+            Turn::Goes => write_piece(&mut machine, out)?,
             Turn::Ends => return finish(machine, out),
             Turn::WantsMemory => {
                 write(&mut machine, out)?;
@@ -40,7 +74,7 @@ pub fn run<O: Sink>(
             }
         }
     }
-    Err(RunError::from(lost()))
+    Err(without_ending())
 }
 
 /// The machine before its first step.
@@ -74,8 +108,24 @@ fn start<'a>(
     })
 }
 
+/// Writes the output that is kept, where it is long.
+fn write_piece<O: Sink>(machine: &mut Machine<'_>, out: &mut O) -> Result<(), RunError>
+    ensures written { HasWritten (O.written out.old) (O.written out.new) }
+    ensures fault { IsErrOf result RunError.WriteFault → HasFaulted (O.faults out.old) (O.faults out.new) }
+    ensures later { O.faults out.old ≤ O.faults out.new }
+{
+    if machine.output.len() < PIECE {
+        return Ok(());
+    }
+    write(machine, out)
+}
+
 /// Writes the output that is kept.
-fn write<O: Sink>(machine: &mut Machine<'_>, out: &mut O) -> Result<(), RunError> {
+fn write<O: Sink>(machine: &mut Machine<'_>, out: &mut O) -> Result<(), RunError>
+    ensures written { HasWritten (O.written out.old) (O.written out.new) }
+    ensures fault { IsErrOf result RunError.WriteFault → HasFaulted (O.faults out.old) (O.faults out.new) }
+    ensures later { O.faults out.old ≤ O.faults out.new }
+{
     if machine.output.is_empty() {
         return Ok(());
     }
@@ -88,11 +138,24 @@ fn write<O: Sink>(machine: &mut Machine<'_>, out: &mut O) -> Result<(), RunError
     }
 }
 
-fn finish<O: Sink>(machine: Machine<'_>, out: &mut O) -> Result<Ending, RunError> {
+/// Writes the rest of the output.
+fn finish<O: Sink>(machine: Machine<'_>, out: &mut O) -> Result<Ending, RunError>
+    ensures written { HasWritten (O.written out.old) (O.written out.new) }
+    ensures fault { IsErrOf result RunError.WriteFault → HasFaulted (O.faults out.old) (O.faults out.new) }
+    ensures later { O.faults out.old ≤ O.faults out.new }
+{
     let mut machine = machine;
     write(&mut machine, out)?;
     match machine.ending.take() {
         Some(ending) => Ok(ending),
-        None => Err(RunError::from(lost())),
+        None => Err(without_ending()),
     }
+}
+
+/// What a run without an ending answers. It cannot come.
+fn without_ending() -> RunError
+    ensures { result ≡ RunError.OutOfMemory }
+{
+    let NoMemory = lost();
+    RunError::OutOfMemory
 }
