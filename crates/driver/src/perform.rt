@@ -8,15 +8,12 @@ ghost use Rattle.driver.specs.Performing.{IsUsage, outcome_of};
 ghost use Rattle.driver.specs.WholeAnswer.{Answers};
 
 use crate::checking::check_and_work;
+use crate::graphing::generate;
 use crate::outcome::Outcome;
-use crate::work::not_built;
 use command_line::{Command, CommandError, LoadCommand, read_words};
 use go_base::{Files, Sink, Text};
 use go_load::{LoadError, load};
 use std::alloc::Global;
-
-/// The file of a generated program.
-const GENERATED: &str = "gen.go";
 
 /// Does what the words ask for.
 pub fn perform<F: Files, O: Sink>(
@@ -35,7 +32,7 @@ pub fn perform<F: Files, O: Sink>(
     match read_words(alloc, words) {
         Err(CommandError::BadWord(word)) => bad_word(alloc, word),
         Err(CommandError::OutOfMemory) => Outcome::OutOfMemory,
-        Ok(Command::Generate(_)) => not_built(alloc, GENERATED),
+        Ok(Command::Generate(count)) => generate(alloc, count, out),
         Ok(Command::Load(command)) => perform_load(alloc, &command, files, out),
     }
 }

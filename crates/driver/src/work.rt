@@ -10,6 +10,7 @@ ghost use Rattle.driver.specs.Reading.{IsProgram};
 ghost use Rattle.driver.specs.Running.{only_file, first_path, IsNotBuilt, EndsWith, Runs, Works, Writes, Prints};
 
 use crate::first_form::read_program;
+use crate::graphing::list_graph;
 use crate::interpreting::interpret;
 use crate::outcome::Outcome;
 use crate::output::lines;
@@ -33,20 +34,21 @@ pub fn work<O: Sink>(
     ensures fault { result ≡ Outcome.WriteFault → HasFaulted (O.faults out.old) (O.faults out.new) }
     ensures later { O.faults out.old ≤ O.faults out.new }
 {
-    if !runs_alone(command) {
+    if command.build.is_some() {
         return not_built(alloc, first_path(sources));
+    }
+    if let Some(graph) = command.callgraph {
+        if let Some(outcome) = list_graph(alloc, graph, sources, program, out) {
+            return outcome;
+        }
+    }
+    if !command.run {
+        return Outcome::Done;
     }
     match only_file(sources) {
         Some(file) => run_file(alloc, file, command, program, out),
         None => interpret(alloc, program, command, out),
     }
-}
-
-// Whether a run is asked, and nothing else.
-fn runs_alone(command: &LoadCommand) -> bool
-    ensures { result ≡ runs_alone command.now }
-{
-    command.run && command.build.is_none() && command.callgraph.is_none()
 }
 
 // The file of the target, where it has one alone.
