@@ -1,5 +1,8 @@
 //! Edges from what calls ask and what is answered: an answer is a list of functions and of further answers.
 
+ghost use Rattle.std.specs.Prelude.{OnOk};
+ghost use Rattle.cg_solve.specs.LeastSets.{IsIndex, IsClear, search_of};
+
 use crate::candidates::Goal;
 use crate::edges::{Edge, Edges};
 use cg_solve::{Rule, Search, Table, index};
@@ -107,7 +110,11 @@ fn put_given(
     rules: &[Rule],
     table: &Table<Rule>,
     answer: usize,
-) -> Result<(), NoMemory> {
+) -> Result<(), NoMemory>
+    requires index { IsIndex rules.now table.now }
+    requires clear { IsClear rules.now (search_of search.old) }
+    ensures { OnOk result (IsClear rules.now (search_of search.new)) }
+{
     let start = answer_number(answer)?;
     search.solve(rules, table, [start].as_slice())?;
     put_found(alloc, given, answer, search.found())?;

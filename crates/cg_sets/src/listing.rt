@@ -1,8 +1,10 @@
 //! The listing of a call graph: a line for each edge, with caller, site and callee.
 
-ghost use Rattle.std.specs.Prelude.{◌≡◌, ◌≤◌, IsErrOf};
+ghost use Rattle.std.specs.Prelude.{◌≡◌, ◌≤◌, IsErrOf, IsTrue};
 ghost use Rattle.go_base.specs.Devices.{HasFaulted};
 ghost use Rattle.go_base.specs.declared.devices.PrintError.TheVariants.{WriteFault};
+ghost use Rattle.go_load.specs.Loaded.{IsWithin};
+ghost use Rattle.go_load.specs.Sources.{files_of};
 
 use crate::edges::Edges;
 use crate::order::{Line, lines_of};
@@ -138,7 +140,9 @@ fn push_place(
 }
 
 /// Whether a site lies in a file of the program.
-fn lies_in(sources: &Sources, site: Pos) -> bool {
+fn lies_in(sources: &Sources, site: Pos) -> bool
+    ensures { IsTrue result → IsWithin (files_of sources.now) site }
+{
     match sources.file(site.file) {
         Some(file) => site.offset as usize <= file.bytes.len(),
         None => false,

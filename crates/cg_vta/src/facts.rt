@@ -1,5 +1,8 @@
 //! Which values are in the nodes that calls choose of.
 
+ghost use Rattle.std.specs.Prelude.{OnOk};
+ghost use Rattle.cg_solve.specs.LeastSets.{IsIndex, IsClear, search_of};
+
 use cg_sets::{Answers, Call, Candidate, Goal, Numbers, Seed, Site, Sites};
 use cg_solve::{Rule, Search, Table, index, is_marked};
 use cg_uses::{Node, Value};
@@ -106,12 +109,41 @@ fn follow_values(
     let mut facts = Table::new(alloc);
     for value in 0..seeds.len() {
         if values.is_set(value) {
-            search.solve(rules, &table, seeds.row(value))?;
-            put_facts(alloc, &mut facts, nodes, value, search.found())?;
-            search.clear(rules);
+            let row = seeds.row(value);
+            follow_value(
+                alloc,
+                &mut facts,
+                &mut search,
+                rules,
+                &table,
+                nodes,
+                value,
+                row,
+            )?;
         }
     }
     Ok(facts)
+}
+
+/// Follows a value from where it is made.
+fn follow_value(
+    alloc: Global,
+    facts: &mut Table<usize>,
+    search: &mut Search,
+    rules: &[Rule],
+    table: &Table<Rule>,
+    nodes: &Marks,
+    value: usize,
+    seeds: &[usize],
+) -> Result<(), NoMemory>
+    requires index { IsIndex rules.now table.now }
+    requires clear { IsClear rules.now (search_of search.old) }
+    ensures { OnOk result (IsClear rules.now (search_of search.new)) }
+{
+    search.solve(rules, table, seeds)?;
+    put_facts(alloc, facts, nodes, value, search.found())?;
+    search.clear(rules);
+    Ok(())
 }
 
 fn put_facts(
