@@ -5,6 +5,7 @@ ghost use Rattle.cg_solve.specs.LeastSets.{IsIndex, IsClear, search_of};
 
 use crate::candidates::Goal;
 use crate::edges::{Edge, Edges};
+use crate::error::lost;
 use cg_solve::{Rule, Search, Table, index};
 use go_base::{FuncId, NoMemory, Pos};
 use std::alloc::Global;
@@ -26,13 +27,13 @@ pub struct Question {
 
 /// The number of an answer.
 fn answer_number(answer: usize) -> Result<usize, NoMemory> {
-    answer.checked_mul(2).ok_or(NoMemory)
+    answer.checked_mul(2).ok_or(lost())
 }
 
 /// The number of a function among numbers of answers.
 fn function_number(function: FuncId) -> Result<usize, NoMemory> {
-    let even = (function.number as usize).checked_mul(2).ok_or(NoMemory)?;
-    even.checked_add(1).ok_or(NoMemory)
+    let even = (function.number as usize).checked_mul(2).ok_or(lost())?;
+    even.checked_add(1).ok_or(lost())
 }
 
 /// The function of a number. None for that of an answer.

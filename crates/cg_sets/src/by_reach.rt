@@ -5,6 +5,7 @@ use crate::asking::{Question, edges_of, put_answer};
 use crate::by_class::{question_of, target_of};
 use crate::candidates::{Candidate, Goal};
 use crate::edges::Edges;
+use crate::error::lost;
 use crate::sites::{Call, Seed, Site, Sites, sites_of};
 use cg_solve::{Rule, index, is_marked, solve};
 use cg_uses::Value;
@@ -39,8 +40,8 @@ fn fact_number(fact: Fact) -> Result<usize, NoMemory> {
         Fact::Known(value) => (value, 1),
         Fact::Asked(group) => (group, 2),
     };
-    let first = number.checked_mul(3).ok_or(NoMemory)?;
-    first.checked_add(kind).ok_or(NoMemory)
+    let first = number.checked_mul(3).ok_or(lost())?;
+    first.checked_add(kind).ok_or(lost())
 }
 
 /// Whether a fact holds.

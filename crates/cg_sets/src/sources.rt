@@ -1,5 +1,6 @@
 //! The order of files by the bytes of their paths.
 
+use crate::error::lost;
 use go_base::NoMemory;
 use go_load::Sources;
 use std::alloc::Global;
@@ -15,7 +16,7 @@ struct Filed<'a> {
 pub fn file_ranks(alloc: Global, sources: &Sources) -> Result<Vec<usize>, NoMemory> {
     let mut filed = Vec::new(alloc);
     for place in 0..sources.file_count() {
-        let number = u32::try_from(place).map_err(|_| NoMemory)?;
+        let number = u32::try_from(place).map_err(|_| lost())?;
         if let Some(file) = sources.file(number) {
             filed.push(Filed {
                 file: place,

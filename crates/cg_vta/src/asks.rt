@@ -1,5 +1,6 @@
 //! What calls ask: what the values of a node stand for in a group.
 
+use crate::error::lost;
 use cg_sets::{Answers, Asked, Call, Candidate, Goal, Question, Site, put_answer, target_number};
 use cg_solve::{Rule, Table, is_marked};
 use go_base::NoMemory;
@@ -150,7 +151,7 @@ impl Asks {
         };
         match self.asks.get_index_of(&wanted) {
             Some(number) => target_number(goal, number),
-            None => Err(NoMemory),
+            None => Err(lost()),
         }
     }
 

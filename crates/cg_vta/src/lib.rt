@@ -8,6 +8,7 @@
 mod asks;
 mod by_flow;
 mod called;
+mod error;
 mod facts;
 mod passing;
 mod shapes;
