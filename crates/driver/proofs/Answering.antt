@@ -24,8 +24,8 @@ use Rattle.driver.specs.Asked.{runs_alone, asks_nothing}
 use Rattle.driver.specs.Checking.{IsChecked, IsRefusal}
 use Rattle.driver.specs.FirstForm.{HasNoForm, output_of}
 use Rattle.driver.specs.Reading.{IsProgram, Reads}
-use Rattle.driver.specs.Running.{EndsAt, EndsWith, IsRun, IsRunOf, first_form, other, IsOther, several, other_form, IsOutside, IsAnyRun, WritesAny, IsNotBuilt, Prints, Runs, Works, Writes, first_path, only_file, start_of}
-use Rattle.driver.specs.WholeAnswer.{IsRight, IsUnfinished, IsRefused, breaks, checked, outside, generated, Ends, Finishes, Answers, Becomes}
+use Rattle.driver.specs.Running.{EndsAt, EndsWith, IsRun, IsRunOf, first_form, other, several, other_form, IsAnyRun, WritesAny, IsNotBuilt, Prints, Runs, Works, Writes, first_path, only_file, start_of}
+use Rattle.driver.specs.WholeAnswer.{Accepts, IsRight, IsUnfinished, IsRefused, breaks, checked, outside, generated, Finishes, Answers, Becomes}
 
 pub appends_none : (known : Option (List ℕ)) → Appends known known []
 appends_none None = tt
@@ -51,7 +51,7 @@ run_right words files command sources ending output asked loaded run = record { 
 -- a check, and nothing more
 checked_answers : (words : List (List ℕ)) (files : Option Tree) (command : LoadCommand) (sources : Sources) (outcome : Outcome) (known : Option (List ℕ)) → command_of words ≡ Ok (commands.Load command) → IsLoaded files command.target sources → IsChecked command (files_of sources) outcome → Answers words files outcome known known
 checked_answers words files command sources outcome known asked loaded (inl accepted) =
-    let right = record { command = command; asked = asked; nothing_more = accepted.0; sources = sources; loaded = loaded } in
+    let right : Accepts words files = record { command = command; asked = asked; nothing_more = accepted.0; sources = sources; loaded = loaded } in
     subst (λ o. Answers words files o known known) (sym accepted.1) (record { output = []; right = (right, refl); appends = appends_none known })
 checked_answers words files command sources outcome known asked loaded (inr broken) =
     subst (λ o. Answers words files o known known) (sym broken.outcome_is) (record { output = []; right = (checked command sources asked loaded broken.broken, refl); appends = appends_none known })

@@ -1,6 +1,4 @@
 use Rattle.std.proofs.Common.{arith}
-use Rattle.go_ast.specs.Trees.{view_file}
-use Rattle.driver.specs.FirstForm.{output_of}
 use Rattle.driver.proofs.Answering.{bound_ends, print_ends}
 use Rattle.driver.proofs.work.run_program.Goals as goal
 

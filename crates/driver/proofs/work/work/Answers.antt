@@ -1,6 +1,5 @@
 use Rattle.std.proofs.Common.{◌≡◌, Some, None, sym, rules}
 use Rattle.go_load.specs.Sources.{files_of}
-use Rattle.go_load.specs.declared.sources.SourceFile.{SourceFile}
 use Rattle.driver.specs.Running.{only_file}
 use Rattle.driver.proofs.Answering.{runs_works, several_works}
 use Rattle.driver.proofs.work.work.Goals as goal
