@@ -24,7 +24,7 @@ use Rattle.driver.specs.Asked.{runs_alone, asks_nothing}
 use Rattle.driver.specs.Checking.{IsChecked, IsRefusal}
 use Rattle.driver.specs.FirstForm.{HasNoForm, output_of}
 use Rattle.driver.specs.Reading.{IsProgram, Reads}
-use Rattle.driver.specs.Running.{EndsAt, EndsWith, IsRun, IsRunOf, other_form, IsNotBuilt, Prints, Runs, Works, Writes, first_path, only_file, start_of}
+use Rattle.driver.specs.Running.{EndsAt, EndsWith, IsRun, IsRunOf, first_form, other, several, other_form, IsAnyRun, WritesAny, IsNotBuilt, Prints, Runs, Works, Writes, first_path, only_file, start_of}
 use Rattle.driver.specs.WholeAnswer.{Accepts, IsRight, IsUnfinished, IsRefused, breaks, checked, outside, generated, Finishes, Answers, Becomes}
 
 pub appends_none : (known : Option (List ℕ)) → Appends known known []
@@ -76,9 +76,9 @@ works_answers words files command sources outcome old new asked loaded (inl w) =
     go (inr failed) =
         let stops : IsUnfinished words files old new = inr (record { outcome = outcomes.Ended w.ending; output = w.output; right = right; appends = failed.1 }) in
         elim failed.0 [ inl e ↦ subst (λ o. Answers words files o old new) (sym e) stops | inr e ↦ subst (λ o. Answers words files o old new) (sym e) stops ]
-works_answers words files command sources outcome old new asked loaded (inr (inl other)) =
-    subst (λ (k : Option (List ℕ)). Answers words files outcome old k) (sym other.1.1)
-    (unbuilt_answers words files (first_path (files_of sources)) outcome old (outside command sources asked loaded other.0 refl refl) other.1.0)
+works_answers words files command sources outcome old new asked loaded (inr (inl outer)) =
+    subst (λ (k : Option (List ℕ)). Answers words files outcome old k) (sym outer.1.1)
+    (unbuilt_answers words files (first_path (files_of sources)) outcome old (outside command sources asked loaded outer.0 refl refl) outer.1.0)
 works_answers words files command sources outcome old new asked loaded (inr (inr (inl is))) =
     subst (λ (k : Option (List ℕ)). Answers words files outcome old k) (sym is.1) (checked_answers words files command sources outcome old asked loaded is.0)
 works_answers words files command sources outcome old new asked loaded (inr (inr (inr wants))) =
@@ -149,22 +149,17 @@ program_runs file bound program outcome old new is w =
     inl (written_again (EndsWith bound (output_of file.bytes (view_file program))) (IsRun file bound) outcome old new (λ ending output h. record { tokens = is.tokens; tree = view_file program; form = is.form; ends = h }) w)
 
 -- the run of a file is the work on the program of that file
-pub runs_works : (command : LoadCommand) (files : List SourceFile) (file : SourceFile) (outcome : Outcome) (old new : Option (List ℕ)) → runs_alone command ≡ true → only_file files ≡ Some file → first_path files ≡ file.path → Runs file command.bound outcome old new → Works command files outcome old new
-runs_works command files file outcome old new alone only path (inl w) =
-    inl (written_again (IsRun file command.bound) (IsRunOf command files) outcome old new (λ ending output h. record { alone = alone; file = file; only = only; run = h }) w)
-runs_works command files file outcome old new alone only path (inr (inl h)) =
-    inr (inl (other_form file only h.0, (rw path h.1.0, h.1.1)))
-runs_works command files file outcome old new alone only path (inr (inr wants)) = inr (inr (inr wants))
+pub runs_works : (command : LoadCommand) (files : List SourceFile) (file : SourceFile) (outcome : Outcome) (old new : Option (List ℕ)) → runs_alone command ≡ true → only_file files ≡ Some file → Runs file command.bound outcome old new → Works command files outcome old new
+runs_works command files file outcome old new alone only (inl w) =
+    inl (written_again (IsRun file command.bound) (IsRunOf command files) outcome old new (λ ending output h. first_form alone file only h) w)
+runs_works command files file outcome old new alone only (inr (inl h)) =
+    inl (written_again IsAnyRun (IsRunOf command files) outcome old new (λ ending output u. other alone (other_form file only h.0)) h.1)
+runs_works command files file outcome old new alone only (inr (inr wants)) = inr (inr (inr wants))
 
--- the only file is the first
-pub only_is_first : (files : List SourceFile) (file : SourceFile) → only_file files ≡ Some file → first_path files ≡ file.path
-only_is_first [] file e = cc
-only_is_first (head ∷ []) file e = let same : head ≡ file = cc in ap (λ (f : SourceFile). f.path) same
-only_is_first (head ∷ second ∷ files) file e = go (second.package == 0) e
-  where
-    go : (b : Bool) → cond b None (Some head) ≡ Some file → head.path ≡ file.path
-    go true e = cc
-    go false e = let same : head ≡ file = cc in ap (λ (f : SourceFile). f.path) same
+-- so is that of a target that has several files
+pub several_works : (command : LoadCommand) (files : List SourceFile) (outcome : Outcome) (old new : Option (List ℕ)) → runs_alone command ≡ true → only_file files ≡ None → WritesAny outcome old new → Works command files outcome old new
+several_works command files outcome old new alone none w =
+    inl (written_again IsAnyRun (IsRunOf command files) outcome old new (λ ending output u. other alone (several none)) w)
 
 -- the run of a file whose bytes are a program, as they were read
 pub file_runs : (file : SourceFile) (bound : ℕ) (bytes : List ℕ) (read : Option FileTree) (program : FileTree) (outcome : Outcome) (old new : Option (List ℕ)) → bytes ≡ file.bytes → read ≡ Some program → Reads bytes read → Writes (EndsWith bound (output_of bytes (view_file program))) outcome old new → Runs file bound outcome old new
@@ -173,10 +168,22 @@ file_runs file bound bytes read program outcome old new e s h w =
     let R : Option FileTree → Type 0 = λ r. Reads bytes r in
     subst P (sym e) (λ is v. program_runs file bound program outcome old new is v) (subst R s h) w
 
--- nothing is run where the bytes are no program
-pub file_refused : (file : SourceFile) (bound : ℕ) (bytes : List ℕ) (read : Option FileTree) (path : List ℕ) (outcome : Outcome) (known : Option (List ℕ)) → bytes ≡ file.bytes → read ≡ None → Reads bytes read → path ≡ file.path → IsNotBuilt path outcome → Runs file bound outcome known known
-file_refused file bound bytes read path outcome known e s h p is =
+-- another program is run where the bytes are none of the first form
+pub file_interpreted : (file : SourceFile) (bound : ℕ) (bytes : List ℕ) (read : Option FileTree) (outcome : Outcome) (old new : Option (List ℕ)) → bytes ≡ file.bytes → read ≡ None → Reads bytes read → WritesAny outcome old new → Runs file bound outcome old new
+file_interpreted file bound bytes read outcome old new e s h w =
     let P : List ℕ → Type 0 = λ b. HasNoForm b in
     let R : Option FileTree → Type 0 = λ r. Reads bytes r in
-    let Q : List ℕ → Type 0 = λ q. IsNotBuilt q outcome in
-    inr (inl (subst P e (subst R s h), (subst Q p is, refl)))
+    inr (inl (subst P e (subst R s h), w))
+
+-- a run whose output was written
+pub ran : (ending : Ending) (output : List ℕ) (old new : Option (List ℕ)) → Appends old new output → WritesAny (outcomes.Ended ending) old new
+ran ending output old new appends = record { ending = ending; output = output; is_right = tt; written = inl (refl, appends) }
+
+-- a run that has no ending
+pub stopped_run : (outcome : Outcome) (output : List ℕ) (old new : Option (List ℕ)) → (outcome ≡ outcomes.WriteFault) ⊎ (outcome ≡ outcomes.OutOfMemory) → Appends old new output → WritesAny outcome old new
+stopped_run outcome output old new why appends =
+    record { ending = Bound; output = output; is_right = tt; written = inr (why, whole_front old new output appends) }
+
+-- no run was begun
+pub not_begun : (known : Option (List ℕ)) → WritesAny outcomes.OutOfMemory known known
+not_begun known = stopped_run outcomes.OutOfMemory [] known known (inr refl) (appends_none known)

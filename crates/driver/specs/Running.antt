@@ -1,5 +1,6 @@
--- The run of a program that was loaded: for now of one file that prints literals.
-use Rattle.std.specs.Prelude.{◌≡◌, ℕ, ◌<◌, List, [], ◌∷◌, ◌⊎◌, Option, Some, None, true, false, ◌==◌, if◌then◌else◌}
+-- The run of a program that was loaded: what one file that prints literals writes and how it ends, and for now no more
+-- than that something is written of any other.
+use Rattle.std.specs.Prelude.{◌≡◌, ℕ, ◌<◌, List, [], ◌∷◌, ◌⊎◌, Option, Some, None, true, false, ◌==◌, if◌then◌else◌, Unit}
 use Rattle.std.specs.Io.KnownBytes.{Appends}
 use Rattle.command_line.specs.declared.command.LoadCommand.{LoadCommand}
 use Rattle.go_base.specs.Devices.{AppendsFront}
@@ -52,18 +53,20 @@ pub record IsRun (file : SourceFile) (bound : ℕ) (ending : Ending) (output : L
   pub form : IsFirstForm file.bytes tokens tree
   pub ends : EndsWith bound (output_of file.bytes tree) ending output
 
--- a run is asked, and nothing else, of a target of one file that has the first form
-pub record IsRunOf (command : LoadCommand) (files : List SourceFile) (ending : Ending) (output : List ℕ) : Type 0 where
-  pub alone : runs_alone command ≡ true
-  pub file : SourceFile
-  pub only : only_file files ≡ Some file
-  pub run : IsRun file command.bound ending output
+-- the target is no file that has the first form
+pub data IsOther (files : List SourceFile) : Type 0 where
+  several : only_file files ≡ None → IsOther files
+  other_form : (file : SourceFile) → only_file files ≡ Some file → HasNoForm file.bytes → IsOther files
 
--- something else is asked, or of another program
-pub data IsOutside (command : LoadCommand) (files : List SourceFile) : Type 0 where
-  asks_more : runs_alone command ≡ false → asks_nothing command ≡ false → IsOutside command files
-  several : only_file files ≡ None → IsOutside command files
-  other_form : (file : SourceFile) → only_file files ≡ Some file → HasNoForm file.bytes → IsOutside command files
+-- A run is asked, and nothing else: of a target of one file that has the first form; or of another, of which nothing is
+-- said yet.
+pub data IsRunOf (command : LoadCommand) (files : List SourceFile) (ending : Ending) (output : List ℕ) : Type 0 where
+  first_form : runs_alone command ≡ true → (file : SourceFile) → only_file files ≡ Some file → IsRun file command.bound ending output → IsRunOf command files ending output
+  other : runs_alone command ≡ true → IsOther files → IsRunOf command files ending output
+
+-- something else is asked
+abbrev pub IsOutside : LoadCommand → Type 0
+IsOutside command = (runs_alone command ≡ false) × (asks_nothing command ≡ false)
 
 -- ---- what the parts of the code come to
 
@@ -93,14 +96,22 @@ Prints text outcome old new = Writes (EndsAt text) outcome old new
 abbrev pub Wants : Outcome → Option (List ℕ) → Option (List ℕ) → Type 0
 Wants outcome old new = (outcome ≡ outcomes.OutOfMemory) × (new ≡ old)
 
+-- a run of which nothing is said
+abbrev pub IsAnyRun : Ending → List ℕ → Type 0
+IsAnyRun ending output = Unit {0}
+
+-- something was written, or a front of it where the device has failed or memory is wanted
+abbrev pub WritesAny : Outcome → Option (List ℕ) → Option (List ℕ) → Type 0
+WritesAny outcome old new = Writes IsAnyRun outcome old new
+
 -- what the run of a file comes to
 abbrev pub Runs : SourceFile → ℕ → Outcome → Option (List ℕ) → Option (List ℕ) → Type 0
 Runs file bound outcome old new =
-    Writes (IsRun file bound) outcome old new ⊎ ((HasNoForm file.bytes × Refuses file.path outcome old new) ⊎ Wants outcome old new)
+    Writes (IsRun file bound) outcome old new ⊎ ((HasNoForm file.bytes × WritesAny outcome old new) ⊎ Wants outcome old new)
 
 -- what the work on a program that was loaded comes to
 abbrev pub Works : LoadCommand → List SourceFile → Outcome → Option (List ℕ) → Option (List ℕ) → Type 0
 Works command files outcome old new =
     Writes (IsRunOf command files) outcome old new
-    ⊎ ((IsOutside command files × Refuses (first_path files) outcome old new)
+    ⊎ ((IsOutside command × Refuses (first_path files) outcome old new)
     ⊎ ((IsChecked command files outcome × (new ≡ old)) ⊎ Wants outcome old new))

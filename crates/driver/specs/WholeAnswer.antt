@@ -43,7 +43,7 @@ pub data IsRefused (words : List (List ℕ)) (files : Option Tree) (place : Plac
   -- none is, and one of those that loaded programs are checked for
   checked : (command : LoadCommand) (sources : Sources) → command_of words ≡ Ok (commands.Load command) → IsLoaded files command.target sources → IsBrokenAt (files_of sources) place rule → IsRefused words files place rule
   -- what is asked is not built
-  outside : (command : LoadCommand) (sources : Sources) → command_of words ≡ Ok (commands.Load command) → IsLoaded files command.target sources → IsOutside command (files_of sources) → place ≡ start_of (first_path (files_of sources)) → rule ≡ rules.NotBuiltYet → IsRefused words files place rule
+  outside : (command : LoadCommand) (sources : Sources) → command_of words ≡ Ok (commands.Load command) → IsLoaded files command.target sources → IsOutside command → place ≡ start_of (first_path (files_of sources)) → rule ≡ rules.NotBuiltYet → IsRefused words files place rule
   generated : (count : ℕ) → command_of words ≡ Ok (commands.Generate count) → place ≡ start_of (codes "gen.go") → rule ≡ rules.NotBuiltYet → IsRefused words files place rule
 
 -- The outcome is the right one, with this on standard output. The outcomes that speak of devices and memory are never

@@ -14,7 +14,8 @@ use command_line::LoadCommand;
 use go_base::{Pos, Rule, Sink};
 use go_load::Sources;
 use go_resolve::CheckError;
-use go_stmt::can_run;
+use go_stmt::check;
+use go_tree::Program;
 use std::alloc::Global;
 
 /// Checks a program that was loaded, and does what is asked with it where it breaks no rule.
@@ -28,32 +29,32 @@ pub fn check_and_work<O: Sink>(
     ensures fault { result ≡ Outcome.WriteFault → HasFaulted (O.faults out.old) (O.faults out.new) }
     ensures later { O.faults out.old ≤ O.faults out.new }
 {
-    match can_run(alloc, sources) {
+    match check(alloc, sources) {
         Err(CheckError::Refused { pos, rule }) => refused(alloc, sources, pos, rule),
         Err(CheckError::OutOfMemory) => Outcome::OutOfMemory,
-        Ok(can_run) => work_checked(alloc, command, sources, can_run, out),
+        Ok(program) => work_checked(alloc, command, sources, &program, out),
     }
 }
 
-// Does what is asked with a program that breaks no rule, and that can be run or not.
+// Does what is asked with a program that breaks no rule.
 fn work_checked<O: Sink>(
     alloc: Global,
     command: &LoadCommand,
     sources: &Sources,
-    can_run: bool,
+    program: &Program,
     out: &mut O,
 ) -> Outcome
     ensures works { Works command.now (files_of sources.now) result (O.written out.old) (O.written out.new) }
     ensures fault { result ≡ Outcome.WriteFault → HasFaulted (O.faults out.old) (O.faults out.new) }
     ensures later { O.faults out.old ≤ O.faults out.new }
 {
-    if needs_main(command) && !can_run {
+    if needs_main(command) && program.main.is_none() {
         return refused(alloc, sources, package_name(sources), Rule::NotAMainPackage);
     }
     if asks_nothing(command) {
         return Outcome::Done;
     }
-    work(alloc, command, sources, out)
+    work(alloc, command, sources, program, out)
 }
 
 // Whether what is asked begins at `main`.

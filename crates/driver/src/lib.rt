@@ -5,6 +5,7 @@
 mod call;
 mod checking;
 mod first_form;
+mod interpreting;
 mod outcome;
 mod output;
 mod perform;

@@ -1,4 +1,4 @@
-//! The work on a program that breaks no rule: for now the run of one file that prints literals.
+//! The work on a program that breaks no rule: for now its run. A file that prints literals is run by itself.
 
 ghost use Rattle.std.specs.Prelude.{◌≡◌, ◌≤◌, false, option_copied};
 ghost use Rattle.go_base.specs.Devices.{HasFaulted};
@@ -10,12 +10,14 @@ ghost use Rattle.driver.specs.Reading.{IsProgram};
 ghost use Rattle.driver.specs.Running.{only_file, first_path, IsNotBuilt, EndsWith, Runs, Works, Writes, Prints};
 
 use crate::first_form::read_program;
+use crate::interpreting::interpret;
 use crate::outcome::Outcome;
 use crate::output::lines;
 use command_line::LoadCommand;
 use go_ast::FileTree;
 use go_base::{Ending, Place, Rule, Sink, SinkError, Text};
 use go_load::{SourceFile, Sources};
+use go_tree::Program;
 use std::alloc::Global;
 
 /// Does what is asked, beside a check, with a program that breaks no rule.
@@ -23,6 +25,7 @@ pub fn work<O: Sink>(
     alloc: Global,
     command: &LoadCommand,
     sources: &Sources,
+    program: &Program,
     out: &mut O,
 ) -> Outcome
     requires { asks_nothing command.now ≡ false }
@@ -30,13 +33,13 @@ pub fn work<O: Sink>(
     ensures fault { result ≡ Outcome.WriteFault → HasFaulted (O.faults out.old) (O.faults out.new) }
     ensures later { O.faults out.old ≤ O.faults out.new }
 {
-    let Some(file) = only_file(sources) else {
-        return not_built(alloc, first_path(sources));
-    };
     if !runs_alone(command) {
         return not_built(alloc, first_path(sources));
     }
-    run_file(alloc, file, command.bound, out)
+    match only_file(sources) {
+        Some(file) => run_file(alloc, file, command, program, out),
+        None => interpret(alloc, program, command, out),
+    }
 }
 
 // Whether a run is asked, and nothing else.
@@ -67,21 +70,27 @@ fn first_path(sources: &Sources) -> &str
     }
 }
 
-// Runs the file of a target.
-fn run_file<O: Sink>(alloc: Global, file: &SourceFile, bound: u64, out: &mut O) -> Outcome
-    ensures works { Runs file.now bound result (O.written out.old) (O.written out.new) }
+// Runs the program whose target is one file.
+fn run_file<O: Sink>(
+    alloc: Global,
+    file: &SourceFile,
+    command: &LoadCommand,
+    program: &Program,
+    out: &mut O,
+) -> Outcome
+    ensures works { Runs file.now command.now.bound result (O.written out.old) (O.written out.new) }
     ensures fault { result ≡ Outcome.WriteFault → HasFaulted (O.faults out.old) (O.faults out.new) }
     ensures later { O.faults out.old ≤ O.faults out.new }
 {
     let bytes = file.bytes.as_slice();
     match read_program(alloc, bytes) {
-        Ok(Some(program)) => run_program(alloc, bytes, &program, bound, out),
-        Ok(None) => not_built(alloc, file.path.as_str()),
+        Ok(Some(literals)) => run_program(alloc, bytes, &literals, command.bound, out),
+        Ok(None) => interpret(alloc, program, command, out),
         Err(_) => Outcome::OutOfMemory,
     }
 }
 
-// Runs a program. Each of its events asks for a tick, and the first is the entry of `main`.
+// Runs a program that prints literals. Each of its events asks for a tick, and the first is the entry of `main`.
 fn run_program<O: Sink>(
     alloc: Global,
     bytes: &[u8],

@@ -1,0 +1,11 @@
+//! The text of codes.
+#![tactic(auto)]
+
+mod codes;
+mod functions;
+mod instructions;
+mod operands;
+mod phis;
+mod printing;
+
+pub use printing::{Show, print};
