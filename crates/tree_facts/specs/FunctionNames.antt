@@ -1,5 +1,5 @@
 -- What functions are called, and which are part of the program.
-use Rattle.std.specs.Prelude.{ℕ, zero, suc, ◌+◌, ◌<?◌, ◌==◌, Bool, true, false, ◌&&◌, ◌||◌, not, List, [], ◌∷◌, ◌++◌, codes, slice_get, take, count_by, decimal, Option, Some, None, unwrap_or, length}
+use Rattle.std.specs.Prelude.{ℕ, zero, suc, ◌+◌, nat_lt, ◌==◌, Bool, true, false, ◌&&◌, ◌||◌, not, List, [], ◌∷◌, ◌++◌, codes, slice_get, take, count_by, decimal, Option, Some, None, unwrap_or, length}
 use Rattle.std.specs.Str.{bytes_eq}
 use Rattle.go_base.specs.declared.place.Pos.{Pos}
 use Rattle.go_tree.specs.declared.functions.FunctionDecl.{FunctionDecl}
@@ -25,7 +25,7 @@ is_init (form.Literal within) = false
 
 -- whether a place comes before another
 abbrev pub is_before : Pos → Pos → Bool
-is_before a b = (a.file <? b.file) || ((a.file == b.file) && (a.offset <? b.offset))
+is_before a b = nat_lt a.file b.file || ((a.file == b.file) && nat_lt a.offset b.offset)
 
 abbrev pub is_number : ℕ → Option ℕ → Bool
 is_number n None = false
