@@ -1,6 +1,6 @@
 -- The run of a program that was loaded: what one file that prints literals writes and how it ends, and for now no more
 -- than that something is written of any other.
-use Rattle.std.specs.Prelude.{◌≡◌, ℕ, ◌<◌, List, [], ◌∷◌, ◌⊎◌, Option, Some, None, true, false, ◌==◌, if◌then◌else◌, Unit}
+use Rattle.std.specs.Prelude.{◌≡◌, ℕ, ◌<◌, List, [], ◌∷◌, ◌⊎◌, Option, Some, None, true, false, ◌==◌, if◌then◌else◌}
 use Rattle.std.specs.Io.KnownBytes.{Appends}
 use Rattle.command_line.specs.declared.command.LoadCommand.{LoadCommand}
 use Rattle.go_base.specs.Devices.{AppendsFront}
