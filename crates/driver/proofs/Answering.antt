@@ -1,105 +1,122 @@
 -- From what the parts of a call come to, to its answer.
-use Rattle.std.proofs.Common.{◌≡◌, ◌==◌, ℕ, ◌<◌, Bool, true, false, cond, List, [], ◌∷◌, Option, Some, None, Ok, Err, refl, sym, ap, subst, inl, inr, ◌⊎◌, codes}
-use Rattle.std.proofs.lemmas.List.{append-nil}
-use Rattle.std.specs.Io.KnownBytes.{Appends}
+use Rattle.std.proofs.Common.{◌≡◌, ℕ, List, [], Option, Ok, Err, refl, sym, subst, inl, inr, ◌⊎◌}
+use Rattle.std.proofs.KnownBytes.{Appends-nil}
 use Rattle.command_line.specs.CommandLine.{command_of}
 use Rattle.command_line.specs.declared.command.LoadCommand.{LoadCommand}
 use Rattle.command_line.specs.declared.command.Command.TheVariants as commands
-use Rattle.go_base.specs.Devices.{Tree, AppendsFront, HasFaulted}
+use Rattle.go_base.specs.Devices.{Tree, HasFaulted}
 use Rattle.go_base.specs.declared.ending.Ending.{Ending}
-use Rattle.go_base.specs.declared.ending.Ending.TheVariants.{Bound}
-use Rattle.go_ast.specs.declared.tree.FileTree.{FileTree}
-use Rattle.go_ast.specs.Trees.{view_file}
-use Rattle.go_base.specs.declared.rule.Rule.TheVariants as rules
+use Rattle.go_base.specs.declared.place.Place.{Place}
+use Rattle.go_base.specs.declared.rule.Rule.{Rule}
 use Rattle.go_load.specs.declared.error.LoadError.{LoadError}
 use Rattle.go_load.specs.declared.error.LoadError.TheVariants as errors
-use Rattle.go_load.specs.declared.sources.SourceFile.{SourceFile}
 use Rattle.go_load.specs.declared.program.Sources.{Sources}
 use Rattle.go_load.specs.Sources.{files_of}
 use Rattle.go_load.specs.Answers.{IsLoaded, HasStopped}
 use Rattle.driver.specs.declared.outcome.Outcome.{Outcome}
 use Rattle.driver.specs.declared.outcome.Outcome.TheVariants as outcomes
+use Rattle.driver.specs.declared.stop.Stop.{Stop}
+use Rattle.driver.specs.declared.stop.Stop.TheVariants as stops
+use Rattle.driver.specs.Generating.{IsGenerated}
+use Rattle.driver.specs.Outputs.{Comes, Finishes, IsUnfinished}
 use Rattle.driver.specs.Performing.{IsUsage, outcome_of}
-use Rattle.driver.specs.Asked.{runs_alone}
-use Rattle.driver.specs.FirstForm.{HasNoForm, output_of}
-use Rattle.driver.specs.Reading.{IsProgram, Reads}
-use Rattle.driver.specs.Running.{EndsAt, EndsWith, IsRun, IsRunOf, IsOutside, other_form, IsNotBuilt, Prints, Runs, Works, Writes, first_path, only_file, start_of}
-use Rattle.driver.specs.WholeAnswer.{IsRight, IsUnfinished, IsRefused, breaks, outside, generated, Ends, Finishes, Answers, Becomes}
+use Rattle.driver.specs.Stopping.{outcome_at}
+use Rattle.driver.specs.WholeAnswer.{Answers, Becomes, HasProgram, IsRight, Works, generated, loaded, on_generated, on_loaded}
+use Rattle.driver.specs.Working.{IsResult, broken, done, outside, ran, worked}
+use Rattle.driver.proofs.Written.{finished_stops, finishes_as, unfinished_as}
 
-pub appends_none : (known : Option (List ℕ)) → Appends known known []
-appends_none None = tt
-appends_none (Some bytes) = sym (append-nil bytes)
+-- ---- what is right for what was asked
 
--- nothing is written
-wants_answers : (words : List (List ℕ)) (files : Option Tree) (outcome : Outcome) (known : Option (List ℕ)) → outcome ≡ outcomes.OutOfMemory → Answers words files outcome known known
-wants_answers words files outcome known e = subst (λ o. Answers words files o known known) (sym e) (inl (appends_none known))
+as_done : (words : List (List ℕ)) (files : Option Tree) (outcome : Outcome) (output : List ℕ) → outcome ≡ outcomes.Done → Works words files outcome output → IsRight words files outcome output
+as_done words files outcome output e w = subst (λ (o : Outcome). IsRight words files o output) (sym e) (subst (λ (o : Outcome). Works words files o output) e w)
 
--- what is asked is not built, for a reason
-unbuilt_answers : (words : List (List ℕ)) (files : Option Tree) (path : List ℕ) (outcome : Outcome) (known : Option (List ℕ)) → IsRefused words files (start_of path) rules.NotBuiltYet → IsNotBuilt path outcome → Answers words files outcome known known
-unbuilt_answers words files path outcome known why (inl e) =
-    subst (λ o. Answers words files o known known) (sym e) (record { output = []; right = (why, refl); appends = appends_none known })
-unbuilt_answers words files path outcome known why (inr e) = wants_answers words files outcome known e
+as_ended : (words : List (List ℕ)) (files : Option Tree) (outcome : Outcome) (ending : Ending) (output : List ℕ) → outcome ≡ outcomes.Ended ending → Works words files outcome output → IsRight words files outcome output
+as_ended words files outcome ending output e w = subst (λ (o : Outcome). IsRight words files o output) (sym e) (subst (λ (o : Outcome). Works words files o output) e w)
 
-pub generated_answers : (words : List (List ℕ)) (files : Option Tree) (count : ℕ) (outcome : Outcome) (known : Option (List ℕ)) → command_of words ≡ Ok (commands.Generate count) → IsNotBuilt (codes "gen.go") outcome → Answers words files outcome known known
-generated_answers words files count outcome known asked is = unbuilt_answers words files (codes "gen.go") outcome known (generated count asked refl refl) is
+as_refused : (words : List (List ℕ)) (files : Option Tree) (outcome : Outcome) (place : Place) (rule : Rule) (output : List ℕ) → outcome ≡ outcomes.Refused place rule → Works words files outcome output → IsRight words files outcome output
+as_refused words files outcome place rule output e w = subst (λ (o : Outcome). IsRight words files o output) (sym e) (inr (subst (λ (o : Outcome). Works words files o output) e w))
 
--- what a run is right to come to
-run_right : (words : List (List ℕ)) (files : Option Tree) (command : LoadCommand) (sources : Sources) (ending : Ending) (output : List ℕ) → command_of words ≡ Ok (commands.Load command) → IsLoaded files command.target sources → IsRunOf command (files_of sources) ending output → IsRight words files (outcomes.Ended ending) output
-run_right words files command sources ending output asked loaded run = record { command = command; asked = asked; sources = sources; loaded = loaded; run = run }
-
-pub works_answers : (words : List (List ℕ)) (files : Option Tree) (command : LoadCommand) (sources : Sources) (outcome : Outcome) (old new : Option (List ℕ)) → command_of words ≡ Ok (commands.Load command) → IsLoaded files command.target sources → Works command (files_of sources) outcome old new → Answers words files outcome old new
-works_answers words files command sources outcome old new asked loaded (inl w) = go w.written
+works_right : (words : List (List ℕ)) (files : Option Tree) (command : LoadCommand) (sources : Sources) (outcome : Outcome) (output : List ℕ) → command_of words ≡ Ok (commands.Load command) → IsLoaded files command.target sources → IsResult command (files_of sources) outcome output → IsRight words files outcome output
+works_right words files command sources outcome output asked is result = go result
   where
-    right : IsRight words files (outcomes.Ended w.ending) w.output
-    right = run_right words files command sources w.ending w.output asked loaded w.is_right
+    works : Works words files outcome output
+    works = on_loaded command sources asked is result
 
-    go : ((outcome ≡ outcomes.Ended w.ending) × Appends old new w.output) ⊎ (((outcome ≡ outcomes.WriteFault) ⊎ (outcome ≡ outcomes.OutOfMemory)) × AppendsFront old new w.output) → Answers words files outcome old new
-    go (inl done) = subst (λ o. Answers words files o old new) (sym done.0) (record { output = w.output; right = right; appends = done.1 })
-    go (inr failed) =
-        let stops : IsUnfinished words files old new = inr (record { outcome = outcomes.Ended w.ending; output = w.output; right = right; appends = failed.1 }) in
-        elim failed.0 [ inl e ↦ subst (λ o. Answers words files o old new) (sym e) stops | inr e ↦ subst (λ o. Answers words files o old new) (sym e) stops ]
-works_answers words files command sources outcome old new asked loaded (inr (inl other)) =
-    subst (λ (k : Option (List ℕ)). Answers words files outcome old k) (sym other.1.1)
-    (unbuilt_answers words files (first_path (files_of sources)) outcome old (outside command sources asked loaded other.0 refl refl) other.1.0)
-works_answers words files command sources outcome old new asked loaded (inr (inr wants)) =
-    subst (λ (k : Option (List ℕ)). Answers words files outcome old k) (sym wants.1) (wants_answers words files outcome old wants.0)
+    go : IsResult command (files_of sources) outcome output → IsRight words files outcome output
+    go (broken b n) = as_refused words files outcome b.place b.rule output b.outcome_is works
+    go (outside w e n) = as_refused words files outcome _ _ output e works
+    go (worked w) = elim w.ends [ done idle e n ↦ as_done words files outcome output e works | ran runs ending e run ↦ as_ended words files outcome ending output e works ]
+
+generated_right : (words : List (List ℕ)) (files : Option Tree) (count : ℕ) (outcome : Outcome) (output : List ℕ) → command_of words ≡ Ok (commands.Generate count) → IsGenerated count outcome output → IsRight words files outcome output
+generated_right words files count outcome output asked is = as_ended words files outcome is.ending output is.outcome_is (on_generated count asked is)
+
+-- ---- answers
+
+-- a stop, where a program is there
+stop_answers : (words : List (List ℕ)) (files : Option Tree) (stop : Stop) (old new : Option (List ℕ)) → HasProgram words files → IsUnfinished (IsRight words files) old new → Answers words files (outcome_at stop) old new
+stop_answers words files stops.WriteFault old new has u = u
+stop_answers words files stops.OutOfMemory old new has u = u
+stop_answers words files stops.Internal old new has u = (has, u)
+
+-- an outcome that is right for some output
+finished_answers : (words : List (List ℕ)) (files : Option Tree) (outcome : Outcome) (old new : Option (List ℕ)) → Finishes (IsRight words files) outcome old new → Answers words files outcome old new
+finished_answers words files outcomes.Done old new f = f
+finished_answers words files (outcomes.Ended ending) old new f = f
+finished_answers words files (outcomes.Refused place rule) old new f = f
+finished_answers words files (outcomes.Usage word) old new f = f
+finished_answers words files outcomes.ReadFault old new f = absurd f.is_right
+finished_answers words files outcomes.WriteFault old new f = absurd f.is_right
+finished_answers words files outcomes.OutOfMemory old new f = absurd f.is_right
+finished_answers words files outcomes.InternalError old new f = absurd f.is_right
+
+comes_answers : (words : List (List ℕ)) (files : Option Tree) (right : Outcome → List ℕ → Type 0) (outcome : Outcome) (old new : Option (List ℕ)) → HasProgram words files → ((outcome : Outcome) (output : List ℕ) → right outcome output → IsRight words files outcome output) → Comes right outcome old new → Answers words files outcome old new
+comes_answers words files right outcome old new has turns (inl f) =
+    finished_answers words files outcome old new (finishes_as right (IsRight words files) outcome outcome old new (turns outcome) f)
+comes_answers words files right outcome old new has turns (inr p) =
+    subst (λ (o : Outcome). Answers words files o old new) (sym p.0.1) (stop_answers words files p.0.0 old new has (unfinished_as right (IsRight words files) (λ (o : Outcome). o) old new turns p.1))
+
+pub works_answers : (words : List (List ℕ)) (files : Option Tree) (command : LoadCommand) (sources : Sources) (outcome : Outcome) (old new : Option (List ℕ)) → command_of words ≡ Ok (commands.Load command) → IsLoaded files command.target sources → Comes (IsResult command (files_of sources)) outcome old new → Answers words files outcome old new
+works_answers words files command sources outcome old new asked is c =
+    comes_answers words files (IsResult command (files_of sources)) outcome old new (loaded command sources asked is) (λ outcome output result. works_right words files command sources outcome output asked is result) c
+
+pub generated_answers : (words : List (List ℕ)) (files : Option Tree) (count : ℕ) (outcome : Outcome) (old new : Option (List ℕ)) → command_of words ≡ Ok (commands.Generate count) → Comes (IsGenerated count) outcome old new → Answers words files outcome old new
+generated_answers words files count outcome old new asked c =
+    comes_answers words files (IsGenerated count) outcome old new (generated count asked) (λ outcome output is. generated_right words files count outcome output asked is) c
+
+-- memory is wanted
+wants_answers : (words : List (List ℕ)) (files : Option Tree) (outcome : Outcome) (known : Option (List ℕ)) → outcome ≡ outcomes.OutOfMemory → Answers words files outcome known known
+wants_answers words files outcome known e = subst (λ (o : Outcome). Answers words files o known known) (sym e) (inl (Appends-nil known))
 
 pub stopped_answers : (words : List (List ℕ)) (files : Option Tree) (command : LoadCommand) (error : LoadError) (outcome : Outcome) (known : Option (List ℕ)) → command_of words ≡ Ok (commands.Load command) → HasStopped files command.target error → outcome ≡ outcome_of error → Answers words files outcome known known
 stopped_answers words files command (errors.Refused place rule) outcome known asked why e =
-    subst (λ o. Answers words files o known known) (sym e) (record { output = []; right = (breaks command asked why, refl); appends = appends_none known })
+    subst (λ (o : Outcome). Answers words files o known known) (sym e) (record { output = []; is_right = inl (record { command = command; asked = asked; breaks = why; nothing = refl }); appends = Appends-nil known })
 stopped_answers words files command errors.ReadFault outcome known asked why e =
-    subst (λ o. Answers words files o known known) (sym e) (record { command = command; asked = asked }, appends_none known)
+    subst (λ (o : Outcome). Answers words files o known known) (sym e) (record { command = command; asked = asked }, Appends-nil known)
 stopped_answers words files command errors.OutOfMemory outcome known asked why e = wants_answers words files outcome known e
 
 pub usage_answers : (words : List (List ℕ)) (files : Option Tree) (word : List ℕ) (outcome : Outcome) (known : Option (List ℕ)) → command_of words ≡ Err word → IsUsage word outcome → Answers words files outcome known known
 usage_answers words files word outcome known asked (inl e) =
-    subst (λ o. Answers words files o known known) (sym e) (record { output = []; right = (asked, refl); appends = appends_none known })
+    subst (λ (o : Outcome). Answers words files o known known) (sym e) (record { output = []; is_right = (asked, refl); appends = Appends-nil known })
 usage_answers words files word outcome known asked (inr e) = wants_answers words files outcome known e
 
-whole_front : (old new : Option (List ℕ)) (output : List ℕ) → Appends old new output → AppendsFront old new output
-whole_front old new output appends = record { front = output; rest = []; parts = sym (append-nil output); appends = appends }
-
-finished_stops : (words : List (List ℕ)) (files : Option Tree) (outcome : Outcome) (old new : Option (List ℕ)) → Finishes words files outcome old new → IsUnfinished words files old new
-finished_stops words files outcome old new f =
-    inr (record { outcome = outcome; output = f.output; right = f.right; appends = whole_front old new f.output f.appends })
-
 -- whatever was answered is a front of a right output
-pub unfinished : (words : List (List ℕ)) (files : Option Tree) (outcome : Outcome) (old new : Option (List ℕ)) → Answers words files outcome old new → IsUnfinished words files old new
-unfinished words files outcomes.Done old new a = absurd a.right
-unfinished words files (outcomes.Ended ending) old new a = finished_stops words files (outcomes.Ended ending) old new a
-unfinished words files (outcomes.Refused place rule) old new a = finished_stops words files (outcomes.Refused place rule) old new a
-unfinished words files (outcomes.Usage word) old new a = finished_stops words files (outcomes.Usage word) old new a
+pub unfinished : (words : List (List ℕ)) (files : Option Tree) (outcome : Outcome) (old new : Option (List ℕ)) → Answers words files outcome old new → IsUnfinished (IsRight words files) old new
+unfinished words files outcomes.Done old new a = finished_stops (IsRight words files) outcomes.Done old new a
+unfinished words files (outcomes.Ended ending) old new a = finished_stops (IsRight words files) (outcomes.Ended ending) old new a
+unfinished words files (outcomes.Refused place rule) old new a = finished_stops (IsRight words files) (outcomes.Refused place rule) old new a
+unfinished words files (outcomes.Usage word) old new a = finished_stops (IsRight words files) (outcomes.Usage word) old new a
 unfinished words files outcomes.ReadFault old new a = inl a.1
 unfinished words files outcomes.WriteFault old new a = a
 unfinished words files outcomes.OutOfMemory old new a = a
+unfinished words files outcomes.InternalError old new a = a.1
 
 -- the answer stays one when standard error fails
 pub answers_still : (words : List (List ℕ)) (files : Option Tree) (before now : ℕ) (outcome result : Outcome) (old new : Option (List ℕ)) → Answers words files outcome old new → Becomes before now outcome result → Answers words files result old new
-answers_still words files before now outcome result old new a (inl same) = subst (λ o. Answers words files o old new) (sym same) a
+answers_still words files before now outcome result old new a (inl same) = subst (λ (o : Outcome). Answers words files o old new) (sym same) a
 answers_still words files before now outcome result old new a (inr (inl fault)) =
-    subst (λ o. Answers words files o old new) (sym fault.0) (unfinished words files outcome old new a)
+    subst (λ (o : Outcome). Answers words files o old new) (sym fault.0) (unfinished words files outcome old new a)
 answers_still words files before now outcome result old new a (inr (inr memory)) =
-    subst (λ o. Answers words files o old new) (sym memory) (unfinished words files outcome old new a)
+    subst (λ (o : Outcome). Answers words files o old new) (sym memory) (unfinished words files outcome old new a)
 
 -- a read fault is that of the files
 pub read_fault_was : (before now : ℕ) (outcome result : Outcome) → Becomes before now outcome result → result ≡ outcomes.ReadFault → outcome ≡ outcomes.ReadFault
@@ -112,51 +129,3 @@ pub write_fault_was : (before now : ℕ) (outcome result : Outcome) (P : Type 0)
 write_fault_was before now outcome result P (inl same) h e = inl (h (cc))
 write_fault_was before now outcome result P (inr (inl fault)) h e = inr fault.1
 write_fault_was before now outcome result P (inr (inr memory)) h e = cc
-
--- what was written stays so where it is right for another reason
-pub written_again : (P Q : Ending → List ℕ → Type 0) (outcome : Outcome) (old new : Option (List ℕ)) → ((ending : Ending) (output : List ℕ) → P ending output → Q ending output) → Writes P outcome old new → Writes Q outcome old new
-written_again P Q outcome old new f w = record { ending = w.ending; output = w.output; is_right = f w.ending w.output w.is_right; written = w.written }
-
--- a run whose first tick is not there
-pub bound_ends : (text : List ℕ) (known : Option (List ℕ)) → Writes (EndsWith 0 text) (outcomes.Ended Bound) known known
-bound_ends text known = record { ending = Bound; output = []; is_right = inl (refl, refl, refl); written = inl (refl, appends_none known) }
-
-pub print_ends : (bound : ℕ) (text : List ℕ) (outcome : Outcome) (old new : Option (List ℕ)) → 0 < bound → Prints text outcome old new → Writes (EndsWith bound text) outcome old new
-print_ends bound text outcome old new some w = written_again (EndsAt text) (EndsWith bound text) outcome old new (λ ending output h. inr (some, h.0, h.1)) w
-
-pub program_runs : (file : SourceFile) (bound : ℕ) (program : FileTree) (outcome : Outcome) (old new : Option (List ℕ)) → IsProgram file.bytes program → Writes (EndsWith bound (output_of file.bytes (view_file program))) outcome old new → Runs file bound outcome old new
-program_runs file bound program outcome old new is w =
-    inl (written_again (EndsWith bound (output_of file.bytes (view_file program))) (IsRun file bound) outcome old new (λ ending output h. record { tokens = is.tokens; tree = view_file program; form = is.form; ends = h }) w)
-
--- the run of a file is the work on the program of that file
-pub runs_works : (command : LoadCommand) (files : List SourceFile) (file : SourceFile) (outcome : Outcome) (old new : Option (List ℕ)) → runs_alone command ≡ true → only_file files ≡ Some file → first_path files ≡ file.path → Runs file command.bound outcome old new → Works command files outcome old new
-runs_works command files file outcome old new alone only path (inl w) =
-    inl (written_again (IsRun file command.bound) (IsRunOf command files) outcome old new (λ ending output h. record { alone = alone; file = file; only = only; run = h }) w)
-runs_works command files file outcome old new alone only path (inr (inl h)) =
-    inr (inl (other_form file only h.0, (rw path h.1.0, h.1.1)))
-runs_works command files file outcome old new alone only path (inr (inr wants)) = inr (inr wants)
-
--- the only file is the first
-pub only_is_first : (files : List SourceFile) (file : SourceFile) → only_file files ≡ Some file → first_path files ≡ file.path
-only_is_first [] file e = cc
-only_is_first (head ∷ []) file e = let same : head ≡ file = cc in ap (λ (f : SourceFile). f.path) same
-only_is_first (head ∷ second ∷ files) file e = go (second.package == 0) e
-  where
-    go : (b : Bool) → cond b None (Some head) ≡ Some file → head.path ≡ file.path
-    go true e = cc
-    go false e = let same : head ≡ file = cc in ap (λ (f : SourceFile). f.path) same
-
--- the run of a file whose bytes are a program, as they were read
-pub file_runs : (file : SourceFile) (bound : ℕ) (bytes : List ℕ) (read : Option FileTree) (program : FileTree) (outcome : Outcome) (old new : Option (List ℕ)) → bytes ≡ file.bytes → read ≡ Some program → Reads bytes read → Writes (EndsWith bound (output_of bytes (view_file program))) outcome old new → Runs file bound outcome old new
-file_runs file bound bytes read program outcome old new e s h w =
-    let P : List ℕ → Type 0 = λ b. Reads b (Some program) → Writes (EndsWith bound (output_of b (view_file program))) outcome old new → Runs file bound outcome old new in
-    let R : Option FileTree → Type 0 = λ r. Reads bytes r in
-    subst P (sym e) (λ is v. program_runs file bound program outcome old new is v) (subst R s h) w
-
--- nothing is run where the bytes are no program
-pub file_refused : (file : SourceFile) (bound : ℕ) (bytes : List ℕ) (read : Option FileTree) (path : List ℕ) (outcome : Outcome) (known : Option (List ℕ)) → bytes ≡ file.bytes → read ≡ None → Reads bytes read → path ≡ file.path → IsNotBuilt path outcome → Runs file bound outcome known known
-file_refused file bound bytes read path outcome known e s h p is =
-    let P : List ℕ → Type 0 = λ b. HasNoForm b in
-    let R : Option FileTree → Type 0 = λ r. Reads bytes r in
-    let Q : List ℕ → Type 0 = λ q. IsNotBuilt q outcome in
-    inr (inl (subst P e (subst R s h), (subst Q p is, refl)))

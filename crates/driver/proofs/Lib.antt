@@ -1,2 +1,5 @@
 mod Programs
+mod Written
+mod Sinks
+mod Working
 mod Answering

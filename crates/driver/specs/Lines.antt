@@ -36,3 +36,4 @@ line_for (outcomes.Usage word) = usage_line word
 line_for outcomes.ReadFault = line (codes "ssadump: read fault")
 line_for outcomes.WriteFault = line (codes "ssadump: write fault")
 line_for outcomes.OutOfMemory = line (codes "ssadump: out of memory")
+line_for outcomes.InternalError = line (codes "ssadump: internal error")

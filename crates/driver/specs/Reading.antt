@@ -1,5 +1,5 @@
 -- What reading bytes as a program that prints literals gives.
-use Rattle.std.specs.Prelude.{◌≡◌, ℕ, List, Option, Some, None, All}
+use Rattle.std.specs.Prelude.{ℕ, List, Option, Some, None, All}
 use Rattle.go_ast.specs.declared.token.Token.{Token}
 use Rattle.go_ast.specs.declared.tree.FileTree.{FileTree}
 use Rattle.go_ast.specs.declared.tree.Call.{Call}

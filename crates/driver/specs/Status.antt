@@ -20,3 +20,4 @@ status_of (outcomes.Usage word) = 2
 status_of outcomes.ReadFault = 4
 status_of outcomes.WriteFault = 5
 status_of outcomes.OutOfMemory = 6
+status_of outcomes.InternalError = 7

@@ -1,66 +1,51 @@
 -- The whole answer of a call: which outcome is right for the words and the files, with what on standard output and on
 -- standard error.
-use Rattle.std.specs.Prelude.{◌≡◌, ℕ, List, [], ◌⊎◌, Option, Ok, Err, codes}
+use Rattle.std.specs.Prelude.{◌≡◌, ℕ, List, [], ◌⊎◌, Option, Ok, Err}
 use Rattle.std.specs.Io.KnownBytes.{Appends}
 use Rattle.command_line.specs.CommandLine.{command_of}
 use Rattle.command_line.specs.declared.command.LoadCommand.{LoadCommand}
 use Rattle.command_line.specs.declared.command.Command.TheVariants as commands
 use Rattle.go_base.specs.Devices.{Tree, AppendsFront, HasFaulted}
-use Rattle.go_base.specs.declared.ending.Ending.{Ending}
 use Rattle.go_base.specs.declared.place.Place.{Place}
 use Rattle.go_base.specs.declared.rule.Rule.{Rule}
-use Rattle.go_base.specs.declared.rule.Rule.TheVariants as rules
 use Rattle.go_load.specs.declared.program.Sources.{Sources}
 use Rattle.go_load.specs.Sources.{files_of}
 use Rattle.go_load.specs.Answers.{IsLoaded, Breaks}
 use Rattle.driver.specs.declared.outcome.Outcome.{Outcome}
 use Rattle.driver.specs.declared.outcome.Outcome.TheVariants as outcomes
-use Rattle.driver.specs.Running.{IsRunOf, IsOutside, first_path, start_of}
+use Rattle.driver.specs.Generating.{IsGenerated}
 use Rattle.driver.specs.Lines.{line_for}
+use Rattle.driver.specs.Outputs.{Finishes, IsUnfinished}
+use Rattle.driver.specs.Working.{IsResult}
 
--- a run that is asked of files that are loaded
-pub record Ends (words : List (List ℕ)) (files : Option Tree) (ending : Ending) (output : List ℕ) : Type 0 where
+-- a program is there: one that was loaded for a command, or the generated one
+pub data HasProgram (words : List (List ℕ)) (files : Option Tree) : Type 0 where
+  loaded : (command : LoadCommand) (sources : Sources) → command_of words ≡ Ok (commands.Load command) → IsLoaded files command.target sources → HasProgram words files
+  generated : (count : ℕ) → command_of words ≡ Ok (commands.Generate count) → HasProgram words files
+
+-- what is asked of a program comes to this outcome, with this on standard output
+pub data Works (words : List (List ℕ)) (files : Option Tree) (outcome : Outcome) (output : List ℕ) : Type 0 where
+  on_loaded : (command : LoadCommand) (sources : Sources) → command_of words ≡ Ok (commands.Load command) → IsLoaded files command.target sources → IsResult command (files_of sources) outcome output → Works words files outcome output
+  on_generated : (count : ℕ) → command_of words ≡ Ok (commands.Generate count) → IsGenerated count outcome output → Works words files outcome output
+
+-- a loading rule is broken, and nothing is on standard output
+pub record Refuses (words : List (List ℕ)) (files : Option Tree) (place : Place) (rule : Rule) (output : List ℕ) : Type 0 where
   pub command : LoadCommand
   pub asked : command_of words ≡ Ok (commands.Load command)
-  pub sources : Sources
-  pub loaded : IsLoaded files command.target sources
-  pub run : IsRunOf command (files_of sources) ending output
-
--- why nothing is done, for a command
-pub data IsRefused (words : List (List ℕ)) (files : Option Tree) (place : Place) (rule : Rule) : Type 0 where
-  -- a loading rule is broken
-  breaks : (command : LoadCommand) → command_of words ≡ Ok (commands.Load command) → Breaks files command.target place rule → IsRefused words files place rule
-  -- none is, and what is asked is not built
-  outside : (command : LoadCommand) (sources : Sources) → command_of words ≡ Ok (commands.Load command) → IsLoaded files command.target sources → IsOutside command (files_of sources) → place ≡ start_of (first_path (files_of sources)) → rule ≡ rules.NotBuiltYet → IsRefused words files place rule
-  generated : (count : ℕ) → command_of words ≡ Ok (commands.Generate count) → place ≡ start_of (codes "gen.go") → rule ≡ rules.NotBuiltYet → IsRefused words files place rule
+  pub breaks : Breaks files command.target place rule
+  pub nothing : output ≡ []
 
 -- The outcome is the right one, with this on standard output. The outcomes that speak of devices and memory are never
--- right by words and files alone.
+-- right by words and files alone, and an internal error never is.
 abbrev pub IsRight : List (List ℕ) → Option Tree → Outcome → List ℕ → Type 0
-IsRight words files outcomes.Done output = ⊥
-IsRight words files (outcomes.Ended ending) output = Ends words files ending output
-IsRight words files (outcomes.Refused place rule) output = IsRefused words files place rule × (output ≡ [])
+IsRight words files outcomes.Done output = Works words files outcomes.Done output
+IsRight words files (outcomes.Ended ending) output = Works words files (outcomes.Ended ending) output
+IsRight words files (outcomes.Refused place rule) output = Refuses words files place rule output ⊎ Works words files (outcomes.Refused place rule) output
 IsRight words files (outcomes.Usage word) output = (command_of words ≡ Err word) × (output ≡ [])
 IsRight words files outcomes.ReadFault output = ⊥
 IsRight words files outcomes.WriteFault output = ⊥
 IsRight words files outcomes.OutOfMemory output = ⊥
-
--- a right outcome's output was written
-pub record Finishes (words : List (List ℕ)) (files : Option Tree) (outcome : Outcome) (old new : Option (List ℕ)) : Type 0 where
-  pub output : List ℕ
-  pub right : IsRight words files outcome output
-  pub appends : Appends old new output
-
--- a front of a right outcome's output was written
-pub record StopsIn (words : List (List ℕ)) (files : Option Tree) (old new : Option (List ℕ)) : Type 0 where
-  pub outcome : Outcome
-  pub output : List ℕ
-  pub right : IsRight words files outcome output
-  pub appends : AppendsFront old new output
-
--- nothing was written, or a front of a right output
-abbrev pub IsUnfinished : List (List ℕ) → Option Tree → Option (List ℕ) → Option (List ℕ) → Type 0
-IsUnfinished words files old new = Appends old new [] ⊎ StopsIn words files old new
+IsRight words files outcomes.InternalError output = ⊥
 
 -- a command to load something
 pub record AsksToLoad (words : List (List ℕ)) : Type 0 where
@@ -68,12 +53,14 @@ pub record AsksToLoad (words : List (List ℕ)) : Type 0 where
   pub asked : command_of words ≡ Ok (commands.Load command)
 
 -- What a call answers, and what is on standard output then: nothing after a read fault, which comes only for words
--- that name a target, and a front of a right output after a write fault and want of memory.
+-- that name a target, and a front of a right output after a write fault, want of memory, and an internal error, which
+-- comes only where a program is there.
 abbrev pub Answers : List (List ℕ) → Option Tree → Outcome → Option (List ℕ) → Option (List ℕ) → Type 0
 Answers words files outcomes.ReadFault old new = AsksToLoad words × Appends old new []
-Answers words files outcomes.WriteFault old new = IsUnfinished words files old new
-Answers words files outcomes.OutOfMemory old new = IsUnfinished words files old new
-Answers words files outcome old new = Finishes words files outcome old new
+Answers words files outcomes.WriteFault old new = IsUnfinished (IsRight words files) old new
+Answers words files outcomes.OutOfMemory old new = IsUnfinished (IsRight words files) old new
+Answers words files outcomes.InternalError old new = HasProgram words files × IsUnfinished (IsRight words files) old new
+Answers words files outcome old new = Finishes (IsRight words files) outcome old new
 
 -- a front of the line for some outcome was written
 pub record StopsInLine (old new : Option (List ℕ)) : Type 0 where

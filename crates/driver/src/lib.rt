@@ -3,12 +3,19 @@
 #![tactic(auto)]
 
 mod call;
+mod checking;
+mod coding;
 mod first_form;
+mod generating;
+mod graphs;
+mod literals;
 mod outcome;
 mod output;
 mod perform;
+mod printing;
 mod report;
 mod statuses;
+mod stop;
 mod work;
 
 pub use call::ssadump;

@@ -18,4 +18,7 @@ pub enum Outcome {
     /// Standard output or standard error could not be written.
     WriteFault,
     OutOfMemory,
+    /// What was made of a program that breaks no rule is not what it has to be. That no program shows this is not proved
+    /// yet.
+    InternalError,
 }

@@ -7,15 +7,13 @@ ghost use Rattle.go_base.specs.Devices.{HasFaulted};
 ghost use Rattle.driver.specs.Performing.{IsUsage, outcome_of};
 ghost use Rattle.driver.specs.WholeAnswer.{Answers};
 
+use crate::checking::check_and_work;
+use crate::generating::generate;
 use crate::outcome::Outcome;
-use crate::work::{not_built, work};
 use command_line::{Command, CommandError, LoadCommand, read_words};
 use go_base::{Files, Sink, Text};
 use go_load::{LoadError, load};
 use std::alloc::Global;
-
-/// The file of a generated program.
-const GENERATED: &str = "gen.go";
 
 /// Does what the words ask for.
 pub fn perform<F: Files, O: Sink>(
@@ -34,7 +32,7 @@ pub fn perform<F: Files, O: Sink>(
     match read_words(alloc, words) {
         Err(CommandError::BadWord(word)) => bad_word(alloc, word),
         Err(CommandError::OutOfMemory) => Outcome::OutOfMemory,
-        Ok(Command::Generate(_)) => not_built(alloc, GENERATED),
+        Ok(Command::Generate(count)) => generate(alloc, count, out),
         Ok(Command::Load(command)) => perform_load(alloc, &command, files, out),
     }
 }
@@ -63,7 +61,7 @@ fn perform_load<F: Files, O: Sink>(
     ensures same { F.tree files.new ≡ F.tree files.old }
 {
     match load(alloc, files, &command.target) {
-        Ok(sources) => work(alloc, command, &sources, out),
+        Ok(sources) => check_and_work(alloc, command, &sources, out),
         Err(error) => stopped(error),
     }
 }

@@ -50,6 +50,7 @@ fn line(alloc: Global, outcome: &Outcome) -> Result<String, AllocError>
         Outcome::ReadFault => String::from_str(alloc, "ssadump: read fault\n"),
         Outcome::WriteFault => String::from_str(alloc, "ssadump: write fault\n"),
         Outcome::OutOfMemory => String::from_str(alloc, "ssadump: out of memory\n"),
+        Outcome::InternalError => String::from_str(alloc, "ssadump: internal error\n"),
     }
 }
 

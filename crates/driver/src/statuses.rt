@@ -18,6 +18,7 @@ pub fn status(outcome: &Outcome) -> u8
         Outcome::ReadFault => 4,
         Outcome::WriteFault => 5,
         Outcome::OutOfMemory => 6,
+        Outcome::InternalError => 7,
     }
 }
 

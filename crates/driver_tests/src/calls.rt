@@ -20,37 +20,29 @@ const SOURCES: &[(&str, &str)] = &[
         "// no comment\n123456789012345678\n",
     ),
     ("package main\n\nfunc main() {}\n", ""),
+    ("package main\n\nfunc main() { } // end\n", ""),
+    ("package main\n\nfunc main() { print(\"a\") }\n", "a"),
+    ("package main\n\nfunc main() { println(01) }\n", "1\n"),
+    (
+        "package main\n\nfunc main() { println(\"a\\n\") }\n",
+        "a\n\n",
+    ),
+    ("package main\n\nfunc main() { println(1,) }\n", "1\n"),
 ];
 
 // Sources that are not run, and what is on standard error.
 const REFUSED: &[(&str, &str)] = &[
     (
-        "package main\n\nfunc main() { print(\"a\") }\n",
-        "x.go:1:1: not built yet (X1)\n",
-    ),
-    (
-        "package main\n\nfunc main() { println(01) }\n",
-        "x.go:1:1: not built yet (X1)\n",
-    ),
-    (
-        "package main\n\nfunc main() { println(\"a\\n\") }\n",
-        "x.go:1:1: not built yet (X1)\n",
-    ),
-    (
-        "package main\n\nfunc main() { println(1,) }\n",
-        "x.go:1:1: not built yet (X1)\n",
-    ),
-    (
-        "package main\n\nfunc main() { } // end\n",
-        "x.go:1:1: not built yet (X1)\n",
-    ),
-    (
         "package println\n\nfunc main() { println(1) }\n",
-        "x.go:1:1: not built yet (X1)\n",
+        "x.go:1:9: not a main package (O3)\n",
     ),
     (
         "package main\n\nfunc main() { main(1) }\n",
-        "x.go:1:1: not built yet (X1)\n",
+        "x.go:3:20: wrong number of values (E7)\n",
+    ),
+    (
+        "package main\n\nfunc main() { println(1 << 63) }\n",
+        "x.go:3:23: constant out of range (K1)\n",
     ),
     (
         "package main\n\nfunc main() { println(1) println(2) }\n",
@@ -87,13 +79,11 @@ const LINES: &[(&str, u8, &str)] = &[
     ("-run ./hello.go", 0, ""),
     ("-run .", 0, ""),
     ("-run -bound=0 hello.go", 3, "bound reached\n"),
-    (
-        "-run -callgraph=cha hello.go",
-        1,
-        "hello.go:1:1: not built yet (X1)\n",
-    ),
-    ("hello.go", 1, "hello.go:1:1: not built yet (X1)\n"),
-    ("-gen=3", 1, "gen.go:1:1: not built yet (X1)\n"),
+    ("-run -callgraph=cha hello.go", 0, ""),
+    ("hello.go", 0, ""),
+    ("-build=N hello.go", 0, ""),
+    ("-build=F hello.go", 1, "hello.go:1:1: not built yet (X1)\n"),
+    ("-build=N -run -bound=0 hello.go", 3, "bound reached\n"),
 ];
 
 // Which devices fail (files, standard output, standard error), the status, and what is on standard error.

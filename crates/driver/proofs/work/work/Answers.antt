@@ -1,11 +1,24 @@
-use Rattle.std.proofs.Common.{◌≡◌, Some, sym, rules}
+use Rattle.std.proofs.Common.{Err, ap, sym}
 use Rattle.go_load.specs.Sources.{files_of}
-use Rattle.go_load.specs.declared.sources.SourceFile.{SourceFile}
-use Rattle.driver.specs.Running.{only_file}
-use Rattle.driver.proofs.Answering.{runs_works, only_is_first}
+use Rattle.driver.proofs.Working.{fault_stop, stop_comes, unbuilt_comes, work_faultless, worked_comes}
 use Rattle.driver.proofs.work.work.Goals as goal
 
-pub returns-clause-works : goal.returns-clause-works
-returns-clause-works g c =
-    let only : only_file (files_of c.args.sources.now) ≡ Some c.in-Some.file.now = search rules in
-    runs_works c.args.command.now (files_of c.args.sources.now) c.in-Some.file.now c.run_file.result _ _ (sym c.if-not-runs_alone.ensures) only (only_is_first (files_of c.args.sources.now) c.in-Some.file.now only) c.run_file.ensures.works
+pub returns-then-wants_registers-clause-comes : goal.returns-then-wants_registers-clause-comes
+returns-then-wants_registers-clause-comes g c =
+    unbuilt_comes c.args.command.now (files_of c.args.sources.now) c.first_path.result.now c.not_built.result _ (sym c.if-wants_registers.ensures) c.first_path.ensures c.not_built.ensures
+
+pub returns-in-Ok-clause-comes : goal.returns-in-Ok-clause-comes
+returns-in-Ok-clause-comes g c =
+    worked_comes c.args.command.now (files_of c.args.sources.now) c.in-Ok.outcome _ _ c.in-Ok.ensures.does
+
+pub returns-in-Ok-clause-fault : goal.returns-in-Ok-clause-fault
+returns-in-Ok-clause-fault g c =
+    λ e. absurd (work_faultless c.args.command.now (files_of c.args.sources.now) c.in-Ok.outcome _ _ c.in-Ok.ensures.does e)
+
+pub returns-in-Err-clause-comes : goal.returns-in-Err-clause-comes
+returns-in-Err-clause-comes g c =
+    stop_comes c.args.command.now (files_of c.args.sources.now) c.in-Err.stop c.outcome.result _ _ c.outcome.ensures c.in-Err.ensures.does
+
+pub returns-in-Err-clause-fault : goal.returns-in-Err-clause-fault
+returns-in-Err-clause-fault g c =
+    λ e. c.in-Err.ensures.fault (ap Err (fault_stop c.in-Err.stop c.outcome.result c.outcome.ensures e))

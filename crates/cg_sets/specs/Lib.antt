@@ -1,0 +1,5 @@
+pub mod Alike
+pub mod Asking
+pub mod Candidates
+pub mod Graphs
+pub mod InOrder

@@ -1,0 +1,3 @@
+pub mod LeastSets
+pub mod Lists
+pub mod Tables

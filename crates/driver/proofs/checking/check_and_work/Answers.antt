@@ -1,0 +1,10 @@
+use Rattle.go_load.specs.Sources.{files_of}
+use Rattle.driver.proofs.Working.{refusal_comes, wants_comes}
+use Rattle.driver.specs.Working.{IsResult}
+use Rattle.driver.proofs.checking.check_and_work.Goals as goal
+
+pub returns-in-Err-Refused-clause-comes : goal.returns-in-Err-Refused-clause-comes
+returns-in-Err-Refused-clause-comes g c = refusal_comes c.args.command.now (files_of c.args.sources.now) c.refused.result _ c.refused.ensures
+
+pub returns-in-Err-OutOfMemory-clause-comes : goal.returns-in-Err-OutOfMemory-clause-comes
+returns-in-Err-OutOfMemory-clause-comes g c = wants_comes (IsResult c.args.command.now (files_of c.args.sources.now)) _

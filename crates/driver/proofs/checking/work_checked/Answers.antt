@@ -1,0 +1,7 @@
+use Rattle.go_load.specs.Sources.{files_of}
+use Rattle.driver.proofs.Working.{refusal_comes}
+use Rattle.driver.proofs.checking.work_checked.Goals as goal
+
+pub returns-then-lacks_main-clause-comes : goal.returns-then-lacks_main-clause-comes
+returns-then-lacks_main-clause-comes g c =
+    refusal_comes c.args.command.now (files_of c.args.sources.now) c.refused.result _ c.refused.ensures

@@ -1,0 +1,6 @@
+use Rattle.std.proofs.Common.{◌≡◌, ◌++◌}
+use Rattle.go_gen.specs.Generated.{each_below, call_text}
+use Rattle.go_gen.proofs.generating.push_calls.Given as goal
+
+abbrev pub invariant-loop-k : goal.invariant-loop-k
+invariant-loop-k l = l.text.items ≡ l.fn.text.items ++ each_below call_text l.k

@@ -1,0 +1,124 @@
+//! Frames and goroutines.
+
+use crate::stack::RegStack;
+use code_plan::{BuiltinForm, PlannedFunction, Step};
+use go_base::{NoMemory, Text};
+use go_value::{Address, Fault, Value};
+use std::alloc::Global;
+
+/// What a panic carries.
+#[derive(Drop)]
+pub(crate) enum Thrown {
+    /// A value in an interface.
+    Value(Value),
+    /// The text of a fault, in a code that has no type for its value.
+    Fault(Text),
+}
+
+/// What a frame is about.
+#[derive(Drop)]
+pub(crate) enum FrameState {
+    Running,
+    /// It makes its deferred calls, and then goes on at its place.
+    Returning,
+    /// It makes its deferred calls, and is then removed.
+    Panicking(Thrown),
+}
+
+/// What a function value has besides its function.
+#[derive(Drop)]
+pub(crate) enum Bound {
+    Nothing,
+    Captured(Vec<Address>),
+    Receiver(Value),
+}
+
+/// What is to be called, once its operands are known.
+#[derive(Drop)]
+pub(crate) enum Ready<'a> {
+    Function { function: u32, bound: Bound },
+    Builtin(&'a BuiltinForm),
+    /// A nil function value.
+    Nil,
+}
+
+/// A call that is made later.
+#[derive(Drop)]
+pub(crate) struct Later<'a> {
+    pub ready: Ready<'a>,
+    pub arguments: Vec<Value>,
+    /// How many promotions through embedded interfaces led to it.
+    pub chain: u64,
+}
+
+/// A call of a function that has not returned.
+#[derive(Drop)]
+pub(crate) struct Frame<'a> {
+    pub function: &'a PlannedFunction,
+    pub block: u32,
+    /// The steps of the block.
+    pub steps: &'a [Step],
+    /// The index of the next step.
+    pub step: u32,
+    /// Whether it was started as a deferred call.
+    pub deferred: bool,
+    pub state: FrameState,
+    pub defers: Vec<Later<'a>>,
+    /// The slot of the frame below that gets the results.
+    pub to: Option<u32>,
+    pub chain: u64,
+}
+
+impl<'a> Frame<'a> {
+    /// The frame stands at the beginning of a block.
+    pub fn stand_at(&mut self, block: u32, steps: &'a [Step]) {
+        self.block = block;
+        self.steps = steps;
+        self.step = 0;
+    }
+}
+
+#[derive(Drop)]
+pub(crate) struct Goroutine<'a> {
+    /// The frames below the top one.
+    pub below: Vec<Frame<'a>>,
+    pub top: Option<Frame<'a>>,
+    pub stack: RegStack,
+    /// How many frames of source functions there are.
+    pub sources: u32,
+    /// What it calls as it begins.
+    pub begin: Option<Later<'a>>,
+    /// A fault that it meets as it goes on.
+    pub fault: Option<Fault>,
+}
+
+impl<'a> Goroutine<'a> {
+    /// A goroutine that is to make a call.
+    pub fn new(alloc: Global, begin: Option<Later<'a>>) -> Goroutine<'a> {
+        Goroutine {
+            below: Vec::new(alloc),
+            top: None,
+            stack: RegStack::new(alloc),
+            sources: 0,
+            begin,
+            fault: None,
+        }
+    }
+
+    /// Puts a frame on top.
+    pub fn push(&mut self, frame: Frame<'a>) -> Result<(), NoMemory> {
+        if let Some(top) = self.top.take() {
+            self.below.push(top)?;
+        }
+        self.top = Some(frame);
+        Ok(())
+    }
+
+    /// Takes the top frame.
+    pub fn pop(&mut self) -> Option<Frame<'a>> {
+        let top = self.top.take();
+        self.top = self.below.pop();
+        self.stack.leave();
+        top
+    }
+}

@@ -1,0 +1,194 @@
+//! Goroutines and switch points. Go specification, "Go statements".
+
+use crate::channels::Channel;
+use go_base::{ChanId, GoId, NoMemory};
+use go_value::{Fault, ValueError};
+use std::alloc::{AllocError, AllocFailed, Global};
+
+/// A fault, or want of memory.
+#[derive(Clone, Copy, Debug, PartialEq, Eq)]
+pub enum SchedError {
+    Fault(Fault),
+    OutOfMemory,
+}
+
+impl From<NoMemory> for SchedError {
+    fn from(_: NoMemory) -> SchedError {
+        SchedError::OutOfMemory
+    }
+}
+
+impl From<AllocError> for SchedError {
+    fn from(_: AllocError) -> SchedError {
+        SchedError::OutOfMemory
+    }
+}
+
+impl<T: Drop> From<AllocFailed<T>> for SchedError {
+    fn from(_: AllocFailed<T>) -> SchedError {
+        SchedError::OutOfMemory
+    }
+}
+
+impl From<ValueError> for SchedError {
+    fn from(error: ValueError) -> SchedError {
+        match error {
+            ValueError::Fault(fault) => SchedError::Fault(fault),
+            ValueError::OutOfMemory => SchedError::OutOfMemory,
+        }
+    }
+}
+
+/// Why a goroutine is chosen: the current one goes on, stands last, waits, or has ended.
+#[derive(Clone, Copy, Debug, PartialEq, Eq)]
+pub enum Point {
+    After,
+    Yield,
+    Blocked,
+    Ended,
+}
+
+/// The goroutines, the channels and the choices of a run.
+#[derive(Drop)]
+pub struct Sched {
+    pub(crate) alloc: Global,
+    pub(crate) choices: Vec<u32>,
+    /// How many of the choices were used.
+    pub(crate) used: usize,
+    pub(crate) records: bool,
+    pub(crate) taken: Vec<u32>,
+    /// How many goroutines were made.
+    pub(crate) made: u64,
+    /// The numbers of those that are runnable, ascending.
+    pub(crate) runnable: Vec<u64>,
+    /// For each goroutine the channels at which it waits.
+    pub(crate) waits: Vec<Vec<ChanId>>,
+    pub(crate) current: GoId,
+    pub(crate) channels: Vec<Channel>,
+}
+
+impl Sched {
+    /// Goroutine 0, which is current and runnable, no channels, and the choices that are to be taken.
+    pub fn new(alloc: Global, choices: &[u32]) -> Result<Sched, NoMemory> {
+        Sched::with(alloc, choices, false)
+    }
+
+    /// As `new`, and the numbers that choices take are recorded.
+    pub fn recording(alloc: Global, choices: &[u32]) -> Result<Sched, NoMemory> {
+        Sched::with(alloc, choices, true)
+    }
+
+    fn with(alloc: Global, choices: &[u32], records: bool) -> Result<Sched, NoMemory> {
+        let mut waits = Vec::new(alloc);
+        waits.push(Vec::new(alloc))?;
+        let mut runnable = Vec::new(alloc);
+        runnable.push(0u64)?;
+        Ok(Sched {
+            alloc,
+            choices: Vec::from_slice(alloc, choices)?,
+            used: 0,
+            records,
+            taken: Vec::new(alloc),
+            made: 1,
+            runnable,
+            waits,
+            current: GoId { number: 0 },
+            channels: Vec::new(alloc),
+        })
+    }
+
+    /// The goroutine that runs.
+    pub fn current(&self) -> GoId {
+        self.current
+    }
+
+    /// A new goroutine, which is runnable. After `NoMemory` all is as before.
+    pub fn spawn(&mut self) -> Result<GoId, NoMemory> {
+        let number = self.waits.len() as u64;
+        self.waits.push(Vec::new(self.alloc))?;
+        if self.runnable.push(number).is_err() {
+            let _ = self.waits.pop();
+            return Err(NoMemory);
+        }
+        self.made = self.made.saturating_add(1);
+        Ok(GoId { number })
+    }
+
+    /// A new channel of a size. After `NoMemory` all is as before.
+    pub fn make_chan(&mut self, size: u32) -> Result<ChanId, NoMemory> {
+        let number = self.channels.len() as u64;
+        self.channels.push(Channel::new(self.alloc, size))?;
+        Ok(ChanId { number })
+    }
+
+    /// The number of values in the buffer of a channel; 0 where it is nil.
+    pub fn len(&self, chan: Option<ChanId>) -> u64 {
+        match self.channel(chan) {
+            Some(channel) => channel.queue.len() as u64,
+            None => 0,
+        }
+    }
+
+    /// The size of a channel; 0 where it is nil.
+    pub fn cap(&self, chan: Option<ChanId>) -> u64 {
+        match self.channel(chan) {
+            Some(channel) => u64::from(channel.size),
+            None => 0,
+        }
+    }
+
+    pub(crate) fn channel(&self, chan: Option<ChanId>) -> Option<&Channel> {
+        self.channels.get(chan?.number as usize)
+    }
+
+    /// Where a goroutine stands among those that are runnable, or would stand.
+    fn place(&self, goroutine: GoId) -> usize {
+        self.runnable
+            .as_slice()
+            .partition_point(|number| *number < goroutine.number)
+    }
+
+    fn is_runnable_at(&self, place: usize, goroutine: GoId) -> bool {
+        self.runnable.get(place).copied() == Some(goroutine.number)
+    }
+
+    /// Takes a goroutine out of those that are runnable.
+    pub(crate) fn stop(&mut self, goroutine: GoId) {
+        let place = self.place(goroutine);
+        if self.is_runnable_at(place, goroutine) && place < self.runnable.len() {
+            self.runnable.remove(place);
+        }
+    }
+
+    /// Puts a goroutine among those that are runnable.
+    pub(crate) fn start(&mut self, goroutine: GoId) -> Result<(), NoMemory> {
+        let place = self.place(goroutine);
+        if !self.is_runnable_at(place, goroutine) && place <= self.runnable.len() {
+            self.runnable.insert(place, goroutine.number)?;
+        }
+        Ok(())
+    }
+
+    /// Chooses the goroutine that runs next: among the current one, where it is runnable, and those that are runnable
+    /// after it, in cyclic order. Under `Yield` the current one stands last. None exactly where none is runnable.
+    pub fn switch(&mut self, point: Point) -> Option<GoId> {
+        if point == Point::Ended {
+            self.stop(self.current);
+        }
+        let count = self.runnable.len();
+        if count == 0 {
+            return None;
+        }
+        let place = self.place(self.current);
+        let first = if point == Point::Yield {
+            place.saturating_add(1)
+        } else {
+            place
+        };
+        let chosen = self.pick(count as u64) as usize;
+        let at = first.saturating_add(chosen) % count;
+        let number = self.runnable.get(at).copied()?;
+        self.current = GoId { number };
+        Some(self.current)
+    }
+}

@@ -1,0 +1,505 @@
+//! The initialisers of package variables. Go specification, "Variable declarations", "Package initialization".
+
+use crate::error::lost;
+use crate::literals::{bodies_of_expr, bodies_of_list};
+use go_base::{NoMemory, Pos, Rule, TypeId, VarId};
+use go_faults::Least;
+use go_graph::{Components, components_of, is_graph, on_themselves};
+use go_names::Mentioned;
+use go_syntax::{Decl, DeclLine, ListedExpr, ListedName, ValueSpec};
+use go_tree::Values;
+use std::alloc::Global;
+use std::collections::BTreeMap;
+use stmt_rules::{Holder, Walker, mentions_from};
+use typed_rules::{Into, Listed, Seen, values_into};
+
+/// The values of an initialisation.
+#[derive(Clone, Copy)]
+pub enum Given<'s> {
+    One(&'s ListedExpr),
+    All(&'s [ListedExpr]),
+}
+
+/// The initialisation of one variable by its value, or of several by one call.
+#[derive(Drop)]
+pub struct Initial<'s> {
+    pub package: u32,
+    pub file: u32,
+    /// The name of its first variable.
+    pub at: Pos,
+    pub variables: Vec<VarId>,
+    /// Whether the variables have a written type.
+    pub has_form: bool,
+    pub given: Given<'s>,
+    /// The values, where they are sound.
+    pub values: Option<Values>,
+    /// By variable the type of its value, where that is sound.
+    types: Vec<Option<TypeId>>,
+    is_seen: bool,
+}
+
+/// The initialisations of a program, in the order of packages, files and places.
+#[derive(Drop)]
+pub struct Initials<'s> {
+    pub list: Vec<Initial<'s>>,
+    /// By variable without a written type: which initialisation gives it its value.
+    of_variable: Vec<Option<usize>>,
+}
+
+/// The initialisations of all packages.
+pub fn find_initials<'s>(walker: &Walker<'s>) -> Result<Initials<'s>, NoMemory> {
+    let mut places = BTreeMap::new(walker.alloc);
+    for (index, variable) in walker.scope.variables().iter().enumerate() {
+        places.insert(variable.at, index)?;
+    }
+    let mut list = Vec::new(walker.alloc);
+    for file in files_in_order(walker)? {
+        push_file(walker, &mut list, &places, file)?;
+    }
+    let mut initials = Initials {
+        list,
+        of_variable: Vec::new(walker.alloc),
+    };
+    initials.find_variables(walker.package_variables)?;
+    Ok(initials)
+}
+
+/// The files, in the order of packages and names.
+pub fn files_in_order(walker: &Walker<'_>) -> Result<Vec<u32>, NoMemory> {
+    let mut files = Vec::new(walker.alloc);
+    for package in walker.scope.packages().as_slice() {
+        push_files(walker, &mut files, package.first_file)?;
+    }
+    Ok(files)
+}
+
+/// The files of a package, of which one is the first.
+fn push_files(walker: &Walker<'_>, files: &mut Vec<u32>, first: u32) -> Result<(), NoMemory> {
+    let Some(source) = walker.sources.file(first) else {
+        return Ok(());
+    };
+    for file in first..u32::MAX {
+        match walker.sources.file(file) {
+            Some(other) if other.package == source.package => files.push(file)?,
+            _ => return Ok(()),
+        }
+    }
+    Ok(())
+}
+
+/// The initialisations of a file.
+fn push_file<'s>(
+    walker: &Walker<'s>,
+    list: &mut Vec<Initial<'s>>,
+    places: &BTreeMap<Pos, usize>,
+    file: u32,
+) -> Result<(), NoMemory> {
+    let sources: &'s go_load::Sources = walker.sources;
+    let Some(source) = sources.file(file) else {
+        return Ok(());
+    };
+    let package = match walker.scope.files().file(file) {
+        Some(scope) => scope.package,
+        None => 0,
+    };
+    for line in &source.tree.decls {
+        for spec in variable_specs(line) {
+            push_spec(walker, list, places, package, file, spec)?;
+        }
+    }
+    Ok(())
+}
+
+/// The initialisations of a specification: one for each name and value, or one for all.
+fn push_spec<'s>(
+    walker: &Walker<'s>,
+    list: &mut Vec<Initial<'s>>,
+    places: &BTreeMap<Pos, usize>,
+    package: u32,
+    file: u32,
+    spec: &'s ValueSpec,
+) -> Result<(), NoMemory> {
+    if spec.values.is_empty() {
+        return Ok(());
+    }
+    if spec.values.len() != spec.names.len() {
+        let given = Given::All(spec.values.as_slice());
+        let initial = new_initial(walker, places, package, file, &spec.names, given)?;
+        list.push(with_form(initial, spec.form.is_some()))?;
+        return Ok(());
+    }
+    for (index, value) in spec.values.iter().enumerate() {
+        if let Some(name) = spec.names.get(index) {
+            let names = [*name];
+            let given = Given::One(value);
+            let initial = new_initial(walker, places, package, file, &names, given)?;
+            list.push(with_form(initial, spec.form.is_some()))?;
+        }
+    }
+    Ok(())
+}
+
+fn new_initial<'s>(
+    walker: &Walker<'s>,
+    places: &BTreeMap<Pos, usize>,
+    package: u32,
+    file: u32,
+    names: &[ListedName],
+    given: Given<'s>,
+) -> Result<Initial<'s>, NoMemory> {
+    let mut variables = Vec::new(walker.alloc);
+    for name in names {
+        let at = Pos {
+            file,
+            offset: name.name.start,
+        };
+        let Some(number) = places.get(&at) else {
+            return Err(lost());
+        };
+        variables.push(VarId {
+            number: *number as u64,
+        })?;
+    }
+    let offset = match names.first() {
+        Some(name) => name.name.start,
+        None => 0,
+    };
+    Ok(Initial {
+        package,
+        file,
+        at: Pos { file, offset },
+        variables,
+        has_form: false,
+        given,
+        values: None,
+        types: Vec::new(walker.alloc),
+        is_seen: false,
+    })
+}
+
+/// Types all initialisers: first those of variables without a written type, in an order in which each comes after
+/// those that it names; then the others; then the bodies of the literals in them.
+pub fn walk_initials<'s>(
+    walker: &mut Walker<'s>,
+    initials: &mut Initials<'s>,
+) -> Result<(), NoMemory> {
+    let graph = graph_of_initials(walker, initials)?;
+    in_groups(walker, initials, &graph)?;
+    for (index, initial) in initials.list.iter_mut().enumerate() {
+        if initial.has_form {
+            see_initial(walker, index, initial)?;
+        }
+    }
+    for (index, initial) in initials.list.iter().enumerate() {
+        walker.enter_file(initial.file);
+        let from = walker.scope.mention_count();
+        match initial.given {
+            Given::One(value) => bodies_of_expr(walker, &value.expr)?,
+            Given::All(values) => bodies_of_list(walker, values)?,
+        }
+        walker.read_by(Holder::Step(index), from)?;
+    }
+    Ok(())
+}
+
+/// Types an initialiser.
+fn see_initial<'s>(
+    walker: &mut Walker<'s>,
+    index: usize,
+    initial: &mut Initial<'s>,
+) -> Result<(), NoMemory> {
+    let from = walker.scope.mention_count();
+    let listed = listed_values(walker, initial)?;
+    initial.values = listed.values;
+    initial.types = listed.types;
+    initial.is_seen = true;
+    walker.read_by(Holder::Step(index), from)
+}
+
+/// The values of an initialiser, made ones of the types of its variables.
+fn listed_values<'s>(walker: &mut Walker<'s>, initial: &Initial<'s>) -> Result<Listed, NoMemory> {
+    walker.enter_file(initial.file);
+    let values = see_given(walker, initial.given)?;
+    let mut intos = Vec::new(walker.alloc);
+    for variable in &initial.variables {
+        intos.push(match walker.scope.variable(*variable) {
+            Some(variable) if initial.has_form => Into::Type(variable.of),
+            _ => Into::Any,
+        })?;
+    }
+    values_into(walker.scope.ground(), initial.at, values, &intos, true)
+}
+
+fn see_given<'s>(walker: &mut Walker<'s>, given: Given<'s>) -> Result<Vec<Seen>, NoMemory> {
+    match given {
+        Given::One(value) => {
+            let mut list = Vec::new(walker.alloc);
+            list.push(walker.see(&value.expr)?)?;
+            Ok(list)
+        }
+        Given::All(values) => walker.see_list(values),
+    }
+}
+
+/// A graph of the variables and, behind them, the initialisations: a variable without a written type stands on its
+/// initialisation, and that on the variables without one that it names outside of bodies of literals. The initialisers
+/// are looked at for this while all these variables are unsound: what is broken in them then does not stand on them.
+fn graph_of_initials<'s>(
+    walker: &mut Walker<'s>,
+    initials: &Initials<'s>,
+) -> Result<Vec<Vec<usize>>, NoMemory> {
+    let mut graph = Vec::new(walker.alloc);
+    for variable in 0..walker.package_variables {
+        let mut row = Vec::new(walker.alloc);
+        if let Some(index) = initials.of(variable) {
+            row.push(walker.package_variables.saturating_add(index))?;
+        }
+        graph.push(row)?;
+    }
+    for initial in &initials.list {
+        if initial.has_form {
+            graph.push(Vec::new(walker.alloc))?;
+        } else {
+            let from = walker.scope.mention_count();
+            walker.enter_file(initial.file);
+            let _ = see_given(walker, initial.given)?;
+            graph.push(named_from(walker, initials, from)?)?;
+        }
+    }
+    Ok(graph)
+}
+
+/// The variables without a written type that were read from a mention on.
+fn named_from<'s>(
+    walker: &Walker<'s>,
+    initials: &Initials<'s>,
+    from: usize,
+) -> Result<Vec<usize>, NoMemory> {
+    let mut named = Vec::new(walker.alloc);
+    for mention in mentions_from(walker.scope.mentions().as_slice(), from) {
+        if let Mentioned::Variable(variable) = mention.what {
+            if initials.of(variable.number as usize).is_some() {
+                named.push(variable.number as usize)?;
+            }
+        }
+    }
+    Ok(named)
+}
+
+/// Types the variables without a written type, group by group.
+fn in_groups<'s>(
+    walker: &mut Walker<'s>,
+    initials: &mut Initials<'s>,
+    graph: &[Vec<usize>],
+) -> Result<(), NoMemory> {
+    let (components, cyclic) = groups_of(walker.alloc, graph)?;
+    let mut group = Vec::new(walker.alloc);
+    let mut last = None;
+    for node in &components.order {
+        let number = components.of.get(*node).copied();
+        if number != last {
+            see_group(walker, initials, graph, &components.of, &cyclic, &group)?;
+            group = Vec::new(walker.alloc);
+            last = number;
+        }
+        group.push(*node)?;
+    }
+    see_group(walker, initials, graph, &components.of, &cyclic, &group)
+}
+
+/// Types variables whose initialisers name each other.
+fn see_group<'s>(
+    walker: &mut Walker<'s>,
+    initials: &mut Initials<'s>,
+    graph: &[Vec<usize>],
+    of: &[usize],
+    cyclic: &[bool],
+    group: &[usize],
+) -> Result<(), NoMemory> {
+    let Some(first) = group.first() else {
+        return Ok(());
+    };
+    if cyclic.get(*first).copied() == Some(true) {
+        return see_cycle(walker, initials, graph, of, group);
+    }
+    for node in group {
+        if *node < walker.package_variables {
+            see_variable(walker, initials, *node)?;
+        }
+    }
+    Ok(())
+}
+
+/// Types a variable that is on no cycle.
+fn see_variable<'s>(
+    walker: &mut Walker<'s>,
+    initials: &mut Initials<'s>,
+    variable: usize,
+) -> Result<(), NoMemory> {
+    let Some(index) = initials.of(variable) else {
+        return Ok(());
+    };
+    let Some(initial) = initials.list.get_mut(index) else {
+        return Ok(());
+    };
+    if !initial.is_seen {
+        see_initial(walker, index, initial)?;
+    }
+    let of = initial.type_of(variable);
+    walker.scope.set_type(
+        VarId {
+            number: variable as u64,
+        },
+        of,
+    );
+    Ok(())
+}
+
+/// Looks at the initialisers of variables on a cycle, which are unsound.
+fn see_cycle<'s>(
+    walker: &mut Walker<'s>,
+    initials: &mut Initials<'s>,
+    graph: &[Vec<usize>],
+    of: &[usize],
+    group: &[usize],
+) -> Result<(), NoMemory> {
+    let before = walker.scope.set_least(Least::new());
+    for node in group {
+        if let Some(initial) = initial_at(walker, initials, *node) {
+            let _ = listed_values(walker, initial)?;
+        }
+    }
+    let found = walker.scope.set_least(before);
+    if let Some(fault) = found.fault {
+        let mut least = walker.scope.least();
+        least.report(fault);
+        walker.scope.set_least(least);
+        return Ok(());
+    }
+    if stands_outside(walker, graph, of, group) {
+        return Ok(());
+    }
+    for node in group {
+        if *node < walker.package_variables {
+            report_cycle(walker, *node);
+        }
+    }
+    Ok(())
+}
+
+/// The initialisation that is a node of the graph.
+fn initial_at<'a, 's>(
+    walker: &Walker<'s>,
+    initials: &'a Initials<'s>,
+    node: usize,
+) -> Option<&'a Initial<'s>> {
+    let index = node.checked_sub(walker.package_variables)?;
+    initials.list.get(index)
+}
+
+/// A variable refers to itself.
+fn report_cycle(walker: &mut Walker<'_>, variable: usize) {
+    let id = VarId {
+        number: variable as u64,
+    };
+    if let Some(variable) = walker.scope.variable(id) {
+        walker.enter_file(variable.at.file);
+        walker.report(variable.at, Rule::DeclarationRefersToItself);
+    }
+}
+
+/// Whether an initialiser of a group names an unsound variable that is not in it.
+fn stands_outside(
+    walker: &Walker<'_>,
+    graph: &[Vec<usize>],
+    of: &[usize],
+    group: &[usize],
+) -> bool {
+    for node in group {
+        if let Some(row) = graph.get(*node) {
+            if any_outside(walker, row, of, of.get(*node).copied()) {
+                return true;
+            }
+        }
+    }
+    false
+}
+
+/// Whether one of the variables is unsound, and in another group.
+fn any_outside(walker: &Walker<'_>, row: &[usize], of: &[usize], group: Option<usize>) -> bool {
+    for node in row {
+        let id = VarId {
+            number: *node as u64,
+        };
+        let is_variable = *node < walker.package_variables;
+        if is_variable && of.get(*node).copied() != group && !walker.scope.is_sound(id) {
+            return true;
+        }
+    }
+    false
+}
+
+impl<'s> Initial<'s> {
+    /// The type of the value of a variable.
+    fn type_of(&self, variable: usize) -> Option<TypeId> {
+        for (index, id) in self.variables.iter().enumerate() {
+            if id.number as usize == variable {
+                return self.types.get(index).copied().flatten();
+            }
+        }
+        None
+    }
+}
+
+impl<'s> Initials<'s> {
+    /// Finds which initialisation gives each variable without a written type its value.
+    fn find_variables(&mut self, count: usize) -> Result<(), NoMemory> {
+        for _ in 0..count {
+            self.of_variable.push(None)?;
+        }
+        for (index, initial) in self.list.iter().enumerate() {
+            if !initial.has_form {
+                set_all(&mut self.of_variable, &initial.variables, index);
+            }
+        }
+        Ok(())
+    }
+
+    /// Which initialisation gives a variable without a written type its value.
+    fn of(&self, variable: usize) -> Option<usize> {
+        self.of_variable.get(variable).copied().flatten()
+    }
+}
+
+/// The initialisation, of variables with or without a written type.
+fn with_form<'s>(mut initial: Initial<'s>, has_form: bool) -> Initial<'s> {
+    initial.has_form = has_form;
+    initial
+}
+
+/// The specifications of variables of a declaration.
+fn variable_specs(line: &DeclLine) -> &[ValueSpec] {
+    match &line.decl {
+        Decl::Var { specs, .. } => specs.as_slice(),
+        _ => &[],
+    }
+}
+
+/// Sets the places of variables to a number.
+fn set_all(places: &mut Vec<Option<usize>>, variables: &[VarId], number: usize) {
+    for variable in variables {
+        if let Some(place) = places.get_mut(variable.number as usize) {
+            *place = Some(number);
+        }
+    }
+}
+
+/// The groups of a graph whose nodes stand on each other, and which nodes stand on themselves.
+fn groups_of(alloc: Global, graph: &[Vec<usize>]) -> Result<(Components, Vec<bool>), NoMemory> {
+    if !is_graph(graph) {
+        return Err(lost());
+    }
+    let components = components_of(alloc, graph)?;
+    let cyclic = on_themselves(alloc, graph, &components)?;
+    Ok((components, cyclic))
+}

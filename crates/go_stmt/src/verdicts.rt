@@ -1,0 +1,15 @@
+//! The verdict on a program alone.
+
+use crate::program::check;
+use go_load::Sources;
+use go_resolve::CheckError;
+use std::alloc::Global;
+
+/// Whether a program that breaks no rule can be run: its target is a package main, with a function main. `Refused` with
+/// the first rule that is broken, as `check`.
+pub fn can_run(alloc: Global, sources: &Sources) -> Result<bool, CheckError> {
+    match check(alloc, sources) {
+        Ok(program) => Ok(program.main.is_some()),
+        Err(error) => Err(error),
+    }
+}

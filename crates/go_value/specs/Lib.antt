@@ -1,0 +1,9 @@
+pub mod Address
+pub mod Ints
+pub mod Values
+pub mod Depths
+pub mod Cells
+pub mod Gives
+pub mod Interfaces
+pub mod Slices
+pub mod Stores

@@ -1,0 +1,168 @@
+//! Values.
+
+ghost use Rattle.std.specs.Prelude.{◌≡◌, IfOk, false, map};
+ghost use Rattle.go_value.specs.Values.{value_of, range_of, function_of, part_of, parts_of};
+ghost use Rattle.go_value.specs.Values as vals;
+
+use crate::address::{Address, SliceValue};
+use crate::memory::shared;
+use go_base::{Bytes, ChanId, FuncId, MapId, NameId, NoMemory, TypeId};
+use std::alloc::Global;
+use std::rc::Rc;
+
+/// A value. What owns memory is shared, so that a copy takes none.
+#[cycle(value)]
+#[derive(Drop)]
+pub enum Value {
+    Truth(bool),
+    Int(i128),
+    Text(Rc<Bytes>),
+    Pointer(Address),
+    Slice(Rc<SliceValue>),
+    Map(Option<MapId>),
+    Chan(Option<ChanId>),
+    Func(Rc<FuncValue>),
+    NilInterface,
+    Interface(Rc<Dynamic>),
+    /// An array or a struct; in registers also a tuple.
+    Parts(Rc<Vec<Part>>),
+    /// The state of a range. Of registers alone.
+    Iter(Box<RangeState>),
+}
+
+/// An element or a field.
+#[cycle(value)]
+#[derive(Drop)]
+pub struct Part {
+    pub value: Value,
+    /// Whether it is a field named `_`.
+    pub blank: bool,
+}
+
+/// What an interface holds. The type is no interface.
+#[cycle(value)]
+#[derive(Drop)]
+pub struct Dynamic {
+    pub of: TypeId,
+    pub value: Value,
+}
+
+/// A function value.
+#[cycle(value)]
+#[derive(Drop)]
+pub enum FuncValue {
+    Nil,
+    Closure {
+        function: FuncId,
+        captured: Vec<Address>,
+    },
+    Bound {
+        target: BoundTarget,
+        receiver: Box<Value>,
+    },
+    Expression {
+        receiver: TypeId,
+        name: NameId,
+        package: u32,
+    },
+}
+
+/// What a method value calls.
+#[derive(Clone, Copy, Debug, PartialEq, Eq)]
+pub enum BoundTarget {
+    Function(FuncId),
+    Interface { name: NameId, package: u32 },
+}
+
+/// How far a range over a text or a map has come.
+#[derive(Drop)]
+pub enum RangeState {
+    Text { bytes: Rc<Bytes>, next: u64 },
+    /// The numbers of the entries that were not produced yet, the last first.
+    Map { map: Option<MapId>, left: Vec<u64> },
+}
+
+impl RangeState {
+    /// The same state once more.
+    pub fn copy(&self, alloc: Global) -> Result<RangeState, NoMemory>
+        ensures { IfOk result (λ copy. range_of copy ≡ range_of self.now) }
+    {
+        Ok(match self {
+            RangeState::Text { bytes, next } => RangeState::Text {
+                bytes: bytes.clone()?,
+                next: *next,
+            },
+            RangeState::Map { map, left } => RangeState::Map {
+                map: *map,
+                left: Vec::from_slice(alloc, left.as_slice())?,
+            },
+        })
+    }
+}
+
+impl Value {
+    /// The same value once more. It takes no memory but for the state of a range.
+    #[tactic(auto, using(crate::proofs::Variants::truth_is, crate::proofs::Variants::int_is, crate::proofs::Variants::text_is, crate::proofs::Variants::pointer_is, crate::proofs::Variants::slice_is, crate::proofs::Variants::map_is, crate::proofs::Variants::chan_is, crate::proofs::Variants::func_is, crate::proofs::Variants::nil_interface_is, crate::proofs::Variants::interface_is, crate::proofs::Variants::parts_is, crate::proofs::Variants::iter_is))]
+    pub fn copy(&self, alloc: Global) -> Result<Value, NoMemory>
+        ensures { IfOk result (λ copy. value_of copy ≡ value_of self.now) }
+    {
+        Ok(match self {
+            Value::Truth(truth) => Value::Truth(*truth),
+            Value::Int(number) => Value::Int(*number),
+            Value::Text(text) => Value::Text(text.clone()?),
+            Value::Pointer(address) => Value::Pointer(address.copy()?),
+            Value::Slice(slice) => Value::Slice(slice.clone()?),
+            Value::Map(map) => Value::Map(*map),
+            Value::Chan(chan) => Value::Chan(*chan),
+            Value::Func(function) => Value::Func(function.clone()?),
+            Value::NilInterface => Value::NilInterface,
+            Value::Interface(dynamic) => Value::Interface(dynamic.clone()?),
+            Value::Parts(parts) => Value::Parts(parts.clone()?),
+            Value::Iter(state) => Value::Iter(Box::new(alloc, state.copy(alloc)?)?),
+        })
+    }
+
+    /// The value of a text.
+    #[tactic(auto, using(crate::proofs::Variants::text_is))]
+    pub fn text(alloc: Global, bytes: Bytes) -> Result<Value, NoMemory>
+        ensures { IfOk result (λ value. value_of value ≡ vals.text bytes) }
+    {
+        Ok(Value::Text(shared(alloc, bytes)?))
+    }
+
+    /// The value of a slice.
+    #[tactic(auto, using(crate::proofs::Variants::slice_is))]
+    pub fn slice(alloc: Global, slice: SliceValue) -> Result<Value, NoMemory>
+        ensures { IfOk result (λ value. value_of value ≡ vals.slice slice) }
+    {
+        Ok(Value::Slice(shared(alloc, slice)?))
+    }
+
+    /// The value of a function.
+    #[tactic(auto, using(crate::proofs::Variants::func_is))]
+    pub fn function(alloc: Global, function: FuncValue) -> Result<Value, NoMemory>
+        ensures { IfOk result (λ value. value_of value ≡ function_of function) }
+    {
+        Ok(Value::Func(shared(alloc, function)?))
+    }
+
+    /// The value of parts.
+    #[tactic(auto, using(crate::proofs::Variants::parts_is))]
+    pub fn parts(alloc: Global, parts: Vec<Part>) -> Result<Value, NoMemory>
+        ensures { IfOk result (λ value. value_of value ≡ vals.parts (parts_of (map part_of parts.items))) }
+    {
+        Ok(Value::Parts(shared(alloc, parts)?))
+    }
+}
+
+impl Part {
+    /// A part that is no field named `_`.
+    pub fn plain(value: Value) -> Part
+        ensures { result ≡ record { value = value; blank = false } }
+    {
+        Part {
+            value,
+            blank: false,
+        }
+    }
+}

@@ -1,0 +1,213 @@
+//! Calls of built-in functions. Go specification, "Built-in functions".
+
+use crate::builder::{Builder, integer, zero};
+use crate::calls::{lower_list, push_all};
+use crate::error::lost;
+use crate::exprs::int_type;
+use crate::places::index_address;
+use go_base::{NoMemory, Pos, TypeId};
+use go_tree::{ExprKind, TypedExpr};
+use go_type::{Builtin, TypeTerm};
+use ssa_ir::{Call, Op, Operand, Operands};
+
+/// A call of a built-in function in an expression.
+#[cycle(lower)]
+pub(crate) fn lower_builtin(
+    builder: &mut Builder<'_>,
+    expr: &TypedExpr,
+) -> Result<Operand, NoMemory> {
+    let ExprKind::BuiltinOf {
+        builtin,
+        form,
+        arguments,
+        spread,
+    } = &expr.kind
+    else {
+        return Err(lost());
+    };
+    let values = lower_list(builder, arguments.as_slice())?;
+    match builtin {
+        Builtin::Make => make(builder, *form, values, expr.at),
+        Builtin::New => new(builder, *form, expr),
+        Builtin::Append => append(builder, values, arguments.as_slice(), *spread, expr),
+        Builtin::Len | Builtin::Cap => length(
+            builder,
+            *builtin,
+            values,
+            arguments.as_slice(),
+            expr,
+        ),
+        _ => value_of(builder, *builtin, values, expr.of, expr.at),
+    }
+}
+
+/// A call of a built-in function with its operands.
+pub(crate) fn builtin_call(
+    builder: &Builder<'_>,
+    builtin: Builtin,
+    values: Vec<Operand>,
+) -> Result<Call, NoMemory> {
+    let mut arguments = Operands::new(builder.allocator());
+    push_all(&mut arguments, values)?;
+    Ok(Call::Builtin { builtin, arguments })
+}
+
+fn value_of(
+    builder: &mut Builder<'_>,
+    builtin: Builtin,
+    values: Vec<Operand>,
+    of: TypeId,
+    at: Pos,
+) -> Result<Operand, NoMemory> {
+    let call = builtin_call(builder, builtin, values)?;
+    let register = match builder.types().get(of) {
+        Some(TypeTerm::Tuple(parts)) if parts.as_slice().is_empty() => None,
+        _ => Some(of),
+    };
+    match builder.emit(Op::Call(call), register, at)? {
+        Some(operand) => Ok(operand),
+        None => Ok(zero(of)),
+    }
+}
+
+fn make(
+    builder: &mut Builder<'_>,
+    form: Option<TypeId>,
+    values: Vec<Operand>,
+    at: Pos,
+) -> Result<Operand, NoMemory> {
+    let Some(of) = form else {
+        return Err(lost());
+    };
+    let op = match builder.under(of)? {
+        TypeTerm::Map { .. } => Op::MakeMap(of),
+        TypeTerm::Chan { .. } => make_chan(of, values),
+        TypeTerm::Slice(_) => make_slice(builder, of, values)?,
+        _ => return Err(lost()),
+    };
+    builder.value(op, of, at)
+}
+
+/// `make` of a channel. Without a size that is zero.
+fn make_chan(of: TypeId, values: Vec<Operand>) -> Op {
+    let mut values = values.into_iter();
+    let size = match values.next() {
+        Some(size) => size,
+        None => integer(0, int_type()),
+    };
+    Op::MakeChan { of, size }
+}
+
+/// `make` of a slice. Without a capacity that is the length.
+fn make_slice(builder: &Builder<'_>, of: TypeId, values: Vec<Operand>) -> Result<Op, NoMemory> {
+    let mut values = values.into_iter();
+    let Some(len) = values.next() else {
+        return Err(lost());
+    };
+    let cap = match values.next() {
+        Some(cap) => cap,
+        None => len.copy(builder.allocator())?,
+    };
+    Ok(Op::MakeSlice { of, len, cap })
+}
+
+fn new(
+    builder: &mut Builder<'_>,
+    form: Option<TypeId>,
+    expr: &TypedExpr,
+) -> Result<Operand, NoMemory> {
+    match form {
+        Some(of) => builder.value(Op::New(of), expr.of, expr.at),
+        None => Err(lost()),
+    }
+}
+
+/// `append`. One item that would itself read as a slice of items is packed into a slice.
+fn append(
+    builder: &mut Builder<'_>,
+    values: Vec<Operand>,
+    arguments: &[TypedExpr],
+    spread: bool,
+    expr: &TypedExpr,
+) -> Result<Operand, NoMemory> {
+    let [slice, item] = arguments else {
+        return value_of(builder, Builtin::Append, values, expr.of, expr.at);
+    };
+    if spread || !reads_as_spread(builder, slice.of, item.of)? {
+        return value_of(builder, Builtin::Append, values, expr.of, expr.at);
+    }
+    let mut values = values.into_iter();
+    let Some(slice_value) = values.next() else {
+        return Err(lost());
+    };
+    let Some(item_value) = values.next() else {
+        return Err(lost());
+    };
+    let packed = packed(builder, slice.of, item_value, item.of, expr.at)?;
+    let mut both = Vec::new(builder.allocator());
+    both.push(slice_value)?;
+    both.push(packed)?;
+    value_of(builder, Builtin::Append, both, expr.of, expr.at)
+}
+
+/// Whether an item of a type would read as a slice of the elements of another.
+fn reads_as_spread(builder: &Builder<'_>, slice: TypeId, item: TypeId) -> Result<bool, NoMemory> {
+    match (builder.under(slice)?, builder.under(item)?) {
+        (TypeTerm::Slice(elem), TypeTerm::Slice(of)) => Ok(*elem == *of),
+        _ => Ok(false),
+    }
+}
+
+/// A slice of one item.
+fn packed(
+    builder: &mut Builder<'_>,
+    of: TypeId,
+    item: Operand,
+    item_of: TypeId,
+    at: Pos,
+) -> Result<Operand, NoMemory> {
+    let op = Op::MakeSlice {
+        of,
+        len: integer(1, int_type()),
+        cap: integer(1, int_type()),
+    };
+    let slice = builder.value(op, of, at)?;
+    let made = slice.copy(builder.allocator())?;
+    let place = index_address(builder, made, integer(0, int_type()), item_of, at)?;
+    builder.effect(
+        Op::Store {
+            at: place,
+            value: item,
+        },
+        at,
+    )?;
+    Ok(slice)
+}
+
+/// `len` and `cap`; of an array, or of what a pointer to one points to, a constant.
+fn length(
+    builder: &mut Builder<'_>,
+    builtin: Builtin,
+    values: Vec<Operand>,
+    arguments: &[TypedExpr],
+    expr: &TypedExpr,
+) -> Result<Operand, NoMemory> {
+    let Some(argument) = arguments.first() else {
+        return Err(lost());
+    };
+    match array_length(builder, argument.of) {
+        Some(len) => Ok(integer(i128::from(len), expr.of)),
+        None => value_of(builder, builtin, values, expr.of, expr.at),
+    }
+}
+
+fn array_length(builder: &Builder<'_>, of: TypeId) -> Option<u64> {
+    match builder.types().underlying_term(of)? {
+        TypeTerm::Array { len, .. } => Some(*len),
+        TypeTerm::Pointer(base) => match builder.types().underlying_term(*base)? {
+            TypeTerm::Array { len, .. } => Some(*len),
+            _ => None,
+        },
+        _ => None,
+    }
+}

@@ -1,0 +1,5 @@
+pub mod Numbered
+pub mod Chained
+pub mod Fronts
+pub mod Runs
+pub mod Shown

@@ -1,0 +1,7 @@
+use Rattle.std.proofs.Common.{◌≡◌, ◌++◌, take, codes}
+use Rattle.go_text.specs.Joined.{joined}
+use Rattle.ssa_print.specs.Operands.{operand_text}
+use Rattle.ssa_print.proofs.instructions.Writer.operands.Given as goal
+
+abbrev pub invariant-loop-index : goal.invariant-loop-index
+invariant-loop-index l = l.text.items ≡ l.initial.text.items ++ joined (codes ", ") (operand_text l.self.setting.now l.self.given.now.keys) (take l.index l.operands)

@@ -1,0 +1,6 @@
+pub mod Shapes
+pub mod Operands
+pub mod Conversions
+pub mod Calls
+pub mod Forms
+pub mod Typed

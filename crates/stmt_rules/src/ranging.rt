@@ -1,0 +1,239 @@
+//! What a range goes over, and what it sets in each turn. Go specification, "For statements with range clause".
+
+use crate::defining::{Left, Lefts};
+use crate::simple::Side;
+use crate::steps::with_last;
+use crate::walker::Walker;
+use go_ast::{Kind, Token};
+use go_base::{NoMemory, Pos, Rule, TypeId, VarId};
+use go_places::expr_start;
+use go_syntax::{Expr, ListedExpr};
+use go_tree::{DefineTarget, RangeOver, RangeTargets, Target, TypedExpr};
+use typed_rules::{Ranged, assigned_part, range_operand};
+
+/// The targets of a range that were seen; names among them are not declared yet.
+#[derive(Drop)]
+pub enum SeenTargets {
+    None,
+    Assign {
+        sides: Vec<Side>,
+        parts: Option<Vec<TypedExpr>>,
+    },
+    Define(Lefts),
+}
+
+/// The head of a range.
+#[derive(Drop)]
+pub struct SeenRange {
+    pub ranged: Option<Ranged>,
+    pub targets: SeenTargets,
+    pub is_sound: bool,
+}
+
+/// What a range goes over, with its targets.
+#[derive(Drop)]
+pub struct Head {
+    pub over: RangeOver,
+    pub operand: TypedExpr,
+    pub targets: RangeTargets,
+}
+
+impl<'s> Walker<'s> {
+    /// The operand and the targets of a range.
+    pub fn see_range(
+        &mut self,
+        targets: &[ListedExpr],
+        operator: Option<Token>,
+        operand: &Expr,
+    ) -> Result<SeenRange, NoMemory> {
+        let seen = self.see(operand)?;
+        let ranged = range_operand(self.scope.ground(), seen)?;
+        let is_define = match operator {
+            Some(operator) => operator.kind == Kind::Define,
+            None => false,
+        };
+        let Some(first) = targets.first() else {
+            return Ok(SeenRange {
+                ranged,
+                targets: SeenTargets::None,
+                is_sound: true,
+            });
+        };
+        let at = self.pos(expr_start(&first.expr));
+        let mut is_sound = self.has_room(at, targets.len(), &ranged);
+        if is_define {
+            let lefts = self.range_names(at, targets, ranged.is_some())?;
+            is_sound = is_sound && lefts.is_sound;
+            Ok(SeenRange {
+                ranged,
+                targets: SeenTargets::Define(lefts),
+                is_sound,
+            })
+        } else {
+            let sides = self.sides(targets)?;
+            let parts = self.range_parts(targets, &sides, &ranged)?;
+            Ok(SeenRange {
+                ranged,
+                targets: SeenTargets::Assign { sides, parts },
+                is_sound,
+            })
+        }
+    }
+
+    /// Whether what is gone over gives so many values.
+    fn has_room(&mut self, at: Pos, count: usize, ranged: &Option<Ranged>) -> bool {
+        let Some(ranged) = ranged else {
+            return true;
+        };
+        let most = if ranged.value.is_some() { 2 } else { 1 };
+        if count > most {
+            self.report(at, Rule::BadRange);
+            return false;
+        }
+        true
+    }
+
+    /// The names of a range with `:=`: all of them are new.
+    fn range_names(
+        &mut self,
+        at: Pos,
+        targets: &[ListedExpr],
+        is_sound: bool,
+    ) -> Result<Lefts, NoMemory> {
+        self.scope.open_block()?;
+        let mut lefts = self.lefts(targets)?;
+        self.scope.close_block();
+        if !(lefts.are_names && lefts.any_new) {
+            if is_sound {
+                self.report(at, Rule::NoNewVariable);
+            }
+            lefts.is_sound = false;
+        }
+        Ok(lefts)
+    }
+
+    /// Key and value as values of the sides.
+    fn range_parts(
+        &mut self,
+        targets: &[ListedExpr],
+        sides: &[Side],
+        ranged: &Option<Ranged>,
+    ) -> Result<Option<Vec<TypedExpr>>, NoMemory> {
+        let Some(ranged) = ranged else {
+            return Ok(None);
+        };
+        let types = [Some(ranged.key), ranged.value];
+        let mut parts = Some(Vec::new(self.alloc));
+        for (index, side) in sides.iter().enumerate() {
+            let of = types.as_slice().get(index).copied().flatten();
+            let at = match targets.get(index) {
+                Some(target) => self.pos(expr_start(&target.expr)),
+                None => self.pos(0),
+            };
+            let part = self.range_part(at, index, of, side)?;
+            parts = with_last(parts, part)?;
+        }
+        Ok(parts)
+    }
+
+    fn range_part(
+        &mut self,
+        at: Pos,
+        index: usize,
+        of: Option<TypeId>,
+        side: &Side,
+    ) -> Result<Option<TypedExpr>, NoMemory> {
+        let Some(of) = of else {
+            return Ok(None);
+        };
+        let number = if index == 0 { 0 } else { 1 };
+        match side {
+            Side::Blank => assigned_part(self.scope.ground(), at, number, of, of),
+            Side::Place(Some(place)) => {
+                assigned_part(self.scope.ground(), at, number, of, place.of)
+            }
+            Side::Place(None) => Ok(None),
+        }
+    }
+
+    /// The names of a range are in scope from here on.
+    pub fn finish_range(&mut self, seen: SeenRange) -> Result<Option<Head>, NoMemory> {
+        let SeenRange {
+            ranged,
+            targets,
+            is_sound,
+        } = seen;
+        let types = match &ranged {
+            Some(ranged) => [Some(ranged.key), ranged.value],
+            None => [None, None],
+        };
+        let targets = match targets {
+            SeenTargets::None => Some(RangeTargets::None),
+            SeenTargets::Assign { sides, parts } => assigned_targets(sides, parts),
+            SeenTargets::Define(lefts) => {
+                let targets = self.declare_lefts(lefts.names.as_slice(), &types)?;
+                Some(RangeTargets::Define {
+                    key: new_variable(targets.first()),
+                    value: new_variable(targets.get(1)),
+                })
+            }
+        };
+        match (ranged, targets) {
+            (Some(ranged), Some(targets)) if is_sound => Ok(Some(head_of(ranged, targets))),
+            _ => Ok(None),
+        }
+    }
+}
+
+/// The variable that a name declares.
+fn new_variable(target: Option<&DefineTarget>) -> Option<VarId> {
+    match target {
+        Some(DefineTarget::New(variable)) => Some(*variable),
+        _ => None,
+    }
+}
+
+/// Where key and value are assigned to, where all are sound.
+fn assigned_targets(sides: Vec<Side>, parts: Option<Vec<TypedExpr>>) -> Option<RangeTargets> {
+    let parts = parts?;
+    let mut sides = sides.into_iter();
+    let key = match sides.next() {
+        Some(side) => Some(target_of(side)?),
+        None => None,
+    };
+    let value = match sides.next() {
+        Some(side) => Some(target_of(side)?),
+        None => None,
+    };
+    Some(RangeTargets::Assign { key, value, parts })
+}
+
+fn target_of(side: Side) -> Option<Target> {
+    match side {
+        Side::Blank => Some(Target::Blank),
+        Side::Place(Some(place)) => Some(Target::Place(place)),
+        Side::Place(None) => None,
+    }
+}
+
+/// Whether a range asks for no value.
+fn is_without_value(targets: &RangeTargets) -> bool {
+    match targets {
+        RangeTargets::None => true,
+        RangeTargets::Define { value, .. } => value.is_none(),
+        RangeTargets::Assign { value, .. } => !matches!(value, Some(Target::Place(_))),
+    }
+}
+
+/// The head of a range: where it asks for no value, an array whose length is constant is not evaluated.
+fn head_of(ranged: Ranged, targets: RangeTargets) -> Head {
+    let over = match ranged.constant {
+        Some(len) if is_without_value(&targets) => RangeOver::Constant(len),
+        _ => ranged.over,
+    };
+    Head {
+        over,
+        operand: ranged.operand,
+        targets,
+    }
+}

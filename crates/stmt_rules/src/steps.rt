@@ -1,0 +1,192 @@
+//! Statements as they become typed.
+
+use go_base::{NameId, NoMemory, Pos};
+use go_tree::{TypedArm, TypedBlock, TypedStmt};
+use std::alloc::Global;
+
+/// Where a statement stands.
+#[derive(Clone, Copy, Debug)]
+pub struct Spot {
+    /// The last of its labels.
+    pub label: Option<NameId>,
+    /// Whether `fallthrough` may stand there.
+    pub falls: bool,
+}
+
+impl Spot {
+    /// Without a label.
+    pub fn plain() -> Spot {
+        Spot {
+            label: None,
+            falls: false,
+        }
+    }
+}
+
+/// The typed statements of a list so far.
+#[derive(Drop)]
+pub struct Steps {
+    alloc: Global,
+    statements: Vec<TypedStmt>,
+    is_sound: bool,
+    /// Whether the last of the statements that were walked ends.
+    pub ends: bool,
+}
+
+impl Steps {
+    /// No statements.
+    pub fn new(alloc: Global) -> Steps {
+        Steps {
+            alloc,
+            statements: Vec::new(alloc),
+            is_sound: true,
+            ends: false,
+        }
+    }
+
+    /// One more statement, None where it is unsound.
+    pub fn push(&mut self, stmt: Option<TypedStmt>, ends: bool) -> Result<(), NoMemory> {
+        self.ends = ends;
+        match stmt {
+            Some(stmt) => self.statements.push(stmt)?,
+            None => self.is_sound = false,
+        }
+        Ok(())
+    }
+
+    /// A statement with its labels. Of several specifications the labels stand before the first.
+    pub fn push_labeled(
+        &mut self,
+        at: Pos,
+        labels: Vec<NameId>,
+        inner: Steps,
+    ) -> Result<(), NoMemory> {
+        let Steps {
+            alloc,
+            statements,
+            is_sound,
+            ends,
+        } = inner;
+        self.ends = ends;
+        if !is_sound {
+            self.is_sound = false;
+            return Ok(());
+        }
+        let mut rest = statements.into_iter();
+        let stmt = match rest.next() {
+            Some(stmt) => Some(Box::new(alloc, stmt)?),
+            None => None,
+        };
+        self.statements
+            .push(TypedStmt::Labeled { at, labels, stmt })?;
+        for stmt in rest {
+            self.statements.push(stmt)?;
+        }
+        Ok(())
+    }
+
+    /// The statements, where all are sound.
+    pub fn into_statements(self) -> Option<Vec<TypedStmt>> {
+        let Steps {
+            alloc: _,
+            statements,
+            is_sound,
+            ends: _,
+        } = self;
+        if is_sound { Some(statements) } else { None }
+    }
+
+    /// The statement of a list of at most one.
+    pub fn into_first(self) -> Result<First, NoMemory> {
+        let Steps {
+            alloc,
+            statements,
+            is_sound,
+            ends: _,
+        } = self;
+        let stmt = match statements.into_iter().next() {
+            Some(stmt) => Some(Box::new(alloc, stmt)?),
+            None => None,
+        };
+        Ok(First { is_sound, stmt })
+    }
+}
+
+/// The simple statement before a condition, a tag or a loop.
+#[derive(Drop)]
+pub struct First {
+    pub is_sound: bool,
+    pub stmt: Option<Box<TypedStmt>>,
+}
+
+/// A block that was walked.
+#[derive(Drop)]
+pub struct WalkedBlock {
+    /// None where something in it is unsound.
+    pub block: Option<TypedBlock>,
+    /// Whether its list of statements ends in one that ends.
+    pub ends: bool,
+}
+
+impl WalkedBlock {
+    /// The statements of a block between two places.
+    pub fn new(at: Pos, end: Pos, steps: Steps) -> WalkedBlock {
+        let ends = steps.ends;
+        match steps.into_statements() {
+            Some(statements) => WalkedBlock {
+                block: Some(TypedBlock {
+                    at,
+                    end,
+                    statements,
+                }),
+                ends,
+            },
+            None => WalkedBlock { block: None, ends },
+        }
+    }
+}
+
+/// An arm of an `if` that was walked.
+#[derive(Drop)]
+pub struct WalkedArm {
+    pub arm: Option<TypedArm>,
+    pub ends: bool,
+}
+
+/// One more item, where all are sound.
+pub fn with_last<T: Drop>(
+    items: Option<Vec<T>>,
+    last: Option<T>,
+) -> Result<Option<Vec<T>>, NoMemory> {
+    let Some((mut items, last)) = items.zip(last) else {
+        return Ok(None);
+    };
+    items.push(last)?;
+    Ok(Some(items))
+}
+
+/// Items of a list, as long as all are sound, and whether each ends.
+#[derive(Drop)]
+pub struct Gathered<T: Drop> {
+    pub items: Option<Vec<T>>,
+    pub all_end: bool,
+}
+
+impl<T: Drop> Gathered<T> {
+    /// No items.
+    pub fn new(alloc: Global) -> Gathered<T> {
+        Gathered {
+            items: Some(Vec::new(alloc)),
+            all_end: true,
+        }
+    }
+
+    /// One more item, None where it is unsound.
+    pub fn push(&mut self, item: Option<T>, ends: bool) -> Result<(), NoMemory> {
+        if !ends {
+            self.all_end = false;
+        }
+        self.items = with_last(self.items.take(), item)?;
+        Ok(())
+    }
+}
