@@ -2,5 +2,4 @@
 
 mod constants;
 mod relations;
-mod selections;
 mod tables;
