@@ -1,8 +1,8 @@
 //! Codes, written as tables.
 
 mod cases;
-mod forms;
 mod graphs;
+mod kinds;
 mod lists;
 mod rows;
 mod texts;

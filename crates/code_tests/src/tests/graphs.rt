@@ -4,7 +4,6 @@ use crate::tests::rows::function;
 use go_base::NoMemory;
 use ssa_ir::{Available, Registers, SanityError, sanity};
 use std::alloc::Global;
-use std::process::Abort;
 use std::test::Fail;
 
 /// Functions that are sane, and of each block the registers that are available at its entry. A `+` before a function says
@@ -114,45 +113,38 @@ fn lists(alloc: Global, available: &Available) -> Result<Vec<u8>, NoMemory> {
     Ok(text)
 }
 
-fn is_sane(rt: &impl Abort, alloc: Global, text: &str, wanted: &str) -> Result<(), Fail> {
+/// The registers of each block, where a function is sane.
+fn available(alloc: Global, text: &str) -> Result<Option<Vec<u8>>, NoMemory> {
     let (rest, recover) = parts(text);
     let function = function(alloc, rest, recover)?;
-    let found = match sanity(alloc, &function) {
-        Ok(available) => lists(alloc, &available)?,
-        Err(_) => Vec::from_slice(alloc, b"insane")?,
-    };
-    assert_eq!(rt; found.as_slice(), wanted.as_bytes());
-    Ok(())
-}
-
-fn is_insane(
-    rt: &impl Abort,
-    alloc: Global,
-    text: &str,
-    block: u64,
-    instr: u64,
-) -> Result<(), Fail> {
-    let (rest, recover) = parts(text);
-    let function = function(alloc, rest, recover)?;
-    let error = sanity(alloc, &function).err();
-    assert_eq!(rt; error, Some(SanityError::Insane { block, instr }));
-    Ok(())
+    match sanity(alloc, &function) {
+        Ok(available) => Ok(Some(lists(alloc, &available)?)),
+        Err(_) => Ok(None),
+    }
 }
 
 #[test]
 fn sane_functions(rt: HostRuntime) -> Result<(), Fail> {
-    let alloc = rt.alloc();
     for (text, wanted) in SANE {
-        is_sane(&rt, alloc, text, wanted)?;
+        let found = available(rt.alloc(), text)?.ok_or("insane")?;
+        assert_eq!(rt; found.as_slice(), wanted.as_bytes(), "{text}");
     }
     Ok(())
 }
 
+/// Why a function is not sane.
+fn fault(alloc: Global, text: &str) -> Result<Option<SanityError>, NoMemory> {
+    let (rest, recover) = parts(text);
+    let function = function(alloc, rest, recover)?;
+    Ok(sanity(alloc, &function).err())
+}
+
 #[test]
 fn insane_functions(rt: HostRuntime) -> Result<(), Fail> {
-    let alloc = rt.alloc();
     for (text, block, instr) in INSANE {
-        is_insane(&rt, alloc, text, *block, *instr)?;
+        let (block, instr) = (*block, *instr);
+        let wanted = Some(SanityError::Insane { block, instr });
+        assert_eq!(rt; fault(rt.alloc(), text)?, wanted, "{text}");
     }
     Ok(())
 }

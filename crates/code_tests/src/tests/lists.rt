@@ -1,10 +1,10 @@
 //! The text of what a code has beside functions, and in which order it stands.
 
+use crate::tests::kinds::{Kinds, METHOD, code, make_kinds};
 use crate::tests::rows::empty_function;
-use crate::tests::texts::{Kinds, METHOD, code, make_kinds, printed};
-use go_base::{FuncId, NameId, NoMemory, TypeId};
+use crate::tests::texts::printed;
+use go_base::{FuncId, NameId, NoMemory};
 use ssa_ir::{Code, CodeVariable, FunctionKind, MethodLine};
-use ssa_print::Show;
 use std::alloc::Global;
 use std::test::Fail;
 
@@ -20,30 +20,30 @@ method struct{}.m main.f
 func promote (main.point).m(): external
 ";
 
-fn line(receiver: TypeId) -> MethodLine {
-    MethodLine {
-        receiver,
-        name: METHOD,
-        package: 0,
-        function: FuncId { number: 0 },
-    }
-}
-
-fn variable(kinds: &Kinds, name: u64, package: u32) -> CodeVariable {
-    CodeVariable {
-        name: NameId { number: name },
-        package,
-        of: kinds.int,
-    }
-}
-
-fn fill(alloc: Global, code: &mut Code, kinds: &Kinds) -> Result<(), NoMemory> {
-    code.declared.push(kinds.point)?;
+fn add_methods(code: &mut Code, kinds: &Kinds) -> Result<(), NoMemory> {
     for receiver in [kinds.point, kinds.pointer, kinds.shape] {
-        code.methods.push(line(receiver))?;
+        code.methods.push(MethodLine {
+            receiver,
+            name: METHOD,
+            package: 0,
+            function: FuncId { number: 0 },
+        })?;
     }
-    code.variables.push(variable(kinds, 3, 0))?;
-    code.variables.push(variable(kinds, 4, 1))?;
+    Ok(())
+}
+
+fn add_variables(code: &mut Code, kinds: &Kinds) -> Result<(), NoMemory> {
+    for (name, package) in [(3, 0), (4, 1)] {
+        code.variables.push(CodeVariable {
+            name: NameId { number: name },
+            package,
+            of: kinds.int,
+        })?;
+    }
+    Ok(())
+}
+
+fn add_functions(alloc: Global, code: &mut Code) -> Result<(), NoMemory> {
     code.functions.push(empty_function(alloc, "main.f")?)?;
     let mut wrapper = empty_function(alloc, "promote (main.point).m")?;
     wrapper.kind = FunctionKind::Wrapper;
@@ -52,15 +52,13 @@ fn fill(alloc: Global, code: &mut Code, kinds: &Kinds) -> Result<(), NoMemory> {
 
 #[test]
 fn lists_and_wrappers(rt: HostRuntime) -> Result<(), Fail> {
-    let alloc = rt.alloc();
-    let mut code = code(alloc)?;
-    let kinds = make_kinds(alloc, &mut code.types)?;
-    fill(alloc, &mut code, &kinds)?;
-    let show = Show {
-        functions: true,
-        available: false,
-    };
-    let out = printed(alloc, &code, show)?;
+    let mut code = code(rt.alloc())?;
+    let kinds = make_kinds(rt.alloc(), &mut code.types)?;
+    code.declared.push(kinds.point)?;
+    add_methods(&mut code, &kinds)?;
+    add_variables(&mut code, &kinds)?;
+    add_functions(rt.alloc(), &mut code)?;
+    let out = printed(rt.alloc(), &code, true, false)?;
     assert_eq!(rt; out.bytes(), LISTS.as_bytes());
     Ok(())
 }

@@ -1,19 +1,34 @@
 //! Functions as texts. Blocks end at `;`. Before a `:` stand the blocks that lead to a block, and behind it its
 //! instructions, each a letter with numbers of one digit: `n0` gives register 0, a new cell; `l10` gives register 1, what
-//! 0 points to; `s01` stores 1 at 0; `p30415` gives register 3, which is 4 behind block 0 and 5 behind block 1; `t` is a
-//! tick, `j1` jumps to block 1, `i012` tests register 0 and goes to 1 or 2, `a12` does so by a parameter, `r01` returns
-//! two registers and `x0` panics.
+//! 0 points to; `b05` gives register 0, the sum of the second parameter and 5; `m205` gives register 2, the product of
+//! register 0 and 5; `p30415` gives register 3, which is 4 behind block 0 and 5 behind block 1; `s01` stores 1 at 0; `t`
+//! is a tick, `j1` jumps to block 1, `i012` tests register 0 and goes to 1 or 2, `a12` does so by the first parameter,
+//! `r01` returns two registers and `x0` panics.
 
+use crate::tests::kinds::int;
 use go_base::{BlockId, NoMemory, Pos, Text, TypeId};
-use go_type::TypeIds;
+use go_type::{BinaryOp, TypeIds};
 use ssa_ir::{
-    Block, BlockIds, Blocks, Function, FunctionKind, Instr, Instrs, Op, Operand, Operands, PhiEdge,
-    PhiEdges,
+    Block, BlockIds, Blocks, Function, FunctionKind, Infix, Instr, Instrs, Op, Operand, Operands,
+    PhiEdge, PhiEdges,
 };
 use std::alloc::Global;
 
 pub fn register(number: u64) -> Operand {
     Operand::Register(number)
+}
+
+pub fn param(number: u64) -> Operand {
+    Operand::Param(number)
+}
+
+/// A list of parameters.
+pub fn operands(alloc: Global, list: &[u64]) -> Result<Operands, NoMemory> {
+    let mut operands = Operands::new(alloc);
+    for number in list {
+        operands.push(param(*number))?;
+    }
+    Ok(operands)
 }
 
 pub fn block_id(number: u64) -> BlockId {
@@ -110,12 +125,8 @@ impl Reader {
     }
 
     fn end_instr(&mut self) -> Result<(), NoMemory> {
-        let next = match self.letter {
-            b'n' | b'l' | b'p' => Some(instr(self.giving()?, Some(self.number(0)))),
-            0 => None,
-            _ => Some(instr(self.alone()?, None)),
-        };
-        if let Some(next) = next {
+        if self.letter != 0 {
+            let next = instr(self.op()?, self.register());
             self.instrs.push(next)?;
         }
         self.letter = 0;
@@ -123,11 +134,18 @@ impl Reader {
         Ok(())
     }
 
-    fn giving(&self) -> Result<Op, NoMemory> {
+    fn register(&self) -> Option<u64> {
         match self.letter {
-            b'n' => Ok(Op::New(some_type())),
-            b'l' => Ok(Op::Load(register(self.number(1)))),
-            _ => self.phi(),
+            b'n' | b'l' | b'b' | b'm' | b'p' => Some(self.number(0)),
+            _ => None,
+        }
+    }
+
+    fn op(&self) -> Result<Op, NoMemory> {
+        match self.letter {
+            b'p' => self.phi(),
+            b'r' => self.returned(),
+            _ => Ok(self.plain()),
         }
     }
 
@@ -144,35 +162,47 @@ impl Reader {
         Ok(Op::Phi(edges))
     }
 
-    fn alone(&self) -> Result<Op, NoMemory> {
-        match self.letter {
-            b's' => Ok(Op::Store {
-                at: register(self.number(0)),
-                value: register(self.number(1)),
-            }),
-            b't' => Ok(Op::Tick),
-            b'j' => Ok(Op::Jump(block_id(self.number(0)))),
-            b'i' => Ok(self.branch(register(self.number(0)), 1)),
-            b'a' => Ok(self.branch(Operand::Param(0), 0)),
-            b'x' => Ok(Op::Panic(register(self.number(0)))),
-            _ => self.returned(),
-        }
-    }
-
-    /// A branch, whose targets stand from a place on.
-    fn branch(&self, test: Operand, place: usize) -> Op {
-        Op::If {
-            test,
-            then_to: block_id(self.number(place)),
-            else_to: block_id(self.number(place.wrapping_add(1))),
-        }
-    }
-
     fn returned(&self) -> Result<Op, NoMemory> {
         let mut results = Operands::new(self.alloc);
         for number in self.numbers.as_slice() {
             results.push(register(*number))?;
         }
         Ok(Op::Return(results))
+    }
+
+    fn plain(&self) -> Op {
+        let (a, b, c) = (self.number(0), self.number(1), self.number(2));
+        match self.letter {
+            b'n' => Op::New(some_type()),
+            b'l' => Op::Load(register(b)),
+            b'b' => arithmetic(BinaryOp::Add, param(1), b),
+            b'm' => arithmetic(BinaryOp::Mul, register(b), c),
+            b's' => Op::Store {
+                at: register(a),
+                value: register(b),
+            },
+            b'j' => Op::Jump(block_id(a)),
+            b'i' => branch(register(a), b, c),
+            b'a' => branch(param(0), a, b),
+            b'x' => Op::Panic(register(a)),
+            _ => Op::Tick,
+        }
+    }
+}
+
+/// An operation of a register or parameter and an integer.
+fn arithmetic(op: BinaryOp, left: Operand, right: u64) -> Op {
+    Op::Binary {
+        op: Infix::Operate(op),
+        left,
+        right: int(i128::from(right)),
+    }
+}
+
+fn branch(test: Operand, then_to: u64, else_to: u64) -> Op {
+    Op::If {
+        test,
+        then_to: block_id(then_to),
+        else_to: block_id(else_to),
     }
 }

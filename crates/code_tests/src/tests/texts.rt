@@ -1,247 +1,39 @@
-//! The texts of codes.
+//! The texts of functions.
 
-use crate::tests::rows::{block_id, empty_function, instr, register};
-use go_base::{MemSink, NameId, Names, NoMemory, Text, TypeId};
-use go_text::Labels;
-use go_type::{
-    Basic, BinaryOp, Dir, Fields, MethodTypes, Signature, TypeIds, TypeName, TypeTerm, Types, basic,
-};
-use ssa_ir::{
-    Block, BlockIds, Code, CodeVariables, ConstValue, Function, Functions, Infix, Instrs,
-    MethodLines, Op, Operand, Operands, PhiEdge, PhiEdges,
-};
+use crate::tests::cases::{CASES, case_at, params};
+use crate::tests::kinds::{Kinds, code, make_kinds};
+use crate::tests::rows::{empty_function, instr, param};
+use crate::tests::typed::{RIGHT, four_blocks};
+use go_base::{MemSink, NoMemory};
+use ssa_ir::{Block, BlockIds, Code, Function, Instrs, Op};
 use ssa_print::{Show, print};
 use std::alloc::Global;
 use std::test::Fail;
 
-fn hold(types: &mut Types, term: TypeTerm) -> Result<TypeId, NoMemory> {
-    if !types.can_hold(&term) {
-        return Err(NoMemory);
-    }
-    types.hold(term)
-}
-
-/// The types of the tests, in a code of one package.
-#[derive(Clone, Copy)]
-pub struct Kinds {
-    pub int: TypeId,
-    pub truth: TypeId,
-    pub text: TypeId,
-    pub point: TypeId,
-    pub shape: TypeId,
-    pub pointer: TypeId,
-    pub slice: TypeId,
-    pub table: TypeId,
-    pub pair: TypeId,
-    pub any: TypeId,
-    pub byte: TypeId,
-    pub channel: TypeId,
-    pub steps: TypeId,
-    pub method: TypeId,
-}
-
-/// An empty code of a package called `main`, with two names of variables and one of a method.
-pub fn code(alloc: Global) -> Result<Code, NoMemory> {
-    let mut names = Names::new(alloc);
-    let error = names.intern("error")?;
-    let method = names.intern("Error")?;
-    names.intern("point")?;
-    names.intern("x")?;
-    names.intern("_")?;
-    names.intern("m")?;
-    let mut packages = Labels::new(alloc);
-    packages.push(Text::new(alloc, "main")?)?;
-    packages.push(Text::new(alloc, "lib")?)?;
-    Ok(Code {
-        types: Types::new(alloc, error, method)?,
-        names,
-        packages,
-        declared: TypeIds::new(alloc),
-        variables: CodeVariables::new(alloc),
-        methods: MethodLines::new(alloc),
-        functions: Functions::new(alloc),
-    })
-}
-
-const POINT: NameId = NameId { number: 2 };
-
-pub const METHOD: NameId = NameId { number: 5 };
-
-pub fn ids(alloc: Global, list: &[TypeId]) -> Result<TypeIds, NoMemory> {
-    let mut ids = TypeIds::new(alloc);
-    for id in list {
-        ids.push(*id)?;
-    }
-    Ok(ids)
-}
-
-pub fn make_kinds(alloc: Global, types: &mut Types) -> Result<Kinds, NoMemory> {
-    let (int, truth) = (basic(Basic::Int), basic(Basic::Bool));
-    let name = TypeName {
-        name: POINT,
-        package: 0,
-        number: 0,
+/// The bytes that are printed of a code.
+pub fn printed(
+    alloc: Global,
+    code: &Code,
+    functions: bool,
+    available: bool,
+) -> Result<MemSink, NoMemory> {
+    let mut out = MemSink::new(alloc, &[])?;
+    let show = Show {
+        functions,
+        available,
     };
-    if types.is_declared(name) {
-        return Err(NoMemory);
-    }
-    let point = types.declare(name)?;
-    let shape = hold(types, TypeTerm::Struct(Fields::new(alloc)))?;
-    if !types.can_define(point, shape) {
-        return Err(NoMemory);
-    }
-    types.define(point, shape);
-    let pointer = hold(types, TypeTerm::Pointer(point))?;
-    let pair = hold(types, TypeTerm::Tuple(ids(alloc, &[int, truth])?))?;
-    let method = hold(types, TypeTerm::Func(returning(alloc, int)?))?;
-    Ok(Kinds {
-        int,
-        truth,
-        text: basic(Basic::Text),
-        point,
-        shape,
-        pointer,
-        slice: hold(types, TypeTerm::Slice(int))?,
-        table: hold(
-            types,
-            TypeTerm::Map {
-                key: int,
-                elem: pointer,
-            },
-        )?,
-        pair,
-        any: hold(types, TypeTerm::Interface(MethodTypes::new(alloc)))?,
-        byte: basic(Basic::Uint8),
-        channel: hold(
-            types,
-            TypeTerm::Chan {
-                dir: Dir::Both,
-                elem: int,
-            },
-        )?,
-        steps: hold(types, TypeTerm::Iter(basic(Basic::Text)))?,
-        method,
-    })
-}
-
-fn returning(alloc: Global, of: TypeId) -> Result<Signature, NoMemory> {
-    Ok(Signature {
-        params: TypeIds::new(alloc),
-        results: ids(alloc, &[of])?,
-        variadic: false,
-    })
-}
-
-pub fn int(kinds: &Kinds, value: i128) -> Operand {
-    Operand::Constant {
-        value: ConstValue::Int(value),
-        of: kinds.int,
+    match print(alloc, code, show, &mut out) {
+        Ok(()) => Ok(out),
+        Err(_) => Err(NoMemory),
     }
 }
 
-pub fn param(number: u64) -> Operand {
-    Operand::Param(number)
-}
-
-pub fn operands(alloc: Global, list: &[u64]) -> Result<Operands, NoMemory> {
-    let mut operands = Operands::new(alloc);
-    for number in list {
-        operands.push(param(*number))?;
-    }
-    Ok(operands)
-}
-
-fn returned(alloc: Global, number: u64) -> Result<Op, NoMemory> {
-    let mut results = Operands::new(alloc);
-    results.push(register(number))?;
-    Ok(Op::Return(results))
-}
-
-pub fn preds(alloc: Global, list: &[u64]) -> Result<BlockIds, NoMemory> {
-    let mut preds = BlockIds::new(alloc);
-    for number in list {
-        preds.push(block_id(*number))?;
-    }
-    Ok(preds)
-}
-
-fn jump(alloc: Global, from: &[u64], to: u64) -> Result<Block, NoMemory> {
-    let mut instrs = Instrs::new(alloc);
-    instrs.push(instr(Op::Jump(block_id(to)), None))?;
-    Ok(Block {
-        preds: preds(alloc, from)?,
-        instrs,
-    })
-}
-
-pub fn arithmetic(op: BinaryOp, left: Operand, right: Operand) -> Op {
-    Op::Binary {
-        op: Infix::Operate(op),
-        left,
-        right,
-    }
-}
-
-/// `x = a + 1; if c { x = x * 2 }; return x`. Registers are numbered against the order of the text.
-pub fn choosing(alloc: Global, kinds: &Kinds) -> Result<Function, NoMemory> {
-    let mut function = empty_function(alloc, "main.f")?;
-    function.params = ids(alloc, &[kinds.int, kinds.truth])?;
-    function.results = ids(alloc, &[kinds.int])?;
-    function.registers = ids(alloc, &[kinds.truth, kinds.int, kinds.int, kinds.int])?;
-    let mut first = Instrs::new(alloc);
-    first.push(instr(arithmetic(BinaryOp::Add, param(0), int(kinds, 1)), Some(3)))?;
-    first.push(instr(
-        Op::If {
-            test: param(1),
-            then_to: block_id(1),
-            else_to: block_id(2),
-        },
-        None,
-    ))?;
-    function.blocks.push(Block {
-        preds: preds(alloc, &[])?,
-        instrs: first,
-    })?;
-    let mut second = Instrs::new(alloc);
-    second.push(instr(
-        arithmetic(BinaryOp::Mul, register(3), int(kinds, 2)),
-        Some(2),
-    ))?;
-    second.push(instr(Op::Jump(block_id(3)), None))?;
-    function.blocks.push(Block {
-        preds: preds(alloc, &[0])?,
-        instrs: second,
-    })?;
-    function.blocks.push(jump(alloc, &[0], 3)?)?;
-    function.blocks.push(joined(alloc)?)?;
-    Ok(function)
-}
-
-fn joined(alloc: Global) -> Result<Block, NoMemory> {
-    let mut edges = PhiEdges::new(alloc);
-    edges.push(PhiEdge {
-        from: block_id(2),
-        value: register(3),
-    })?;
-    edges.push(PhiEdge {
-        from: block_id(1),
-        value: register(2),
-    })?;
-    let mut last = Instrs::new(alloc);
-    last.push(instr(Op::Phi(edges), Some(1)))?;
-    last.push(instr(returned(alloc, 1)?, None))?;
-    Ok(Block {
-        preds: preds(alloc, &[2, 1])?,
-        instrs: last,
-    })
-}
-
-const CHOOSING: &str = "package main
+const FOUR_BLOCKS: &str = "package main
 package lib
-func main.f(p0 int, p1 bool) int:
+func main.f(p0 bool, p1 int) int:
 0:\tP:0 S:2
-\tt0 = p0 + 1:int\tint
-\tif p1 goto 1 else 2
+\tt0 = p1 + 1:int\tint
+\tif p0 goto 1 else 2
 1:\tP:1 S:1
 \tt1 = t0 * 2:int\tint
 \tjump 3
@@ -253,38 +45,79 @@ func main.f(p0 int, p1 bool) int:
 # main.f: blocks 4, available 3
 ";
 
-const BOTH: Show = Show {
-    functions: true,
-    available: true,
-};
-
-pub fn printed(alloc: Global, code: &Code, show: Show) -> Result<MemSink, NoMemory> {
-    let mut out = MemSink::new(alloc, &[])?;
-    match print(alloc, code, show, &mut out) {
-        Ok(()) => Ok(out),
-        Err(_) => Err(NoMemory),
-    }
-}
-
 #[test]
 fn a_function_of_four_blocks(rt: HostRuntime) -> Result<(), Fail> {
-    let alloc = rt.alloc();
-    let mut code = code(alloc)?;
-    let kinds = make_kinds(alloc, &mut code.types)?;
-    code.functions.push(choosing(alloc, &kinds)?)?;
-    let out = printed(alloc, &code, BOTH)?;
-    assert_eq!(rt; out.bytes(), CHOOSING.as_bytes());
-    let counts = printed(
-        alloc,
-        &code,
-        Show {
-            functions: false,
-            available: true,
-        },
-    )?;
-    assert_eq!(rt;
-        counts.bytes(),
-        b"# main.f: blocks 4, available 3\n".as_slice()
-    );
+    let mut code = code(rt.alloc())?;
+    code.functions.push(four_blocks(rt.alloc(), &RIGHT)?)?;
+    let out = printed(rt.alloc(), &code, true, true)?;
+    assert_eq!(rt; out.bytes(), FOUR_BLOCKS.as_bytes());
+    Ok(())
+}
+
+/// The instructions of the table that are right, behind one that gives register 0.
+fn all_cases(alloc: Global, kinds: &Kinds, function: &mut Function) -> Result<Instrs, NoMemory> {
+    let mut instrs = Instrs::new(alloc);
+    instrs.push(instr(Op::Next(param(9)), Some(0)))?;
+    function.registers.push(kinds.pair)?;
+    for (place, (right, _)) in CASES.iter().enumerate() {
+        let (op, of) = case_at(alloc, kinds, place, *right)?;
+        let register = of.map(|_| function.registers.as_slice().len() as u64);
+        instrs.push(instr(op, register))?;
+        if let Some(of) = of {
+            function.registers.push(of)?;
+        }
+    }
+    Ok(instrs)
+}
+
+/// A function of one block with all of them.
+fn all_forms(alloc: Global, kinds: &Kinds) -> Result<Function, NoMemory> {
+    let mut function = empty_function(alloc, "main.f")?;
+    function.params = params(alloc, kinds)?;
+    let instrs = all_cases(alloc, kinds, &mut function)?;
+    let preds = BlockIds::new(alloc);
+    function.blocks.push(Block { preds, instrs })?;
+    Ok(function)
+}
+
+const ALL_FORMS: &str = "package main
+package lib
+func main.f(p0 int, p1 bool, p2 string, p3 []int, p4 map[int]*main.point, p5 *main.point, p6 interface{}, p7 chan int, p8 func() int):
+0:\tP:0 S:0
+\tt0 = next p9\t(int, bool)
+\tt1 = p2 + p2\tstring
+\tt2 = 1:int << p0\tint
+\tt3 = p5 == p5\tbool
+\tt4 = p2 < p2\tbool
+\tt5 = !p1\tbool
+\tt6 = *p5\tmain.point
+\t*p5 = zero:main.point
+\tt7 = p2[p0]\tuint8
+\tt8 = lookup p4[p0]\t*main.point
+\tt9 = extract t0 #0\tint
+\tt10 = convert string <- p0\tstring
+\tt11 = make interface{} <- p0\tinterface{}
+\tt12 = make map map[int]*main.point\tmap[int]*main.point
+\tt13 = range p2\titer string
+\tt14 = call p8()\tint
+\tt15 = builtin append(p3, p0, p0)\t[]int
+\tsend p7 <- p0
+\tpanic p6
+\tt16 = new main.point\t*main.point
+\tt17 = slice p3[:p0:]\t[]int
+\tt18 = make slice []int p0 p0\t[]int
+\tt19 = typeassert p6.(*main.point)\t*main.point
+\tt20 = <-p7\tint
+\tp4[p0] = p5
+\tt21 = make chan chan int p0\tchan int
+";
+
+#[test]
+fn every_form(rt: HostRuntime) -> Result<(), Fail> {
+    let mut code = code(rt.alloc())?;
+    let kinds = make_kinds(rt.alloc(), &mut code.types)?;
+    code.functions.push(all_forms(rt.alloc(), &kinds)?)?;
+    let out = printed(rt.alloc(), &code, true, false)?;
+    assert_eq!(rt; out.bytes(), ALL_FORMS.as_bytes());
     Ok(())
 }

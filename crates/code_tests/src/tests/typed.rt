@@ -1,120 +1,120 @@
 //! Which codes are typed, and the first line that is not.
 
 use crate::tests::cases::{CASES, Case, case_at, params};
-use crate::tests::rows::{empty_function, instr};
-use crate::tests::texts::{Kinds, choosing, code, ids, make_kinds, preds};
+use crate::tests::kinds::{Kinds, basics, code, make_kinds};
+use crate::tests::rows::{empty_function, function, instr};
 use go_base::NoMemory;
-use ssa_ir::{Block, Blocks, Code, Function, Instrs};
+use go_type::Basic::{self, Bool, Int};
+use ssa_ir::{Block, BlockIds, Code, Function, Instrs};
 use ssa_typed::{TypedError, type_code};
 use std::alloc::Global;
-use std::process::Abort;
 use std::test::Fail;
 
-/// What is changed in the function of four blocks.
+/// The function of four blocks: `x = a + 1; if c { x = x * 2 }; return x`, where `c` and `a` are the parameters.
 #[derive(Clone, Copy)]
-enum Change {
-    Nothing,
-    Parameters,
-    Results,
-    Register,
-    Variadic,
-    Blocks,
-}
-
-const CHANGES: &[(Change, Option<(u64, u64)>)] = &[
-    (Change::Nothing, None),
-    // `p0 + 1` of a boolean.
-    (Change::Parameters, Some((0, 0))),
-    // `return` of an integer.
-    (Change::Results, Some((3, 1))),
-    // A phi of integers that is a boolean.
-    (Change::Register, Some((3, 0))),
-    // A last parameter that is no slice, and a function of the source without blocks.
-    (Change::Variadic, Some((0, 0))),
-    (Change::Blocks, Some((0, 0))),
-];
-
-fn apply(
-    alloc: Global,
-    kinds: &Kinds,
-    change: Change,
-    function: &mut Function,
-) -> Result<(), NoMemory> {
-    match change {
-        Change::Nothing => {}
-        Change::Parameters => function.params = ids(alloc, &[kinds.truth, kinds.truth])?,
-        Change::Results => function.results = ids(alloc, &[kinds.truth])?,
-        Change::Register => {
-            function.registers = ids(alloc, &[kinds.int, kinds.truth, kinds.int, kinds.int])?
-        }
-        Change::Variadic => function.variadic = true,
-        Change::Blocks => function.blocks = Blocks::new(alloc),
-    }
-    Ok(())
-}
-
-fn is_typed(
-    rt: &impl Abort,
-    alloc: Global,
-    change: Change,
+pub struct Row {
+    params: &'static [Basic],
+    results: &'static [Basic],
+    registers: &'static [Basic],
+    variadic: bool,
+    text: &'static str,
+    /// The block and the instruction that are ill typed.
     place: Option<(u64, u64)>,
-) -> Result<(), Fail> {
+}
+
+/// The function as it is right. Registers are numbered against the order of the text.
+pub const RIGHT: Row = Row {
+    params: &[Bool, Int],
+    results: &[Int],
+    registers: &[Bool, Int, Int, Int],
+    variadic: false,
+    text: ":b31a12;0:m232j3;0:j3;21:p12312r1;",
+    place: None,
+};
+
+/// The function, changed in one part.
+fn changed(number: u32) -> Row {
+    let mut row = RIGHT;
+    row.place = Some((0, 0));
+    match number {
+        // `p1 + 1` of a boolean.
+        0 => row.params = &[Bool, Bool],
+        // A last parameter that is no slice, and a function of the source without blocks.
+        1 => row.variadic = true,
+        2 => row.text = "",
+        // A phi of integers that is a boolean.
+        3 => {
+            row.registers = &[Bool, Bool, Int, Int];
+            row.place = Some((3, 0));
+        }
+        // `return` of an integer.
+        _ => {
+            row.results = &[Bool];
+            row.place = Some((3, 1));
+        }
+    }
+    row
+}
+
+/// The function of a row.
+pub fn four_blocks(alloc: Global, row: &Row) -> Result<Function, NoMemory> {
+    let mut function = function(alloc, row.text, None)?;
+    function.params = basics(alloc, row.params)?;
+    function.results = basics(alloc, row.results)?;
+    function.registers = basics(alloc, row.registers)?;
+    function.variadic = row.variadic;
+    Ok(function)
+}
+
+/// Where the code of a row is ill typed.
+fn ill_typed(alloc: Global, row: &Row) -> Result<Option<TypedError>, NoMemory> {
     let mut code = code(alloc)?;
-    let kinds = make_kinds(alloc, &mut code.types)?;
-    let mut function = choosing(alloc, &kinds)?;
-    apply(alloc, &kinds, change, &mut function)?;
-    code.functions.push(function)?;
-    let wanted = place.map(|(block, instr)| TypedError::IllTyped {
-        function: 0,
-        block,
-        instr,
-    });
-    assert_eq!(rt; type_code(alloc, &code).err(), wanted);
-    Ok(())
+    code.functions.push(four_blocks(alloc, row)?)?;
+    Ok(type_code(alloc, &code).err())
 }
 
 #[test]
 fn first_lines_that_are_ill_typed(rt: HostRuntime) -> Result<(), Fail> {
-    let alloc = rt.alloc();
-    for (change, place) in CHANGES {
-        is_typed(&rt, alloc, *change, *place)?;
+    assert_eq!(rt; ill_typed(rt.alloc(), &RIGHT)?, None);
+    for number in 0..5 {
+        let row = changed(number);
+        let wanted = row.place.map(|(block, instr)| TypedError::IllTyped {
+            function: 0,
+            block,
+            instr,
+        });
+        assert_eq!(rt; ill_typed(rt.alloc(), &row)?, wanted, "{number}");
     }
     Ok(())
 }
 
-/// A code of one instruction, with the type of the register that it gives.
-fn code_of(alloc: Global, kinds: &Kinds, code: &mut Code, case: Case) -> Result<(), NoMemory> {
+/// A function of one instruction, with the type of the register that it gives.
+fn function_of(alloc: Global, kinds: &Kinds, case: Case) -> Result<Function, NoMemory> {
     let (op, of) = case;
     let mut function = empty_function(alloc, "main.f")?;
     function.params = params(alloc, kinds)?;
-    function.registers = ids(alloc, &[kinds.pair, of.unwrap_or(kinds.int)])?;
-    let mut instrs = Instrs::new(alloc);
+    function.registers.push(kinds.pair)?;
+    function.registers.push(of.unwrap_or(kinds.int))?;
+    let (preds, mut instrs) = (BlockIds::new(alloc), Instrs::new(alloc));
     instrs.push(instr(op, of.map(|_| 1)))?;
-    function.blocks.push(Block {
-        preds: preds(alloc, &[])?,
-        instrs,
-    })?;
-    code.functions.push(function)
+    function.blocks.push(Block { preds, instrs })?;
+    Ok(function)
 }
 
-/// Whether an instruction is right.
-fn fits(alloc: Global, kinds: &Kinds, mut code: Code, case: Case) -> Result<bool, NoMemory> {
-    code_of(alloc, kinds, &mut code, case)?;
+/// Whether an instruction of the table is right with a number.
+fn fits(alloc: Global, place: usize, number: u64) -> Result<bool, NoMemory> {
+    let mut code = code(alloc)?;
+    let kinds = make_kinds(alloc, &mut code.types)?;
+    let case = case_at(alloc, &kinds, place, number)?;
+    code.functions.push(function_of(alloc, &kinds, case)?)?;
     Ok(type_code(alloc, &code).is_ok())
 }
 
-/// Each instruction of an even number is right, and the next is wrong in one part.
 #[test]
 fn each_form_right_and_wrong(rt: HostRuntime) -> Result<(), Fail> {
-    let alloc = rt.alloc();
-    for number in 0..CASES {
-        let mut code = code(alloc)?;
-        let kinds = make_kinds(alloc, &mut code.types)?;
-        let Some(case) = case_at(alloc, &kinds, number)? else {
-            return Err("no case".into());
-        };
-        let fits = fits(alloc, &kinds, code, case)?;
-        assert_eq!(rt; fits, number % 2 == 0, "case {number}");
+    for (place, (right, wrong)) in CASES.iter().enumerate() {
+        assert!(rt; fits(rt.alloc(), place, *right)?, "case {place}");
+        assert!(rt; !fits(rt.alloc(), place, *wrong)?, "case {place}");
     }
     Ok(())
 }
