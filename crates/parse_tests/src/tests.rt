@@ -1,157 +1,77 @@
-//! For each production and each of its notes files that are read, and files that are refused.
+//! The tables, and how deep a file may nest.
 
-mod bodies;
-mod parts;
-mod values;
-
-use crate::tests::bodies::STATEMENTS;
-use crate::tests::parts::{DECLARATIONS, FILES, TYPES};
-use crate::tests::values::EXPRESSIONS;
-use go_ast::Kind::{
-    Assign, CloseBrace, CloseParen, FuncWord, Inserted, Int, Name, OpenBrace, OpenParen,
-    PackageWord, VarWord,
-};
-use go_ast::{Kind, Token, Tokens};
+use crate::tables::{DECLARATIONS, EXPRESSIONS, FILES, STATEMENTS, TYPES};
 use go_parse::{ParseError, parse};
+use go_scan::scan;
 use std::alloc::Global;
 use std::test::Fail;
 
-/// Tokens of these kinds, each of one byte, one behind the other.
-fn tokens_of(alloc: Global, parts: [&[Kind]; 3]) -> Result<Tokens, Fail> {
-    let mut tokens = Tokens::new(alloc);
-    let mut start = 0u32;
-    for part in parts {
-        for kind in part {
-            let end = start.wrapping_add(1);
-            tokens.push(Token {
-                kind: *kind,
-                start,
-                end,
-            })?;
-            start = end;
-        }
+/// The token at which a text is refused, where it is.
+fn refusal(alloc: Global, text: &str) -> Result<Option<usize>, Fail> {
+    if text.len() > 1_000 {
+        return Err("too long".into());
     }
-    Ok(tokens)
-}
-
-/// The token at which tokens of these kinds are refused, where they are.
-fn refusal(alloc: Global, parts: [&[Kind]; 3]) -> Result<Option<usize>, Fail> {
-    let tokens = tokens_of(alloc, parts)?;
+    let tokens = scan(alloc, 0, text.as_bytes())?;
     match parse(alloc, &tokens) {
         Ok(_) => Ok(None),
-        Err(ParseError::Unexpected { index }) => Ok(Some(index)),
+        Err(ParseError::Unexpected { index } | ParseError::TooDeep { index }) => Ok(Some(index)),
         Err(error) => Err(Fail::from(error)),
     }
 }
 
-/// `package p`
-const CLAUSE: &[Kind] = &[PackageWord, Name, Inserted];
-
-/// The end of a line.
-const END: &[Kind] = &[Inserted];
-
-/// The front of a declaration of a variable.
-const VARIABLE: &[Kind] = &[PackageWord, Name, Inserted, VarWord, Name];
-
-/// The front of a declaration of a variable with a value.
-const VALUE: &[Kind] = &[PackageWord, Name, Inserted, VarWord, Name, Assign];
-
-/// The front of a function.
-const FUNCTION: &[Kind] = &[
-    PackageWord,
-    Name,
-    Inserted,
-    FuncWord,
-    Name,
-    OpenParen,
-    CloseParen,
-    OpenBrace,
-];
-
-/// The end of a function.
-const FUNCTION_END: &[Kind] = &[CloseBrace, Inserted];
-
-/// The rows of a table whose parts, between this front and back, are not read or refused as they say.
-fn wrong_rows(
-    alloc: Global,
-    table: &[(&[Kind], bool)],
-    front: &[Kind],
-    back: &[Kind],
-) -> Result<usize, Fail> {
-    let mut wrong = 0usize;
-    for (kinds, accepted) in table {
-        let want = if *accepted { None } else { Some(3) };
-        if refusal(alloc, [front, *kinds, back])? != want {
-            wrong = wrong.wrapping_add(1);
-        }
-    }
-    Ok(wrong)
-}
-
 #[test]
 fn files(rt: HostRuntime) -> Result<(), Fail> {
-    for (kinds, want) in FILES {
-        assert_eq!(rt; refusal(rt.alloc(), [&[], *kinds, &[]])?, *want);
+    for (text, want) in FILES {
+        assert_eq!(rt; refusal(rt.alloc(), text)?, *want, "{text}");
     }
     Ok(())
 }
 
-#[test]
-fn declarations(rt: HostRuntime) -> Result<(), Fail> {
-    assert_eq!(rt; wrong_rows(rt.alloc(), DECLARATIONS, CLAUSE, END)?, 0);
-    Ok(())
+/// The first row whose text, between this front and back of a file, is not read or refused as the row has it.
+fn first_wrong(
+    alloc: Global,
+    table: &[(&'static str, bool)],
+    front: &str,
+    back: &str,
+) -> Result<Option<&'static str>, Fail> {
+    for (text, accepted) in table {
+        let want = if *accepted { None } else { Some(3) };
+        let file = format!(in alloc; "package p; {front}{text}{back}")?;
+        if refusal(alloc, file.as_str())? != want {
+            return Ok(Some(text));
+        }
+    }
+    Ok(None)
 }
 
 #[test]
-fn types(rt: HostRuntime) -> Result<(), Fail> {
-    assert_eq!(rt; wrong_rows(rt.alloc(), TYPES, VARIABLE, END)?, 0);
-    Ok(())
-}
-
-#[test]
-fn expressions(rt: HostRuntime) -> Result<(), Fail> {
-    assert_eq!(rt; wrong_rows(rt.alloc(), EXPRESSIONS, VALUE, END)?, 0);
-    Ok(())
-}
-
-#[test]
-fn statements(rt: HostRuntime) -> Result<(), Fail> {
-    assert_eq!(rt;
-        wrong_rows(rt.alloc(), STATEMENTS, FUNCTION, FUNCTION_END)?,
-        0
-    );
+fn parts_of_files(rt: HostRuntime) -> Result<(), Fail> {
+    let alloc = rt.alloc();
+    assert_eq!(rt; first_wrong(alloc, DECLARATIONS, "", "")?, None);
+    assert_eq!(rt; first_wrong(alloc, TYPES, "var x ", "")?, None);
+    assert_eq!(rt; first_wrong(alloc, EXPRESSIONS, "var x = ", "")?, None);
+    assert_eq!(rt; first_wrong(alloc, STATEMENTS, "func f() { ", " }")?, None);
     Ok(())
 }
 
 /// A variable whose value stands in so many pairs of parentheses.
-fn nested(alloc: Global, pairs: usize) -> Result<Tokens, Fail> {
-    let mut tokens = tokens_of(alloc, [VALUE, &[], &[]])?;
-    let token = |kind: Kind| Token {
-        kind,
-        start: 0,
-        end: 0,
-    };
+fn nested(alloc: Global, pairs: usize) -> Result<String, Fail> {
+    let mut text = String::from_str(alloc, "package p; var x = ")?;
     for _ in 0..pairs {
-        tokens.push(token(OpenParen))?;
+        text.push_str("(")?;
     }
-    tokens.push(token(Int))?;
+    text.push_str("1")?;
     for _ in 0..pairs {
-        tokens.push(token(CloseParen))?;
+        text.push_str(")")?;
     }
-    tokens.push(token(Inserted))?;
-    Ok(tokens)
+    Ok(text)
 }
 
 #[test]
 fn reach(rt: HostRuntime) -> Result<(), Fail> {
-    let tokens = nested(rt.alloc(), 396)?;
-    assert!(rt; parse(rt.alloc(), &tokens).is_ok());
-    let tokens = nested(rt.alloc(), 397)?;
-    assert!(rt;
-        matches!(
-            parse(rt.alloc(), &tokens),
-            Err(ParseError::TooDeep { index: 403 })
-        )
-    );
+    for (pairs, want) in [(396, None), (397, Some(403))] {
+        let text = nested(rt.alloc(), pairs)?;
+        assert_eq!(rt; refusal(rt.alloc(), text.as_str())?, want, "{pairs}");
+    }
     Ok(())
 }
