@@ -48,14 +48,14 @@ pub struct LocalTypes {
 
 impl LocalTypes {
     /// No types.
-    pub(crate) fn new(alloc: Global) -> LocalTypes {
+    pub fn new(alloc: Global) -> LocalTypes {
         LocalTypes {
             numbers: BTreeMap::new(alloc),
         }
     }
 
     /// Gives the type whose name stands at a place its number.
-    pub(crate) fn put(&mut self, at: Pos, number: u32) -> Result<(), NoMemory> {
+    pub fn put(&mut self, at: Pos, number: u32) -> Result<(), NoMemory> {
         self.numbers.insert(at, number)?;
         Ok(())
     }
