@@ -5,12 +5,12 @@ use crate::text::{name_end, text_at, text_of};
 use go_ast::Token;
 use go_base::{FuncId, NameId, Names, NoMemory, Pos, Rule, TypeId, VarId};
 use go_faults::Least;
-use go_load::Sources;
 use go_names::{
     Blocks, Constants, Entity, Extents, FileScopes, ImportOf, Mention, Mentions, PackageBlocks,
     Universe,
 };
 use go_resolve::{CheckError, Declared, LocalTypes};
+use go_sources::Sources;
 use go_tree::{
     DeclaredTypes, FunctionDecl, FunctionDecls, FunctionForm, Packages, Variable, Variables,
 };
