@@ -9,7 +9,7 @@ use crate::types::see_type as see_type_in;
 use go_base::{NoMemory, Pos, TypeId};
 use go_declared::CheckError;
 use go_faults::Least;
-use go_load::{SourceFile, Sources};
+use go_sources::{SourceFile, Sources};
 use go_syntax::{Decl, Expr, TypeExpr};
 use go_tree::TypedExpr;
 use std::alloc::Global;

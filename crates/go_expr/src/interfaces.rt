@@ -5,7 +5,7 @@ use crate::scope::Scope;
 use crate::structs::ends;
 use go_ast::Token;
 use go_base::{NameId, NoMemory, Pos, Rule, TypeId};
-use go_load::SourceFile;
+use go_sources::SourceFile;
 use go_syntax::NamedType;
 use go_type::{MethodType, MethodTypes, TypeTerm};
 use indexmap::IndexSet;

@@ -17,7 +17,7 @@ use crate::tables::Tables;
 use crate::values::find_values;
 use go_base::NoMemory;
 use go_declared::{CheckError, Declared};
-use go_load::Sources;
+use go_sources::Sources;
 use std::alloc::Global;
 
 /// What the packages of a program declare. `Refused` with the first broken rule of their declarations: of names, types,

@@ -12,8 +12,8 @@ use crate::specifications::Made;
 use crate::tables::{Sort, Tables};
 use go_base::{FuncId, NameId, NoMemory, Pos, TypeId, VarId};
 use go_declared::Declared;
-use go_load::Sources;
 use go_names::{Constant, Constants, Entity, Extent, Extents, PackageBlocks};
+use go_sources::Sources;
 use go_syntax::FuncDecl;
 use go_tree::{
     DeclaredType, DeclaredTypes, FunctionDecl, FunctionDecls, FunctionForm, Variable, Variables,

@@ -1,7 +1,7 @@
 -- The names of packages.
 use Rattle.std.specs.Prelude.{nat_le, ◌&&◌, if◌then◌else◌, slice_range, ℕ, List, [], length}
 use Rattle.go_ast.specs.declared.token.Token.{Token}
-use Rattle.go_load.specs.declared.sources.SourceFile.{SourceFile}
+use Rattle.go_sources.specs.declared.sources.SourceFile.{SourceFile}
 
 -- the bytes of a token, where it lies in the text
 abbrev pub text_in : List ℕ → Token → List ℕ

@@ -1,7 +1,15 @@
 -- The files of the built-in packages.
-use Rattle.std.specs.Prelude.{◌≡◌, ℕ, List, codes}
-use Rattle.go_load.specs.declared.built_in.BuiltIn.{BuiltIn}
-use Rattle.go_load.specs.declared.built_in.BuiltIn.TheVariants.{Errors, Os, Runtime}
+use Rattle.std.specs.Prelude.{◌≡◌, ℕ, if◌then◌else◌, List, Option, Some, None, codes, bytes_eq}
+use Rattle.go_sources.specs.declared.built_in.BuiltIn.{BuiltIn}
+use Rattle.go_sources.specs.declared.built_in.BuiltIn.TheVariants.{Errors, Os, Runtime}
+
+-- the built-in package with an import path
+abbrev pub built_in_named : List ℕ → Option BuiltIn
+built_in_named path =
+    if bytes_eq path (codes "errors") then Some Errors
+    else if bytes_eq path (codes "os") then Some Os
+    else if bytes_eq path (codes "runtime") then Some Runtime
+    else None
 
 abbrev pub built_in_path : BuiltIn → List ℕ
 built_in_path Errors = codes "builtin:errors.go"

@@ -2,10 +2,9 @@
 
 ghost use Rattle.std.specs.Prelude.{◌≡◌, length, IfOk, slice_get};
 ghost use Rattle.std.specs.Option.{option_copied};
-ghost use Rattle.go_load.specs.Soundness.{AreSources};
+ghost use Rattle.go_sources.specs.Soundness.{AreSources};
 
-use crate::error::lost;
-use crate::read::place_at;
+use crate::places::place_at;
 use crate::soundness::{are_sources, imports_in};
 use crate::sources::{Import, SourceFile, SourcePackage};
 use crate::versions::version_under;
@@ -26,11 +25,11 @@ pub struct Sources {
 }
 
 impl Sources {
-    ghost use Rattle.go_load.specs.Sources.{files_of, packages_of, imports_at, version_of};
-    ghost use Rattle.go_load.specs.Loaded.{IsWithin, Locates};
+    ghost use Rattle.go_sources.specs.Sources.{files_of, packages_of, imports_at, version_of};
+    ghost use Rattle.go_sources.specs.Loaded.{IsWithin, Locates};
 
     /// The program of these parts, which are sound.
-    pub(crate) fn new(
+    pub fn new(
         alloc: Global,
         files: Vec<SourceFile>,
         packages: Vec<SourcePackage>,
@@ -118,4 +117,9 @@ impl Sources {
             pos.offset as usize,
         )
     }
+}
+
+/// What is answered in a case that cannot come, which is not proved yet.
+fn lost() -> NoMemory {
+    NoMemory
 }

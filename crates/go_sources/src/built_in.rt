@@ -1,8 +1,7 @@
 //! The packages that every program can import without files of its own.
 
 ghost use Rattle.std.specs.Prelude.{◌≡◌, ◌≤◌, length};
-ghost use Rattle.go_load.specs.BuiltIns.{built_in_path, built_in_text};
-ghost use Rattle.go_load.specs.Imports.{built_in_named};
+ghost use Rattle.go_sources.specs.BuiltIns.{built_in_named, built_in_path, built_in_text};
 
 /// A built-in package.
 #[derive(Clone, Copy, Debug, PartialEq, Eq)]

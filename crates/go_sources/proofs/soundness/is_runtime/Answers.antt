@@ -1,5 +1,5 @@
 use Rattle.std.proofs.Common.{rules}
-use Rattle.go_load.proofs.soundness.is_runtime.Goals as goal
+use Rattle.go_sources.proofs.soundness.is_runtime.Goals as goal
 
 pub returns-then-eq : goal.returns-then-eq
 returns-then-eq c = λ fine. record {

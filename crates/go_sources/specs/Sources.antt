@@ -2,13 +2,12 @@
 use Rattle.std.specs.Prelude.{◌≡◌, ℕ, Bool, false, if◌then◌else◌, List, Option, Some, None, option_map, unwrap_or, slice_get, Vec, IfSome, All, ◌⊎◌}
 use Rattle.std.specs.declared.alloc.Global.{Global}
 use Rattle.go_base.specs.Devices.{Tree, file_at}
-use Rattle.go_load.specs.declared.program.Sources.{Sources}
-use Rattle.go_load.specs.declared.sources.Import.{Import}
-use Rattle.go_load.specs.declared.sources.SourceFile.{SourceFile}
-use Rattle.go_load.specs.declared.sources.SourcePackage.{SourcePackage}
-use Rattle.go_load.specs.BuiltIns.{IsBuiltIn}
-use Rattle.go_load.specs.GoMod.{newest_minor}
-use Rattle.go_load.specs.Soundness.{imports_in}
+use Rattle.go_sources.specs.declared.program.Sources.{Sources}
+use Rattle.go_sources.specs.declared.sources.Import.{Import}
+use Rattle.go_sources.specs.declared.sources.SourceFile.{SourceFile}
+use Rattle.go_sources.specs.declared.sources.SourcePackage.{SourcePackage}
+use Rattle.go_sources.specs.BuiltIns.{IsBuiltIn}
+use Rattle.go_sources.specs.Soundness.{imports_in}
 
 abbrev pub files_of : Sources → List SourceFile
 files_of sources = sources.files.items
@@ -19,6 +18,10 @@ packages_of sources = sources.packages.items
 -- the imports of the file with a number; none where there is no such file
 abbrev pub imports_at : Sources → ℕ → List Import
 imports_at sources file = imports_in sources.imports.items file
+
+-- the newest N of Go 1.N
+abbrev pub newest_minor : ℕ
+newest_minor = 21
 
 -- the N of Go 1.N whose rules a package follows, in a program with that of go.mod: a built-in one follows the newest
 abbrev pub version_under : Bool → ℕ → ℕ

@@ -3,9 +3,9 @@
 ghost use Rattle.std.specs.Prelude.{◌≡◌, ◌≤◌, ◌<◌, ◌+◌, ◌↔◌, ◌++◌, ℕ, All, IfOk, OnOk, IfSome, IsSomeAnd, IsTrue, slice_get, Some};
 ghost use Rattle.std.specs.Option.{option_copied};
 ghost use Rattle.import_graph.specs.Cycles.{IsOnCycle};
-ghost use Rattle.go_load.specs.BuiltIns.{built_in_text};
-ghost use Rattle.go_load.specs.declared.built_in.BuiltIn.TheVariants.{Runtime};
-ghost use Rattle.go_load.specs.Soundness.{edges_of_file, import_edges, imports_in, AreFirst, AreInOrder, ArePlaced, AreSources, HaveRuntime, IsPlaced, IsRuntime};
+ghost use Rattle.go_sources.specs.BuiltIns.{built_in_text};
+ghost use Rattle.go_sources.specs.declared.built_in.BuiltIn.TheVariants.{Runtime};
+ghost use Rattle.go_sources.specs.Soundness.{edges_of_file, import_edges, imports_in, AreFirst, AreInOrder, ArePlaced, AreSources, HaveRuntime, IsPlaced, IsRuntime};
 
 use crate::built_in::BuiltIn;
 use crate::sources::{Import, SourceFile, SourcePackage};

@@ -1,7 +1,7 @@
 use Rattle.std.proofs.Common.{◌≡◌, ◌<◌, ℕ, Some, slice_get, IsSomeAnd}
-use Rattle.go_load.specs.declared.sources.SourceFile.{SourceFile}
-use Rattle.go_load.specs.declared.sources.SourcePackage.{SourcePackage}
-use Rattle.go_load.proofs.soundness.are_first.Given as goal
+use Rattle.go_sources.specs.declared.sources.SourceFile.{SourceFile}
+use Rattle.go_sources.specs.declared.sources.SourcePackage.{SourcePackage}
+use Rattle.go_sources.proofs.soundness.are_first.Given as goal
 
 abbrev pub invariant-packages : goal.invariant-packages
 invariant-packages l =

@@ -3,11 +3,11 @@ use Rattle.std.specs.Prelude.{◌≡◌, ◌<◌, ◌≤◌, ◌+◌, ℕ, List,
 use Rattle.std.specs.declared.alloc.Global.{Global}
 use Rattle.import_graph.specs.Cycles.{IsOnCycle}
 use Rattle.import_graph.specs.declared.edges.Edge.{Edge}
-use Rattle.go_load.specs.BuiltIns.{built_in_text}
-use Rattle.go_load.specs.declared.built_in.BuiltIn.TheVariants.{Runtime}
-use Rattle.go_load.specs.declared.sources.Import.{Import}
-use Rattle.go_load.specs.declared.sources.SourceFile.{SourceFile}
-use Rattle.go_load.specs.declared.sources.SourcePackage.{SourcePackage}
+use Rattle.go_sources.specs.BuiltIns.{built_in_text}
+use Rattle.go_sources.specs.declared.built_in.BuiltIn.TheVariants.{Runtime}
+use Rattle.go_sources.specs.declared.sources.Import.{Import}
+use Rattle.go_sources.specs.declared.sources.SourceFile.{SourceFile}
+use Rattle.go_sources.specs.declared.sources.SourcePackage.{SourcePackage}
 
 -- ---- the order of files
 

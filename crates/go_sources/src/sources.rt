@@ -1,14 +1,11 @@
 //! What a program is loaded from: files, packages and imports.
 
-ghost use Rattle.std.specs.Prelude.{◌≡◌, ◌≤◌, length, Option};
-ghost use Rattle.go_load.specs.Reading.{HasTree};
+ghost use Rattle.std.specs.Prelude.{◌≡◌, ◌≤◌, length};
+ghost use Rattle.go_sources.specs.Reading.{HasTree};
 
-use crate::error::LoadError;
-use crate::read::refuse_at;
 use go_ast::Token;
-use go_base::{Bytes, Rule, Text};
+use go_base::{Bytes, Text};
 use go_syntax::FileTree;
-use std::alloc::Global;
 
 /// A file that was loaded.
 #[derive(Drop)]
@@ -24,13 +21,7 @@ pub struct SourceFile {
 }
 
 impl SourceFile {
-    ghost use Rattle.std.specs.Prelude.{IsErrOf, min, ◌≢◌};
-    ghost use Rattle.go_base.specs.Devices.{Tree};
-    ghost use Rattle.go_base.specs.declared.place.Place.{Place};
-    ghost use Rattle.go_load.specs.declared.error.LoadError.TheVariants.{ReadFault};
-    ghost use Rattle.go_load.specs.Packages.{package_name, text_in};
-    ghost use Rattle.go_load.specs.Places.{place_in, Refuses};
-    ghost use Rattle.go_load.specs.Refusals.{Justifies, Stops};
+    ghost use Rattle.go_sources.specs.Packages.{package_name, text_in};
 
     /// The bytes of a token of this file.
     pub fn text(&self, token: Token) -> &[u8]
@@ -50,17 +41,6 @@ impl SourceFile {
         ensures { result.now ≡ package_name self.now }
     {
         self.text(self.tree.name)
-    }
-
-    /// That the file breaks a rule at a byte.
-    pub(crate) fn refuse(&self, alloc: Global, offset: u32, rule: Rule) -> LoadError
-        ensures no_fault { result ≢ ReadFault }
-        ensures why { (files : Option Tree) → ((place : Place) → Justifies files place rule) → Stops files result }
-        ensures here { Refuses (place_in self.now.path self.now.bytes (min offset (length self.now.bytes))) rule result }
-    {
-        let bytes = self.bytes.as_slice();
-        let offset = (offset as usize).min(bytes.len());
-        refuse_at(alloc, self.path.as_str(), bytes, offset, rule)
     }
 }
 
