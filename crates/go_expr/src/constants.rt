@@ -15,7 +15,7 @@ use std::alloc::Global;
 use typed_rules::{Seen, constant_value, one_value};
 
 /// The type that is written for the values of a specification.
-#[derive(Clone, Copy, Debug, PartialEq, Eq)]
+#[derive(Clone, Copy, PartialEq, Eq)]
 enum Written {
     Nothing,
     Unsound,

@@ -13,14 +13,14 @@ use std::alloc::Global;
 use std::collections::BTreeMap;
 
 /// The name of a method, in the order of the methods of an interface.
-#[derive(Clone, Copy, Debug, PartialEq, Eq, PartialOrd, Ord)]
+#[derive(Clone, Copy, PartialEq, Eq, PartialOrd, Ord)]
 struct MethodName {
     name: NameId,
     package: u32,
 }
 
 /// What brings a method.
-#[derive(Clone, Copy, Debug, PartialEq, Eq)]
+#[derive(Clone, Copy, PartialEq, Eq)]
 struct Brought {
     /// Its type, where that is sound.
     of: Option<TypeId>,

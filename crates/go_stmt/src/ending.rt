@@ -12,7 +12,7 @@ use indexmap::IndexSet;
 use stmt_rules::{Holder, Reading, Walker, mentions_from};
 
 /// An import, by its index in its file.
-#[derive(Clone, Copy, Debug, PartialEq, Eq, Hash)]
+#[derive(Clone, Copy, PartialEq, Eq, Hash)]
 struct ImportKey {
     file: u32,
     index: u32,
