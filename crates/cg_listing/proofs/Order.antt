@@ -5,8 +5,8 @@ use Rattle.std.specs.List.Sorted.{IsSortedBy}
 use Rattle.std.specs.declared.cmp.Ordering.{Ordering}
 use Rattle.std.specs.declared.cmp.Ordering.TheVariants.{Less, Equal, Greater}
 use Rattle.std.specs.Ordering.{is_lt, ordering_then}
+use Rattle.go_sources.specs.declared.sources.SourceFile.{SourceFile}
 use Rattle.cg_listing.specs.Listing.{line_by}
-use Rattle.go_load.specs.declared.sources.SourceFile.{SourceFile}
 use Rattle.cg_sets.specs.declared.edges.Edge.{Edge}
 
 front_alone : (s t : Ordering) → is_lt (ordering_then s t) ≡ false → is_lt s ≡ false

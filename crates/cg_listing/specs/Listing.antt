@@ -8,8 +8,8 @@ use Rattle.std.specs.Io.KnownBytes.{Appends}
 use Rattle.go_base.specs.Devices.{AppendsFront}
 use Rattle.go_base.specs.declared.place.Place.{Place}
 use Rattle.go_base.specs.declared.place.Pos.{Pos}
-use Rattle.go_load.specs.declared.sources.SourceFile.{SourceFile}
-use Rattle.go_load.specs.Places.{place_in}
+use Rattle.go_sources.specs.declared.sources.SourceFile.{SourceFile}
+use Rattle.go_sources.specs.Places.{place_in}
 use Rattle.go_text.specs.Naming.{Naming}
 use Rattle.go_tree.specs.declared.program.Program.{Program}
 use Rattle.tree_facts.specs.FunctionNames.{function_text}

@@ -4,7 +4,7 @@ ghost use Rattle.std.specs.Prelude.{◌≡◌, ◌≤◌, ◌++◌, ℕ, List, m
 ghost use Rattle.std.specs.Io.KnownBytes.{Appends};
 ghost use Rattle.go_base.specs.Devices.{HasFaulted, AppendsFront};
 ghost use Rattle.go_base.specs.declared.devices.PrintError.TheVariants.{WriteFault};
-ghost use Rattle.go_load.specs.Sources.{files_of};
+ghost use Rattle.go_sources.specs.Sources.{files_of};
 ghost use Rattle.cg_listing.specs.Listing.{line_text, lines_text, Writes, WritesFront};
 ghost use Rattle.cg_listing.specs.Rows.{IsNamed, line_of_row};
 
@@ -14,7 +14,7 @@ use crate::places::NamedSite;
 use crate::rows::{Row, rows_in_order};
 use cg_sets::Edges;
 use go_base::{NoMemory, PrintError, Sink};
-use go_load::Sources;
+use go_sources::Sources;
 use go_tree::Program;
 use std::alloc::Global;
 

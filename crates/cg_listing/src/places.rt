@@ -1,14 +1,14 @@
 //! The texts of sites.
 
 ghost use Rattle.std.specs.Prelude.{◌≡◌, ◌++◌, List, OnOk, IsTrue};
+ghost use Rattle.go_sources.specs.Loaded.{IsWithin};
+ghost use Rattle.go_sources.specs.Sources.{files_of};
+ghost use Rattle.go_sources.specs.declared.sources.SourceFile.{SourceFile};
 ghost use Rattle.cg_listing.specs.Listing.{site_text, place_text, is_within};
 ghost use Rattle.cg_listing.specs.Rows.{IsNamed};
-ghost use Rattle.go_load.specs.Loaded.{IsWithin};
-ghost use Rattle.go_load.specs.Sources.{files_of};
-ghost use Rattle.go_load.specs.declared.sources.SourceFile.{SourceFile};
 
 use go_base::{NoMemory, Place, Pos};
-use go_load::Sources;
+use go_sources::Sources;
 use go_text::push_number;
 use std::alloc::Global;
 

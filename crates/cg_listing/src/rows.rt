@@ -1,14 +1,14 @@
 //! The lines of a listing, in order.
 
 ghost use Rattle.std.specs.Prelude.{◌≡◌, map, IfOk};
+ghost use Rattle.go_sources.specs.Sources.{files_of};
 ghost use Rattle.cg_listing.specs.Listing.{line_by, name_in, path_of, IsInOrder};
 ghost use Rattle.cg_listing.specs.Rows.{line_of_row};
-ghost use Rattle.go_load.specs.Sources.{files_of};
 
 use crate::names::FunctionNames;
 use cg_sets::Edge;
 use go_base::{NoMemory, Pos};
-use go_load::Sources;
+use go_sources::Sources;
 use std::alloc::Global;
 
 /// A line, by what lines are ordered by.

@@ -11,7 +11,7 @@ use Rattle.go_base.specs.Devices.{AppendsFront}
 use Rattle.go_base.specs.declared.ending.Ending.{Ending}
 use Rattle.go_base.specs.declared.ending.Ending.TheVariants.{Exited, Bound}
 use Rattle.go_base.specs.declared.rule.Rule.TheVariants as rules
-use Rattle.go_load.specs.declared.sources.SourceFile.{SourceFile}
+use Rattle.go_sources.specs.declared.sources.SourceFile.{SourceFile}
 use Rattle.driver.specs.declared.outcome.Outcome.{Outcome}
 use Rattle.driver.specs.declared.outcome.Outcome.TheVariants as outcomes
 use Rattle.driver.specs.declared.stop.Stop.{Stop}

@@ -4,8 +4,8 @@ use Rattle.go_base.specs.declared.place.Place.{Place}
 use Rattle.go_base.specs.declared.place.Pos.{Pos}
 use Rattle.go_base.specs.declared.rule.Rule.{Rule}
 use Rattle.go_base.specs.Rules.{row_of}
-use Rattle.go_load.specs.declared.sources.SourceFile.{SourceFile}
-use Rattle.go_load.specs.Loaded.{IsWithin, Locates}
+use Rattle.go_sources.specs.declared.sources.SourceFile.{SourceFile}
+use Rattle.go_sources.specs.Loaded.{IsWithin, Locates}
 use Rattle.driver.specs.declared.outcome.Outcome.{Outcome}
 use Rattle.driver.specs.declared.outcome.Outcome.TheVariants as outcomes
 

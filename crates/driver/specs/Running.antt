@@ -7,7 +7,7 @@ use Rattle.go_base.specs.declared.ending.Ending.{Ending}
 use Rattle.go_base.specs.declared.ending.Ending.TheVariants.{Exited, Bound}
 use Rattle.go_ast.specs.declared.token.Token.{Token}
 use Rattle.go_ast.specs.Trees.{File}
-use Rattle.go_load.specs.declared.sources.SourceFile.{SourceFile}
+use Rattle.go_sources.specs.declared.sources.SourceFile.{SourceFile}
 use Rattle.driver.specs.FirstForm.{IsFirstForm, HasNoForm, output_of}
 
 -- the file of the target, where it has one alone; the files of other packages stand behind it

@@ -8,8 +8,8 @@ use Rattle.command_line.specs.declared.command.Command.TheVariants as commands
 use Rattle.go_base.specs.Devices.{Tree, AppendsFront, HasFaulted}
 use Rattle.go_base.specs.declared.place.Place.{Place}
 use Rattle.go_base.specs.declared.rule.Rule.{Rule}
-use Rattle.go_load.specs.declared.program.Sources.{Sources}
-use Rattle.go_load.specs.Sources.{files_of}
+use Rattle.go_sources.specs.declared.program.Sources.{Sources}
+use Rattle.go_sources.specs.Sources.{files_of}
 use Rattle.go_load.specs.Answers.{IsLoaded, Breaks}
 use Rattle.driver.specs.declared.outcome.Outcome.{Outcome}
 use Rattle.driver.specs.declared.outcome.Outcome.TheVariants as outcomes

@@ -8,7 +8,7 @@ use Rattle.command_line.specs.declared.command.LoadCommand.{LoadCommand}
 use Rattle.go_base.specs.declared.ending.Ending.{Ending}
 use Rattle.go_base.specs.declared.place.Place.{Place}
 use Rattle.go_base.specs.declared.rule.Rule.TheVariants as rules
-use Rattle.go_load.specs.declared.sources.SourceFile.{SourceFile}
+use Rattle.go_sources.specs.declared.sources.SourceFile.{SourceFile}
 use Rattle.driver.specs.declared.outcome.Outcome.{Outcome}
 use Rattle.driver.specs.declared.outcome.Outcome.TheVariants as outcomes
 use Rattle.driver.specs.Asked.{wants_registers}

@@ -2,8 +2,8 @@
 
 ghost use Rattle.std.specs.Prelude.{◌≡◌, ◌≤◌, IsTrue};
 ghost use Rattle.go_base.specs.Devices.{HasFaulted};
-ghost use Rattle.go_load.specs.Loaded.{IsWithin};
-ghost use Rattle.go_load.specs.Sources.{files_of};
+ghost use Rattle.go_sources.specs.Loaded.{IsWithin};
+ghost use Rattle.go_sources.specs.Sources.{files_of};
 ghost use Rattle.driver.specs.Asked.{needs_main};
 ghost use Rattle.driver.specs.Checking.{IsCheckedRow, IsRefusal};
 ghost use Rattle.driver.specs.Outputs.{Comes};
@@ -13,8 +13,8 @@ use crate::outcome::Outcome;
 use crate::work::work;
 use command_line::LoadCommand;
 use go_base::{Pos, Rule, Sink};
-use go_load::Sources;
-use go_resolve::CheckError;
+use go_declared::CheckError;
+use go_sources::Sources;
 use go_stmt::check;
 use go_tree::Program;
 use std::alloc::Global;

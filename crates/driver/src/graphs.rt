@@ -12,7 +12,7 @@ use cg_sets::{Edges, cha, rta};
 use cg_vta::vta;
 use command_line::Graph;
 use go_base::{NoMemory, PrintError, Sink};
-use go_load::Sources;
+use go_sources::Sources;
 use go_tree::Program;
 use std::alloc::Global;
 

@@ -2,7 +2,7 @@
 
 ghost use Rattle.std.specs.Prelude.{◌≡◌, ◌≤◌, length, IfOk, IsErrOf, option_copied};
 ghost use Rattle.go_base.specs.Devices.{HasFaulted};
-ghost use Rattle.go_load.specs.Sources.{files_of};
+ghost use Rattle.go_sources.specs.Sources.{files_of};
 ghost use Rattle.driver.specs.Outputs.{Does};
 ghost use Rattle.driver.specs.Running.{only_file, EndsWith, Knows, PrintsOf};
 ghost use Rattle.driver.specs.declared.stop.Stop.TheVariants.{WriteFault};
@@ -11,7 +11,7 @@ use crate::first_form::read_program;
 use crate::output::lines;
 use crate::stop::Stop;
 use go_base::{Ending, Sink};
-use go_load::{SourceFile, Sources};
+use go_sources::{SourceFile, Sources};
 use std::alloc::Global;
 
 /// What the program prints, where its target is one file that prints literals.

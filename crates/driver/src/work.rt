@@ -3,7 +3,7 @@
 ghost use Rattle.std.specs.Prelude.{◌≡◌, ◌≤◌, IsErrOf, None, Some, true, false};
 ghost use Rattle.go_base.specs.Devices.{HasFaulted};
 ghost use Rattle.go_interp.specs.Output.{HasWritten};
-ghost use Rattle.go_load.specs.Sources.{files_of};
+ghost use Rattle.go_sources.specs.Sources.{files_of};
 ghost use Rattle.driver.specs.Asked.{wants_registers};
 ghost use Rattle.driver.specs.Outputs.{Comes, Does};
 ghost use Rattle.driver.specs.Running.{IsKnown, IsOther};
@@ -19,7 +19,7 @@ use crate::stop::Stop;
 use command_line::{Letters, LoadCommand};
 use go_base::{Ending, Place, Rule, Sink, Text};
 use go_interp::run;
-use go_load::Sources;
+use go_sources::Sources;
 use go_tree::Program;
 use ssa_ir::Code;
 use std::alloc::Global;

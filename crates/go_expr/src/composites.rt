@@ -6,7 +6,7 @@ use crate::scope::Scope;
 use crate::types::see_type;
 use go_ast::Token;
 use go_base::{NameId, NoMemory, Pos};
-use go_load::SourceFile;
+use go_sources::SourceFile;
 use go_syntax::{Element, Expr, TypeExpr};
 use std::alloc::Global;
 use typed_rules::{

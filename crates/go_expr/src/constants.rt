@@ -7,15 +7,15 @@ use crate::scope::Scope;
 use crate::text::text_of;
 use crate::types::see_type;
 use go_base::{NoMemory, Pos, Rule, TypeId};
-use go_load::SourceFile;
 use go_names::{Constant, Entity};
+use go_sources::SourceFile;
 use go_syntax::{Expr, ListedExpr, ListedName, ValueSpec};
 use go_tree::{ExprKind, TypedExpr};
 use std::alloc::Global;
 use typed_rules::{Seen, constant_value, one_value};
 
 /// The type that is written for the values of a specification.
-#[derive(Clone, Copy, Debug, PartialEq, Eq)]
+#[derive(Clone, Copy, PartialEq, Eq)]
 enum Written {
     Nothing,
     Unsound,

@@ -5,7 +5,7 @@ use crate::scope::Scope;
 use crate::structs::ends;
 use go_ast::Token;
 use go_base::{NameId, NoMemory, Pos, Rule, TypeId};
-use go_load::SourceFile;
+use go_sources::SourceFile;
 use go_syntax::NamedType;
 use go_type::{MethodType, MethodTypes, TypeTerm};
 use indexmap::IndexSet;
@@ -13,14 +13,14 @@ use std::alloc::Global;
 use std::collections::BTreeMap;
 
 /// The name of a method, in the order of the methods of an interface.
-#[derive(Clone, Copy, Debug, PartialEq, Eq, PartialOrd, Ord)]
+#[derive(Clone, Copy, PartialEq, Eq, PartialOrd, Ord)]
 struct MethodName {
     name: NameId,
     package: u32,
 }
 
 /// What brings a method.
-#[derive(Clone, Copy, Debug, PartialEq, Eq)]
+#[derive(Clone, Copy, PartialEq, Eq)]
 struct Brought {
     /// Its type, where that is sound.
     of: Option<TypeId>,

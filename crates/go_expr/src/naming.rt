@@ -6,9 +6,9 @@ use crate::scope::Scope;
 use crate::text::text_of;
 use go_ast::Token;
 use go_base::{FuncId, NameId, NoMemory, Pos, Rule, TypeId, VarId};
-use go_load::SourceFile;
 use go_names::{Entity, ImportOf, Mention, Mentioned};
 use go_scan::is_exported;
+use go_sources::SourceFile;
 use go_type::{Basic, Const, EXPORTED, basic};
 use typed_rules::{Meaning, Seen, constant, function, iota, nil, variable};
 

@@ -12,7 +12,7 @@ use typed_rules::{
 };
 
 /// An operator on two operands.
-#[derive(Clone, Copy, Debug, PartialEq, Eq)]
+#[derive(Clone, Copy, PartialEq, Eq)]
 enum Infix {
     Binary(BinaryOp),
     Logic(LogicOp),

@@ -5,7 +5,7 @@ use go_base::{NameId, NoMemory, Pos, Rule, TypeId};
 use std::alloc::Global;
 
 /// Where a type stands in the declaration that is read.
-#[derive(Clone, Copy, Debug, PartialEq, Eq)]
+#[derive(Clone, Copy, PartialEq, Eq)]
 pub(crate) enum Position {
     /// It is the whole type, but for parentheses.
     Whole,
@@ -26,7 +26,7 @@ impl Position {
 }
 
 /// What is asked of a part once the type is defined.
-#[derive(Clone, Copy, Debug, PartialEq, Eq)]
+#[derive(Clone, Copy, PartialEq, Eq)]
 pub(crate) enum Asking {
     /// That it is comparable.
     Key,
@@ -41,7 +41,7 @@ pub(crate) enum Asking {
 }
 
 /// What is asked of a part in which the name of the type stands.
-#[derive(Clone, Copy, Debug, PartialEq, Eq)]
+#[derive(Clone, Copy, PartialEq, Eq)]
 pub(crate) struct Later {
     pub(crate) at: Pos,
     pub(crate) asking: Asking,

@@ -3,7 +3,7 @@
 use crate::scope::Scope;
 use crate::text::text_of;
 use go_base::{NameId, NoMemory, Rule, TypeId};
-use go_load::SourceFile;
+use go_sources::SourceFile;
 use go_syntax::Param;
 use go_type::{Signature, TypeIds, TypeTerm};
 use indexmap::IndexSet;

@@ -4,13 +4,13 @@ use crate::own::Own;
 use crate::text::{name_end, text_at, text_of};
 use go_ast::Token;
 use go_base::{FuncId, NameId, Names, NoMemory, Pos, Rule, TypeId, VarId};
+use go_declared::{CheckError, Declared, LocalTypes};
 use go_faults::Least;
-use go_load::Sources;
 use go_names::{
     Blocks, Constants, Entity, Extents, FileScopes, ImportOf, Mention, Mentions, PackageBlocks,
     Universe,
 };
-use go_resolve::{CheckError, Declared, LocalTypes};
+use go_sources::Sources;
 use go_tree::{
     DeclaredTypes, FunctionDecl, FunctionDecls, FunctionForm, Packages, Variable, Variables,
 };

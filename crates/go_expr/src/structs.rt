@@ -5,7 +5,7 @@ use crate::own::{Asking, Position};
 use crate::scope::Scope;
 use go_ast::Token;
 use go_base::{NameId, NoMemory, Pos, Rule, TypeId};
-use go_load::SourceFile;
+use go_sources::SourceFile;
 use go_syntax::{ListedName, NamedType};
 use go_type::{Field, Fields, TypeTerm};
 use indexmap::IndexSet;

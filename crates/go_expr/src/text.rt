@@ -3,7 +3,7 @@
 use crate::error::lost;
 use go_ast::Token;
 use go_base::NoMemory;
-use go_load::SourceFile;
+use go_sources::SourceFile;
 
 /// The text of a token that is a name.
 pub(crate) fn text_of(source: &SourceFile, token: Token) -> Result<&str, NoMemory> {

@@ -6,19 +6,21 @@ use Rattle.std.proofs.lemmas.List.Elements.{All-nil, All-push, All-same}
 use Rattle.go_base.specs.Devices.{Tree, file_at}
 use Rattle.go_base.specs.declared.rule.Rule.TheVariants as rules
 use Rattle.go_syntax.specs.declared.decls.FileTree.{FileTree}
-use Rattle.go_load.specs.declared.built_in.BuiltIn.{BuiltIn}
+use Rattle.go_sources.specs.declared.built_in.BuiltIn.{BuiltIn}
+use Rattle.go_sources.specs.declared.sources.SourceFile.{SourceFile}
+use Rattle.go_sources.specs.BuiltIns.{built_in_path, built_in_text}
+use Rattle.go_sources.specs.Places.{place_in}
+use Rattle.go_sources.specs.Sources.{IsText, AreTold}
+use Rattle.go_sources.specs.Reading.{HasTree}
 use Rattle.go_load.specs.declared.error.LoadError.{LoadError}
 use Rattle.go_load.specs.declared.error.LoadError.TheVariants.{Refused, ReadFault, OutOfMemory}
-use Rattle.go_load.specs.declared.sources.SourceFile.{SourceFile}
-use Rattle.go_load.specs.BuiltIns.{built_in_path, built_in_text}
 use Rattle.go_load.specs.FileReading.{text_of, ReadsText, ReadsPath, ReadsPaths, ReadsBuiltIn, AreOf}
 use Rattle.go_load.specs.Finding.{view_file}
 use Rattle.go_load.specs.Modules.{Broken, ReadsWhole}
-use Rattle.go_load.specs.Places.{place_in, first_place, Refuses}
+use Rattle.go_load.specs.Places.{first_place, Refuses}
 use Rattle.go_load.specs.Programs.{File, Reads, TooLarge, TooMuch, Bad, Good, with_file, ReadsAll, Ends, Stops, Goes}
 use Rattle.go_load.specs.Projects.{FileText, text_at, texts_at}
-use Rattle.go_load.specs.Sources.{IsText, AreTold}
-use Rattle.go_load.specs.Reading.{HasTree, BreaksText, ReadsTree}
+use Rattle.go_load.specs.Reading.{BreaksText, ReadsTree}
 
 -- ---- one text
 

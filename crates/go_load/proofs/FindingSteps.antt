@@ -12,18 +12,19 @@ use Rattle.go_base.specs.declared.rule.Rule.{Rule}
 use Rattle.go_base.specs.declared.rule.Rule.TheVariants as rules
 use Rattle.go_syntax.specs.declared.decls.ImportDecl.{ImportDecl}
 use Rattle.go_syntax.specs.declared.decls.ImportSpec.{ImportSpec}
+use Rattle.go_sources.specs.declared.sources.Import as numbers
+use Rattle.go_sources.specs.declared.sources.SourceFile.{SourceFile}
+use Rattle.go_sources.specs.Packages.{text_in}
+use Rattle.go_sources.specs.Places.{place_in}
 use Rattle.go_load.specs.declared.error.LoadError.{LoadError}
 use Rattle.go_load.specs.declared.error.LoadError.TheVariants.{Refused, ReadFault, OutOfMemory}
 use Rattle.go_load.specs.declared.found.Entry.{Entry}
 use Rattle.go_load.specs.declared.found.Found.{Found}
-use Rattle.go_load.specs.declared.sources.Import as numbers
-use Rattle.go_load.specs.declared.sources.SourceFile.{SourceFile}
 use Rattle.go_load.specs.Finding.{view_file, view_origin, AreRight, Joins, PackageFound, FindsPackage, ImportFound, FindsImport, numbered, ImportsFound, FindsImports, listed, numbered_files, AllFound, FindsAll, IsUnfoundAt}
 use Rattle.go_load.specs.Imports.{Import, import_path, imports_of, imports_of_decl, import_of, written_path}
 use Rattle.go_load.specs.Loading.{PackageImportsFound, FindsImportsOf}
 use Rattle.go_load.specs.Modules.{Broken}
-use Rattle.go_load.specs.Packages.{text_in}
-use Rattle.go_load.specs.Places.{place_in, Refuses}
+use Rattle.go_load.specs.Places.{Refuses}
 use Rattle.go_load.specs.Programs.{File, broken_at, imports_in, imports_of_files, unfound_of, unfound, or_else, with_import}
 use Rattle.go_load.specs.Projects.{Project, is_built_in, is_import_found}
 use Rattle.go_load.proofs.Numbers.{Texts, AreMet, met_fold, fold_append, numbered_grown, numbered_files_grown, place_itself}

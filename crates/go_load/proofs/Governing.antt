@@ -3,11 +3,11 @@ use Rattle.std.proofs.Common.{◌≡◌, ◌≢◌, inl, inr, get_or, take, ℕ,
 use Rattle.std.proofs.lemmas.Bool.Decides.{nat_tests}
 use Rattle.go_base.specs.Devices.{Tree, file_at}
 use Rattle.go_base.specs.declared.rule.Rule.TheVariants as rules
+use Rattle.go_sources.specs.declared.program.Sources.{Sources}
 use Rattle.go_load.specs.declared.error.LoadError.{LoadError}
 use Rattle.go_load.specs.declared.error.LoadError.TheVariants.{Refused, ReadFault, OutOfMemory}
 use Rattle.go_load.specs.declared.find_module.Module as code
 use Rattle.go_base.specs.declared.target.Target.{Target}
-use Rattle.go_load.specs.declared.program.Sources.{Sources}
 use Rattle.go_load.specs.Modules.{Broken, Module, go_mod_in, module_of, own_module, Governs, Own, Nowhere, Above, AnswersModule, ReadsWhole, HasModule, IsTargetDir, MindsModule, MindsTarget, view_module}
 use Rattle.go_load.specs.Paths.{LiesIn}
 use Rattle.go_load.specs.Places.{first_place}

@@ -3,7 +3,7 @@ use Rattle.std.proofs.Common.{◌≡◌, ℕ, ◌+◌, Bool, true, false, not, c
 use Rattle.std.specs.List.{flat_map, fold, list_any}
 use Rattle.std.specs.Cmp.Lexicographic.{nat_list_eq_equiv}
 use Rattle.go_base.specs.NameTable.{place_of, with_text}
-use Rattle.go_load.specs.declared.sources.Import as numbers
+use Rattle.go_sources.specs.declared.sources.Import as numbers
 use Rattle.go_load.specs.Finding.{numbered, numbered_files}
 use Rattle.go_load.specs.Imports.{Import, import_path}
 use Rattle.go_load.specs.Loading.{AreKnown, imports_of_each, all_imports}

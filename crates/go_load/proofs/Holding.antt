@@ -4,13 +4,13 @@ use Rattle.std.proofs.lemmas.List.{append-nil, length-append, length-map, map-ap
 use Rattle.std.proofs.lemmas.List.Elements.{recursion_from_All}
 use Rattle.std.specs.List.{AllByRecursion, AllZip, flat_map, fold, sum_by}
 use Rattle.std.specs.declared.alloc.Global.{Global}
+use Rattle.go_sources.specs.declared.sources.Import as numbers
+use Rattle.go_sources.specs.declared.sources.SourceFile.{SourceFile}
+use Rattle.go_sources.specs.declared.sources.SourcePackage.{SourcePackage}
 use Rattle.go_load.specs.declared.found.Entry.{Entry}
 use Rattle.go_load.specs.declared.found.Found.{Found}
 use Rattle.go_load.specs.declared.links.Link as code
 use Rattle.go_load.specs.declared.loader.Loader.{Loader}
-use Rattle.go_load.specs.declared.sources.Import as numbers
-use Rattle.go_load.specs.declared.sources.SourceFile.{SourceFile}
-use Rattle.go_load.specs.declared.sources.SourcePackage.{SourcePackage}
 use Rattle.go_load.specs.FileReading.{AreOf}
 use Rattle.go_load.specs.Finding.{view_file, view_origin, AreRight, listed, numbered, numbered_files}
 use Rattle.go_load.specs.Imports.{Import}

@@ -9,13 +9,14 @@ use Rattle.go_base.specs.declared.rule.Rule.{Rule}
 use Rattle.go_base.specs.declared.rule.Rule.TheVariants as rules
 use Rattle.import_graph.specs.Cycles.{IsFirstOnCycle, IsOnCycle}
 use Rattle.import_graph.specs.declared.edges.Edge.{Edge}
+use Rattle.go_sources.specs.declared.sources.SourceFile.{SourceFile}
+use Rattle.go_sources.specs.Places.{place_in}
 use Rattle.go_load.specs.declared.error.LoadError.{LoadError}
 use Rattle.go_load.specs.declared.error.LoadError.TheVariants.{Refused, ReadFault, OutOfMemory}
 use Rattle.go_load.specs.declared.links.Link as code
 use Rattle.go_load.specs.declared.loader.Loader.{Loader}
-use Rattle.go_load.specs.declared.sources.SourceFile.{SourceFile}
 use Rattle.go_load.specs.Loading.{ChecksImports, Holds, IsLink, is_program_number, is_of_program}
-use Rattle.go_load.specs.Places.{place_in, Refuses}
+use Rattle.go_load.specs.Places.{Refuses}
 use Rattle.go_load.specs.Programs.{Package, Link, are_program, edge_of, first_of_program, is_program_at, known, links, links_from}
 use Rattle.go_load.specs.Projects.{Project}
 

@@ -9,8 +9,9 @@ use Rattle.go_base.proofs.Texts.{place_holds}
 use Rattle.go_base.specs.Devices.{Tree}
 use Rattle.go_base.specs.NameTable.{place_of, with_text}
 use Rattle.go_base.specs.declared.place.Pos.{Pos}
-use Rattle.go_load.specs.declared.built_in.BuiltIn.{BuiltIn}
-use Rattle.go_load.specs.declared.built_in.BuiltIn.TheVariants as built_ins
+use Rattle.go_sources.specs.declared.built_in.BuiltIn.{BuiltIn}
+use Rattle.go_sources.specs.declared.built_in.BuiltIn.TheVariants as built_ins
+use Rattle.go_sources.specs.BuiltIns.{built_in_named}
 use Rattle.go_load.specs.declared.error.LoadError.{LoadError}
 use Rattle.go_load.specs.declared.error.LoadError.TheVariants.{Refused, ReadFault, OutOfMemory}
 use Rattle.go_load.specs.declared.find_module.Module as modules
@@ -21,7 +22,6 @@ use Rattle.go_load.specs.declared.found.Origin.TheVariants as code
 use Rattle.go_load.specs.Entries.{IsNumbered, AddsEntry, JoinsBuiltIn, RuntimeFound, FindsDirectory, dir_in}
 use Rattle.go_load.specs.Finding.{view_origin, IsRightAt, AreRight, Joins, FindsPackage}
 use Rattle.go_load.specs.GoPaths.{ListsGoPaths}
-use Rattle.go_load.specs.Imports.{built_in_named}
 use Rattle.go_load.specs.Modules.{view_module}
 use Rattle.go_load.specs.Programs.{runtime_path}
 use Rattle.go_load.specs.Projects.{Project, Origin, BuiltInFile, Paths, IsOriginOfImport, IsDirectory, AreGoPaths, has_go_files, target_path, dir_named, is_found, is_found_in}

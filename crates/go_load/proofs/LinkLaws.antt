@@ -2,8 +2,8 @@
 use Rattle.std.proofs.Common.{◌≡◌, ℕ, ◌+◌, ◌<◌, List, [], ◌∷◌, ◌++◌, length, take, get_or, Vec, sym, ap, ◌∙◌, append_assoc, append-nil, arith, length-take}
 use Rattle.std.proofs.lemmas.List.{map_more, length-map}
 use Rattle.std.specs.declared.alloc.Global.{Global}
+use Rattle.go_sources.specs.declared.sources.Import.{Import}
 use Rattle.go_load.specs.declared.links.Link.{Link}
-use Rattle.go_load.specs.declared.sources.Import.{Import}
 use Rattle.go_load.specs.Finding.{listed}
 use Rattle.go_load.specs.Loading.{kept_in_file, kept_links}
 

@@ -5,10 +5,11 @@ use Rattle.go_base.specs.declared.rule.Rule.TheVariants as rules
 use Rattle.go_base.specs.Devices.{Tree}
 use Rattle.go_base.specs.declared.place.Place.{Place}
 use Rattle.std.specs.List.{slice_split}
+use Rattle.go_sources.specs.Sources.{newest_minor}
 use Rattle.go_load.specs.declared.error.LoadError.{LoadError}
 use Rattle.go_load.specs.declared.go_mod.Fault.{Fault}
 use Rattle.go_load.specs.GoMod as says
-use Rattle.go_load.specs.GoMod.{Form, Blank, Module, Go, Opening, Malformed, Said, Contents, newest_minor, is_closing, lone_word, line_of, nothing_said}
+use Rattle.go_load.specs.GoMod.{Form, Blank, Module, Go, Opening, Malformed, Said, Contents, is_closing, lone_word, line_of, nothing_said}
 use Rattle.go_load.specs.Places.{Refuses}
 use Rattle.go_load.specs.Words.{is_newline, without_comment}
 use Rattle.go_load.specs.Refusals.{OfProgram, subject, Stops}

@@ -4,7 +4,7 @@ use Rattle.std.specs.List.{sum_by}
 use Rattle.std.proofs.lemmas.List.{map_more}
 use Rattle.std.proofs.lemmas.List.Sums.{sum_by_push}
 use Rattle.go_base.specs.declared.rule.Rule.TheVariants as rules
-use Rattle.go_load.specs.declared.sources.SourceFile.{SourceFile}
+use Rattle.go_sources.specs.declared.sources.SourceFile.{SourceFile}
 use Rattle.go_load.specs.Finding.{view_file}
 use Rattle.go_load.specs.Modules.{Broken}
 use Rattle.go_load.specs.Programs.{File, broken_at, name_of, other_name}

@@ -5,7 +5,7 @@ use Rattle.std.specs.Str.{bytes_eq}
 use Rattle.std.proofs.lemmas.List.Elements.{All-nil, All-cons, All-head, All-tail, All-append, All-weaker}
 use Rattle.std.proofs.lemmas.Slice.Eq.{bytes_eq-Decides}
 use Rattle.go_base.specs.NameTable.{place_of, with_text}
-use Rattle.go_load.specs.declared.sources.Import as numbers
+use Rattle.go_sources.specs.declared.sources.Import as numbers
 use Rattle.go_load.specs.Finding.{numbered, numbered_files}
 use Rattle.go_load.specs.Imports.{Import, import_path}
 use Rattle.go_load.specs.Loading.{imports_of_each, all_imports}

@@ -5,14 +5,14 @@ use Rattle.std.specs.declared.alloc.Global.{Global}
 use Rattle.go_base.specs.Devices.{Tree}
 use Rattle.go_base.specs.declared.place.Place.{Place}
 use Rattle.go_base.specs.declared.rule.Rule.{Rule}
+use Rattle.go_sources.specs.declared.sources.Import as numbers
+use Rattle.go_sources.specs.declared.sources.SourceFile.{SourceFile}
+use Rattle.go_sources.specs.declared.sources.SourcePackage.{SourcePackage}
 use Rattle.go_load.specs.declared.error.LoadError.{LoadError}
 use Rattle.go_load.specs.declared.error.LoadError.TheVariants.{Refused, ReadFault, OutOfMemory}
 use Rattle.go_load.specs.declared.found.Entry.{Entry}
 use Rattle.go_load.specs.declared.found.Found.{Found}
 use Rattle.go_load.specs.declared.loader.Loader.{Loader}
-use Rattle.go_load.specs.declared.sources.Import as numbers
-use Rattle.go_load.specs.declared.sources.SourceFile.{SourceFile}
-use Rattle.go_load.specs.declared.sources.SourcePackage.{SourcePackage}
 use Rattle.go_load.specs.FileReading.{AreOf, Says, view_files}
 use Rattle.go_load.specs.Finding.{view_file, view_origin, AreRight, IsRightAt}
 use Rattle.go_load.specs.Loading.{broken, Checks, ChecksFiles, FindsImportsOf, Holds, IfEntry, LoadsFiles, LoadsPackage, PackageImportsFound, PackageLoaded, AddsPackage, told_package}

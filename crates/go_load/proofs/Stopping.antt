@@ -13,10 +13,11 @@ use Rattle.go_scan.specs.Scanning.{IsRefusal}
 use Rattle.go_scan.specs.declared.scanner.ScanError.TheVariants as scans
 use Rattle.go_parse.specs.Refusal.{DecidesReach, IsParsed}
 use Rattle.go_parse.specs.declared.stop.ParseError.TheVariants as parses
+use Rattle.go_sources.specs.Places.{place_in}
+use Rattle.go_sources.specs.Sources.{IsText}
 use Rattle.go_load.specs.declared.error.LoadError.{LoadError}
 use Rattle.go_load.specs.declared.error.LoadError.TheVariants.{Refused, ReadFault, OutOfMemory}
-use Rattle.go_load.specs.Places.{place_in, start_in, Refuses}
-use Rattle.go_load.specs.Sources.{IsText}
+use Rattle.go_load.specs.Places.{start_in, Refuses}
 use Rattle.go_load.specs.Refusals.{OfBytes, subject, Justifies, Stops}
 
 pub refuses_stops : (files : Option Tree) (place : Place) (rule : Rule) (error : LoadError) → Refuses place rule error → Justifies files place rule → Stops files error

@@ -5,14 +5,15 @@ use Rattle.std.specs.Option.{option_and_then}
 use Rattle.go_base.specs.Devices.{Tree}
 use Rattle.go_base.specs.NameTable.{place_of, with_text}
 use Rattle.go_base.specs.declared.place.Pos.{Pos}
-use Rattle.go_load.specs.declared.built_in.BuiltIn.{BuiltIn}
+use Rattle.go_sources.specs.declared.built_in.BuiltIn.{BuiltIn}
+use Rattle.go_sources.specs.BuiltIns.{built_in_named}
 use Rattle.go_load.specs.declared.error.LoadError.{LoadError}
 use Rattle.go_load.specs.declared.find_module.Module as modules
 use Rattle.go_load.specs.declared.found.Entry.{Entry}
 use Rattle.go_load.specs.declared.found.Found.{Found}
 use Rattle.go_load.specs.declared.found.Origin as origins
 use Rattle.go_load.specs.Finding.{AreRight, Joins, PackageFound}
-use Rattle.go_load.specs.Imports.{built_in_named, import_dir}
+use Rattle.go_load.specs.Imports.{import_dir}
 use Rattle.go_load.specs.Modules.{view_module}
 use Rattle.go_load.specs.Programs.{runtime_path}
 use Rattle.go_load.specs.Projects.{Project, dir_named}

@@ -3,11 +3,11 @@ use Rattle.std.specs.Prelude.{◌≡◌, ℕ, List, [], ◌∷◌, map, Option, 
 use Rattle.std.specs.List.{All}
 use Rattle.std.specs.declared.alloc.Global.{Global}
 use Rattle.go_base.specs.Devices.{Tree, file_at}
-use Rattle.go_load.specs.declared.built_in.BuiltIn.{BuiltIn}
+use Rattle.go_sources.specs.declared.built_in.BuiltIn.{BuiltIn}
+use Rattle.go_sources.specs.declared.sources.SourceFile.{SourceFile}
+use Rattle.go_sources.specs.BuiltIns.{built_in_path, built_in_text}
 use Rattle.go_load.specs.declared.error.LoadError.{LoadError}
 use Rattle.go_load.specs.declared.error.LoadError.TheVariants.{Refused, ReadFault, OutOfMemory}
-use Rattle.go_load.specs.declared.sources.SourceFile.{SourceFile}
-use Rattle.go_load.specs.BuiltIns.{built_in_path, built_in_text}
 use Rattle.go_load.specs.Finding.{view_file}
 use Rattle.go_load.specs.Modules.{Broken}
 use Rattle.go_load.specs.Programs.{File, Reads, ReadsAll}

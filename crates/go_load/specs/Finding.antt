@@ -7,6 +7,9 @@ use Rattle.go_base.specs.Devices.{Tree}
 use Rattle.go_base.specs.NameTable.{place_of, with_text}
 use Rattle.go_base.specs.declared.place.Pos.{Pos}
 use Rattle.go_base.specs.declared.rule.Rule.TheVariants as rules
+use Rattle.go_sources.specs.declared.sources.Import as numbers
+use Rattle.go_sources.specs.declared.sources.SourceFile.{SourceFile}
+use Rattle.go_sources.specs.Packages.{text_in}
 use Rattle.go_load.specs.declared.error.LoadError.{LoadError}
 use Rattle.go_load.specs.declared.error.LoadError.TheVariants.{Refused, ReadFault, OutOfMemory}
 use Rattle.go_load.specs.declared.find_module.Module as modules
@@ -14,11 +17,8 @@ use Rattle.go_load.specs.declared.found.Entry.{Entry}
 use Rattle.go_load.specs.declared.found.Found.{Found}
 use Rattle.go_load.specs.declared.found.Origin as origins
 use Rattle.go_load.specs.declared.found.Origin.TheVariants as code
-use Rattle.go_load.specs.declared.sources.Import as numbers
-use Rattle.go_load.specs.declared.sources.SourceFile.{SourceFile}
 use Rattle.go_load.specs.Imports.{Import, import_path, written_path}
 use Rattle.go_load.specs.Modules.{Broken, view_module}
-use Rattle.go_load.specs.Packages.{text_in}
 use Rattle.go_load.specs.Programs.{File, broken_at, imports_in, imports_of_files, unfound_of, unfound, with_import}
 use Rattle.go_load.specs.Projects.{Project, Origin, BuiltInFile, Paths, IsOriginAt, target_path, is_found, is_import_found}
 

@@ -5,6 +5,7 @@ use Rattle.std.specs.Option.{option_and_then}
 use Rattle.std.specs.Str.{is_utf8}
 use Rattle.go_base.specs.declared.rule.Rule.{Rule}
 use Rattle.go_base.specs.declared.rule.Rule.TheVariants as rules
+use Rattle.go_sources.specs.Sources.{newest_minor}
 use Rattle.go_load.specs.declared.go_mod.Fault.{Fault}
 use Rattle.go_load.specs.Words.{is_space, is_newline, first_word, after_word, ends_in_opening, without_comment}
 use Rattle.go_load.specs.Versions.{minor_version}
@@ -106,10 +107,6 @@ refuse offset rule said =
 abbrev pub with_path : ℕ → Option (List ℕ) → Said → Said
 with_path at None said = refuse at rules.MalformedGoMod (record said { path = Some [] })
 with_path at (Some path) said = record said { path = Some path }
-
--- the newest N of Go 1.N
-abbrev pub newest_minor : ℕ
-newest_minor = 21
 
 abbrev pub with_minor : ℕ → ℕ → Said → Said
 with_minor word minor said =

@@ -11,11 +11,9 @@ use Rattle.go_base.specs.Devices.{rest_below}
 use Rattle.go_syntax.specs.declared.decls.FileTree.{FileTree}
 use Rattle.go_syntax.specs.declared.decls.ImportDecl.{ImportDecl}
 use Rattle.go_syntax.specs.declared.decls.ImportSpec.{ImportSpec}
-use Rattle.go_load.specs.declared.built_in.BuiltIn.{BuiltIn}
-use Rattle.go_load.specs.declared.built_in.BuiltIn.TheVariants as built_ins
+use Rattle.go_sources.specs.Packages.{text_in}
 use Rattle.go_load.specs.GoMod.{utf8_text}
 use Rattle.go_load.specs.Modules.{Module}
-use Rattle.go_load.specs.Packages.{text_in}
 use Rattle.go_load.specs.Paths.{path_in, with_slash}
 
 -- an import: the literal that stands in the file, and the path that it writes
@@ -50,14 +48,6 @@ abbrev pub import_path : Import → List ℕ
 import_path import = unwrap_or import.path []
 
 -- ---- what paths name
-
--- the built-in package with an import path
-abbrev pub built_in_named : List ℕ → Option BuiltIn
-built_in_named path =
-    if bytes_eq path (codes "errors") then Some built_ins.Errors
-    else if bytes_eq path (codes "os") then Some built_ins.Os
-    else if bytes_eq path (codes "runtime") then Some built_ins.Runtime
-    else None
 
 -- what follows a front in a text
 abbrev pub after : List ℕ → List ℕ → Option (List ℕ)

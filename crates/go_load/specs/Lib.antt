@@ -3,16 +3,11 @@ pub mod Versions
 pub mod GoMod
 pub mod Lines
 pub mod Places
-pub mod Loaded
 pub mod Listing
 pub mod Paths
 pub mod Modules
-pub mod BuiltIns
-pub mod Soundness
-pub mod Sources
 pub mod Refusals
 pub mod Reading
-pub mod Packages
 pub mod Imports
 pub mod Projects
 pub mod GoPaths

@@ -6,21 +6,21 @@ use Rattle.go_base.specs.Devices.{Tree}
 use Rattle.go_base.specs.declared.place.Place.{Place}
 use Rattle.go_base.specs.declared.rule.Rule.{Rule}
 use Rattle.go_base.specs.declared.rule.Rule.TheVariants as rules
+use Rattle.go_sources.specs.declared.sources.Import as numbers
+use Rattle.go_sources.specs.declared.sources.SourceFile.{SourceFile}
+use Rattle.go_sources.specs.declared.sources.SourcePackage.{SourcePackage}
+use Rattle.go_sources.specs.Sources.{newest_minor}
+use Rattle.go_sources.specs.Places.{place_in}
 use Rattle.go_load.specs.declared.error.LoadError.{LoadError}
 use Rattle.go_load.specs.declared.error.LoadError.TheVariants.{Refused, ReadFault, OutOfMemory}
 use Rattle.go_load.specs.declared.found.Entry.{Entry}
 use Rattle.go_load.specs.declared.found.Found.{Found}
 use Rattle.go_load.specs.declared.links.Link as code
 use Rattle.go_load.specs.declared.loader.Loader.{Loader}
-use Rattle.go_load.specs.declared.sources.Import as numbers
-use Rattle.go_load.specs.declared.sources.SourceFile.{SourceFile}
-use Rattle.go_load.specs.declared.sources.SourcePackage.{SourcePackage}
 use Rattle.go_load.specs.FileReading.{Says, view_files}
 use Rattle.go_load.specs.Finding.{view_file, view_origin, AreRight, listed, numbered_files}
-use Rattle.go_load.specs.GoMod.{newest_minor}
 use Rattle.go_load.specs.Imports.{Import, import_path}
 use Rattle.go_load.specs.Modules.{Broken, Module}
-use Rattle.go_load.specs.Places.{place_in}
 use Rattle.go_load.specs.Programs.{File, Package, Link, IsPackage, BreaksPackage, IsFront, ReadsAll, name_fault, path_asked, first_of_program, links, AreImportsSound, IsNext, IsOnCycleFirst, unfound, import_files, imports_of_files, imports_of_package, with_import, known, links_from, room_for, are_program}
 use Rattle.go_load.specs.Projects.{Project, Origin, texts_of, is_built_in}
 use Rattle.go_load.specs.Reading.{max_file_bytes}

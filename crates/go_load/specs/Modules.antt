@@ -7,14 +7,15 @@ use Rattle.go_base.specs.declared.rule.Rule.{Rule}
 use Rattle.go_base.specs.declared.rule.Rule.TheVariants as rules
 use Rattle.go_base.specs.declared.target.Target.{Target}
 use Rattle.go_base.specs.declared.target.Target.TheVariants as targets
+use Rattle.go_sources.specs.declared.program.Sources.{Sources}
+use Rattle.go_sources.specs.Places.{place_in}
 use Rattle.go_load.specs.declared.error.LoadError.{LoadError}
 use Rattle.go_load.specs.declared.error.LoadError.TheVariants.{Refused, ReadFault, OutOfMemory}
 use Rattle.go_load.specs.declared.find_module.Module as code
 use Rattle.go_load.specs.declared.go_mod.Fault.{Fault}
-use Rattle.go_load.specs.declared.program.Sources.{Sources}
 use Rattle.go_load.specs.GoMod.{Contents, go_mod}
 use Rattle.go_load.specs.Paths.{path_in, LiesIn}
-use Rattle.go_load.specs.Places.{place_in, first_place}
+use Rattle.go_load.specs.Places.{first_place}
 
 -- a rule that is broken, and where
 pub record Broken : Type 0 where

@@ -1,16 +1,12 @@
 -- Places in files, and what is said of them.
 use Rattle.std.specs.Prelude.{◌≡◌, ℕ, ◌≤◌, List, [], length, Option, Some, None, Vec, min}
 use Rattle.std.specs.declared.alloc.Global.{Global}
-use Rattle.go_base.specs.Lines.{line_at, column_at}
 use Rattle.go_base.specs.declared.place.Place.{Place}
 use Rattle.go_base.specs.declared.rule.Rule.{Rule}
 use Rattle.go_ast.specs.declared.token.Token.{Token}
+use Rattle.go_sources.specs.Places.{place_in}
 use Rattle.go_load.specs.declared.error.LoadError.{LoadError}
 use Rattle.go_load.specs.declared.error.LoadError.TheVariants.{Refused, ReadFault, OutOfMemory}
-
--- a byte of the file at a path
-abbrev pub place_in : List ℕ → List ℕ → ℕ → Place
-place_in path bytes offset = record { path = path; offset = offset; line = line_at bytes offset; column = column_at bytes offset }
 
 -- the first byte of the file at a path, whatever it holds
 abbrev pub first_place : List ℕ → Place

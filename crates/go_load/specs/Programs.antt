@@ -11,12 +11,14 @@ use Rattle.go_base.specs.declared.target.Target.TheVariants as targets
 use Rattle.go_syntax.specs.declared.decls.FileTree.{FileTree}
 use Rattle.import_graph.specs.Cycles.{IsFirstOnCycle}
 use Rattle.import_graph.specs.declared.edges.Edge.{Edge}
+use Rattle.go_sources.specs.Packages.{text_in}
+use Rattle.go_sources.specs.Places.{place_in}
+use Rattle.go_sources.specs.Reading.{HasTree}
 use Rattle.go_load.specs.Imports.{Import, imports_of, import_path}
 use Rattle.go_load.specs.Modules.{Broken}
-use Rattle.go_load.specs.Packages.{text_in}
-use Rattle.go_load.specs.Places.{place_in, first_place}
+use Rattle.go_load.specs.Places.{first_place}
 use Rattle.go_load.specs.Projects.{FileText, Project, Origin, texts_of, is_built_in, IsOriginAt, target_path, is_import_found}
-use Rattle.go_load.specs.Reading.{max_file_bytes, HasTree, BreaksText}
+use Rattle.go_load.specs.Reading.{max_file_bytes, BreaksText}
 
 -- a file of a program, with its tree
 pub record File : Type 0 where

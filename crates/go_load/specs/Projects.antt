@@ -8,9 +8,9 @@ use Rattle.std.specs.Ordering.{nat_cmp}
 use Rattle.go_base.specs.Devices.{Tree, file_at, names_in}
 use Rattle.go_base.specs.declared.target.Target.{Target}
 use Rattle.go_base.specs.declared.target.Target.TheVariants as targets
-use Rattle.go_load.specs.declared.built_in.BuiltIn.{BuiltIn}
-use Rattle.go_load.specs.BuiltIns.{built_in_path, built_in_text}
-use Rattle.go_load.specs.Imports.{built_in_named, dir_path, import_dir}
+use Rattle.go_sources.specs.declared.built_in.BuiltIn.{BuiltIn}
+use Rattle.go_sources.specs.BuiltIns.{built_in_path, built_in_text, built_in_named}
+use Rattle.go_load.specs.Imports.{dir_path, import_dir}
 use Rattle.go_load.specs.Listing.{is_go_file}
 use Rattle.go_load.specs.Modules.{Module}
 use Rattle.go_load.specs.Paths.{path_in}

@@ -10,9 +10,11 @@ use Rattle.go_syntax.specs.Reach.{reach_index}
 use Rattle.go_parse.specs.Refusal.{DecidesReach, IsParsed}
 use Rattle.go_parse.specs.declared.stop.ParseError.{ParseError}
 use Rattle.go_parse.specs.declared.stop.ParseError.TheVariants as parses
+use Rattle.go_sources.specs.Places.{place_in}
+use Rattle.go_sources.specs.Reading.{HasTree}
 use Rattle.go_load.specs.declared.error.LoadError.{LoadError}
 use Rattle.go_load.specs.declared.error.LoadError.TheVariants.{Refused, ReadFault, OutOfMemory}
-use Rattle.go_load.specs.Places.{place_in, start_in}
+use Rattle.go_load.specs.Places.{start_in}
 
 -- the most bytes that a file may have
 abbrev pub max_file_bytes : ℕ
@@ -22,12 +24,6 @@ max_file_bytes = 4194304
 -- part that cannot be read.
 abbrev pub IsVerdict : List Token → Result FileTree ParseError → Type 0
 IsVerdict tokens verdict = DecidesReach verdict (reach_index tokens) × IsParsed tokens verdict
-
--- a text has this tree
-pub record HasTree (bytes : List ℕ) (tree : FileTree) : Type 0 where
-  pub tokens : List Token
-  pub list : IsTokenList bytes tokens
-  pub verdict : IsVerdict tokens (Ok tree)
 
 -- a text has no tree, and this is the first rule that it breaks, at this byte: the first lexical fault, else the first
 -- token that reaches too far, else the first part that cannot be read

@@ -8,10 +8,11 @@ use Rattle.go_ast.specs.declared.token.Token.{Token}
 use Rattle.go_ast.specs.Lexical.{IsTokenList, IsFault}
 use Rattle.go_grammar.specs.Files.{IsUnexpected}
 use Rattle.go_syntax.specs.Reach.{reach_index}
+use Rattle.go_sources.specs.Places.{place_in}
+use Rattle.go_sources.specs.Sources.{IsText}
 use Rattle.go_load.specs.declared.error.LoadError.{LoadError}
 use Rattle.go_load.specs.declared.error.LoadError.TheVariants.{Refused, ReadFault, OutOfMemory}
-use Rattle.go_load.specs.Places.{place_in, start_in}
-use Rattle.go_load.specs.Sources.{IsText}
+use Rattle.go_load.specs.Places.{start_in}
 
 -- a file cannot be cut into tokens, and this is the place
 pub record HasFault (files : Option Tree) (place : Place) (rule : Rule) : Type 0 where

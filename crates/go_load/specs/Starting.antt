@@ -3,12 +3,12 @@ use Rattle.std.specs.Prelude.{◌≡◌, ℕ, false, List, [], ◌∷◌, length
 use Rattle.std.specs.declared.alloc.Global.{Global}
 use Rattle.go_base.specs.Devices.{Tree}
 use Rattle.go_base.specs.declared.target.Target.{Target}
+use Rattle.go_sources.specs.declared.program.Sources.{Sources}
 use Rattle.go_load.specs.declared.error.LoadError.{LoadError}
 use Rattle.go_load.specs.declared.error.LoadError.TheVariants.{Refused, ReadFault, OutOfMemory}
 use Rattle.go_load.specs.declared.find_module.Module as modules
 use Rattle.go_load.specs.declared.found.Found.{Found}
 use Rattle.go_load.specs.declared.loader.Loader.{Loader}
-use Rattle.go_load.specs.declared.program.Sources.{Sources}
 use Rattle.go_load.specs.Answers.{IsAnswerIn}
 use Rattle.go_load.specs.Finding.{AreRight, listed}
 use Rattle.go_load.specs.Loading.{Holds, IsAt, all_imports, broken}

@@ -43,8 +43,3 @@ impl<T: Drop> From<AllocFailed<T>> for LoadError {
         LoadError::OutOfMemory
     }
 }
-
-/// What is answered in a case that cannot come, which is not proved yet.
-pub fn lost() -> NoMemory {
-    NoMemory
-}

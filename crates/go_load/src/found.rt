@@ -7,14 +7,14 @@ ghost use Rattle.go_load.specs.Finding.{listed, BeginsWith, FindsPackage, FindsI
 ghost use Rattle.go_load.specs.Loading.{FindsImportsOf};
 ghost use Rattle.go_load.specs.Refusals.{Stops};
 
-use crate::built_in::BuiltIn;
 use crate::error::LoadError;
 use crate::find_module::Module;
 use crate::import_paths::{import_literals, import_path};
 use crate::listing::list_go_files;
-use crate::sources::{Import, SourceFile};
+use crate::read::refuse_in;
 use go_ast::Token;
 use go_base::{Files, Names, NoMemory, Pos, Rule};
+use go_sources::{BuiltIn, Import, SourceFile};
 use std::alloc::Global;
 
 /// Where the files of a package come from.
@@ -193,11 +193,11 @@ impl Found {
             offset: literal.start,
         };
         let Some(path) = import_path(self.alloc, source, literal)? else {
-            return Err(source.refuse(self.alloc, literal.start, Rule::NoSuchPackage));
+            return Err(refuse_in(self.alloc, source, literal.start, Rule::NoSuchPackage));
         };
         match self.find_package(files, path.as_str(), asker)? {
             Some(package) => Ok(package),
-            None => Err(source.refuse(self.alloc, literal.start, Rule::NoSuchPackage)),
+            None => Err(refuse_in(self.alloc, source, literal.start, Rule::NoSuchPackage)),
         }
     }
 

@@ -5,11 +5,12 @@ ghost use Rattle.go_load.specs.Lines.{view_line};
 ghost use Rattle.go_load.specs.Words.{without_comment};
 ghost use Rattle.go_load.specs.GoMod as says;
 
-use crate::versions::{NEWEST_MINOR, minor_version};
+use crate::versions::minor_version;
 use crate::words::{
     after_word, ends_in_opening, first_word, line_length, space_length, without_comment,
 };
 use go_base::Rule;
+use go_sources::NEWEST_MINOR;
 use std::marker::Model;
 
 /// What a go.mod says.

@@ -1,13 +1,13 @@
 //! The imports of a file.
 
 ghost use Rattle.std.specs.Prelude.{◌≡◌, ◌++◌, map, option_map, string_bytes, ℕ, List, IfOk, OnOk};
+ghost use Rattle.go_sources.specs.Packages.{text_in};
 ghost use Rattle.go_load.specs.Imports.{imports_of, written_path};
-ghost use Rattle.go_load.specs.Packages.{text_in};
 
-use crate::sources::SourceFile;
 use go_ast::{Kind, Token};
 use go_base::NoMemory;
 use go_scan::{is_literal, string_value};
+use go_sources::SourceFile;
 use go_syntax::{FileTree, ImportSpec};
 use std::alloc::Global;
 

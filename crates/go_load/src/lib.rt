@@ -5,7 +5,6 @@
 //! imported. Within a package each file is read, scanned and parsed in turn.
 #![tactic(auto)]
 
-mod built_in;
 mod error;
 mod find_module;
 mod found;
@@ -19,10 +18,7 @@ mod loading;
 mod one_file;
 mod package_files;
 mod paths;
-mod program;
 mod read;
-mod soundness;
-mod sources;
 mod target;
 mod versions;
 mod words;
@@ -30,5 +26,3 @@ mod words;
 pub use error::LoadError;
 pub use go_base::Target;
 pub use loading::{from_text, load};
-pub use program::Sources;
-pub use sources::{Import, SourceFile, SourcePackage};

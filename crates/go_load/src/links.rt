@@ -5,8 +5,8 @@ ghost use Rattle.go_load.specs.Finding.{listed};
 ghost use Rattle.go_load.specs.Loading.{kept_in_file, kept_links};
 
 use crate::found::number_after;
-use crate::sources::Import;
 use go_base::{NoMemory, Pos};
+use go_sources::Import;
 use import_graph::Edge;
 
 /// An import of one package by another, and where it stands.

@@ -4,13 +4,14 @@ ghost use Rattle.std.specs.Prelude.{◌≡◌, ◌≢◌, ◌≤◌, ◌<◌, �
 ghost use Rattle.std.specs.List.{sum_by};
 ghost use Rattle.go_base.specs.Devices.{HasFaulted, Tree};
 ghost use Rattle.go_base.specs.declared.place.Place.{Place};
+ghost use Rattle.go_sources.specs.Places.{place_in};
+ghost use Rattle.go_sources.specs.Sources.{files_of, packages_of, AreTold};
 ghost use Rattle.go_load.specs.Loading.{LoadsFiles, LoadsPackage, LoadsQueue, AddsPackage, Checks, ChecksFiles, IfEntry, minor_of, told_package};
 ghost use Rattle.go_load.specs.FileReading.{AreOf};
 ghost use Rattle.go_load.specs.Finding.{view_file};
 ghost use Rattle.go_load.specs.Modules.{view_module};
-ghost use Rattle.go_load.specs.Places.{first_place, place_in, Refuses};
+ghost use Rattle.go_load.specs.Places.{first_place, Refuses};
 ghost use Rattle.go_load.specs.Programs.{are_program, name_of, other_name};
-ghost use Rattle.go_load.specs.Sources.{files_of, packages_of, AreTold};
 ghost use Rattle.go_load.specs.Refusals.{Justifies, Stops};
 
 use crate::error::LoadError;
@@ -18,11 +19,9 @@ use crate::find_module::Module;
 use crate::found::{Entry, Found, Origin, number_after};
 use crate::links::{Link, push_links};
 use crate::package_files::{Slot, read_built_in, read_paths};
-use crate::program::Sources;
-use crate::read::refuse_first;
-use crate::sources::{Import, SourceFile, SourcePackage};
-use crate::versions::NEWEST_MINOR;
+use crate::read::{refuse_first, refuse_in};
 use go_base::{Files, NoMemory, Pos, Rule, Text};
+use go_sources::{Import, NEWEST_MINOR, SourceFile, SourcePackage, Sources};
 use std::alloc::Global;
 
 /// The most bytes that all Go files together may have.
@@ -160,7 +159,7 @@ impl Loader {
         ensures here { IfSome (slice_get self.now.files.items pos.file) (λ file. Refuses (place_in file.path file.bytes (min pos.offset (length file.bytes))) rule result) }
     {
         match self.files.get(pos.file as usize) {
-            Some(file) => file.refuse(self.alloc, pos.offset, rule),
+            Some(file) => refuse_in(self.alloc, file, pos.offset, rule),
             None => LoadError::OutOfMemory,
         }
     }
@@ -294,7 +293,7 @@ fn check_names(alloc: Global, head: &SourceFile, others: &[SourceFile]) -> Resul
     'files: for file in others {
         if file.package_name() != head.package_name() {
             let at = file.tree.name.start;
-            return Err(file.refuse(alloc, at, Rule::SecondPackageName));
+            return Err(refuse_in(alloc, file, at, Rule::SecondPackageName));
         }
     }
     Ok(())

@@ -2,9 +2,9 @@
 
 ghost use Rattle.std.specs.Prelude.{◌≡◌, ◌≤◌, string_bytes, option_map, IfOk, IfErr, IfSome, IsErrOf, OnOk};
 ghost use Rattle.go_base.specs.Devices.{HasFaulted};
+ghost use Rattle.go_sources.specs.Sources.{files_of, AreTold};
 ghost use Rattle.go_load.specs.Modules.{view_module, MindsTarget};
 ghost use Rattle.go_load.specs.Answers.{lone_project, max_program_bytes, HasStopped, IsAnswer, IsAnswerIn, IsLoaded};
-ghost use Rattle.go_load.specs.Sources.{files_of, AreTold};
 ghost use Rattle.go_load.specs.Refusals.{Stops};
 ghost use Rattle.go_load.specs.Projects.{no_import_path, path_of_target};
 ghost use Rattle.go_load.specs.Starting.{AnswersProject, FindsTarget, Finishes, ListsTarget, LoadsRuntime};
@@ -15,9 +15,9 @@ use crate::found::Found;
 use crate::listing::list_go_files;
 use crate::loader::{Loader, MAX_PROGRAM_BYTES};
 use crate::one_file::OneFile;
-use crate::program::Sources;
 use crate::target::{target_dir, target_path};
 use go_base::{Files, NoMemory, Target, Text};
+use go_sources::Sources;
 use std::alloc::Global;
 
 /// Loads the target and all that it imports.

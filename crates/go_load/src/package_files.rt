@@ -2,16 +2,15 @@
 
 ghost use Rattle.std.specs.Prelude.{◌≡◌, ◌≤◌, [], length, Option, IfOk, IfErr, IfSome, IsErrOf};
 ghost use Rattle.go_base.specs.Devices.{HasFaulted, Tree};
+ghost use Rattle.go_sources.specs.Sources.{AreTold, IsText};
 ghost use Rattle.go_load.specs.FileReading.{ReadsText, ReadsPath, ReadsPaths, ReadsBuiltIn, AreOf};
-ghost use Rattle.go_load.specs.Sources.{AreTold, IsText};
 ghost use Rattle.go_load.specs.Refusals.{Stops};
 
-use crate::built_in::BuiltIn;
 use crate::error::LoadError;
 use crate::found::number_after;
 use crate::read::{read_tree, read_whole, refuse_first};
-use crate::sources::SourceFile;
 use go_base::{Bytes, Files, MAX_FILE_BYTES, Rule, Text};
+use go_sources::{BuiltIn, SourceFile};
 use std::alloc::Global;
 
 /// The package that files belong to, and how many files were read before.

@@ -1,36 +1,24 @@
 //! Reading of one file.
 
-ghost use Rattle.std.specs.Prelude.{◌≡◌, ◌≤◌, [], length, Option, IfOk, IfErr, IfSome, IsErrOf, slice_get};
+ghost use Rattle.std.specs.Prelude.{◌≡◌, ◌≢◌, ◌≤◌, [], length, min, Option, IfOk, IfErr, IfSome, IsErrOf, slice_get};
 ghost use Rattle.go_base.specs.Devices.{HasFaulted, Tree};
+ghost use Rattle.go_base.specs.declared.place.Place.{Place};
 ghost use Rattle.go_ast.specs.Lexical.{IsTokenList};
-ghost use Rattle.go_load.specs.Places.{place_in, start_in, IsSmall, Refuses};
-ghost use Rattle.go_load.specs.Sources.{HasBytes, IsText};
+ghost use Rattle.go_sources.specs.Places.{place_in};
+ghost use Rattle.go_sources.specs.Sources.{HasBytes, IsText};
+ghost use Rattle.go_load.specs.Places.{start_in, IsSmall, Refuses};
 ghost use Rattle.go_load.specs.Modules.{ReadsWhole};
 ghost use Rattle.go_load.specs.Reading.{ReadsTree};
-ghost use Rattle.go_load.specs.Refusals.{Stops};
+ghost use Rattle.go_load.specs.Refusals.{Justifies, Stops};
 
 use crate::error::LoadError;
 use go_ast::Tokens;
-use go_base::{FileError, Files, MAX_FILE_BYTES, NoMemory, Place, Rule, Text, line_column};
+use go_base::{FileError, Files, MAX_FILE_BYTES, NoMemory, Place, Rule, Text};
 use go_parse::{ParseError, parse};
 use go_scan::{ScanError, scan};
+use go_sources::{SourceFile, place_at};
 use go_syntax::FileTree;
 use std::alloc::Global;
-
-/// A byte of a file.
-pub fn place_at(alloc: Global, path: &str, bytes: &[u8], offset: usize) -> Result<Place, NoMemory>
-    requires within { offset ≤ length bytes.now }
-    requires is_file { length bytes.now ≤ 4194304 }
-    ensures { IfOk result (λ place. place ≡ place_in path.now bytes.now offset) }
-{
-    let (line, column) = line_column(bytes, offset);
-    Ok(Place {
-        path: Text::new(alloc, path)?,
-        offset: offset as u32,
-        line,
-        column,
-    })
-}
 
 /// The first byte of a file, whatever it holds.
 fn first_place(alloc: Global, path: &str) -> Result<Place, NoMemory>
@@ -64,6 +52,17 @@ pub fn refuse_at(alloc: Global, path: &str, bytes: &[u8], offset: usize, rule: R
         Ok(place) => LoadError::Refused { place, rule },
         Err(_) => LoadError::OutOfMemory,
     }
+}
+
+/// That a file that was loaded breaks a rule at a byte.
+pub fn refuse_in(alloc: Global, file: &SourceFile, offset: u32, rule: Rule) -> LoadError
+    ensures no_fault { result ≢ LoadError.ReadFault }
+    ensures why { (files : Option Tree) → ((place : Place) → Justifies files place rule) → Stops files result }
+    ensures here { Refuses (place_in file.now.path file.now.bytes (min offset (length file.now.bytes))) rule result }
+{
+    let bytes = file.bytes.as_slice();
+    let offset = (offset as usize).min(bytes.len());
+    refuse_at(alloc, file.path.as_str(), bytes, offset, rule)
 }
 
 /// The bytes of a file, or None where it is absent.

@@ -2,21 +2,10 @@
 
 ghost use Rattle.std.specs.Prelude.{◌≡◌, ◌≤◌, length};
 ghost use Rattle.std.specs.List.{prefix_len};
-ghost use Rattle.go_load.specs.Sources.{version_under};
 ghost use Rattle.go_load.specs.Versions.{is_digit, next_number, number_of, are_digits, is_patch, minor_of, minor_version};
-
-/// The newest Go 1.N that is supported. It has the rules of every version before it, too.
-pub const NEWEST_MINOR: u32 = 21;
 
 /// Every greater number counts as this one.
 const GREATEST: u32 = 1000000;
-
-/// The N of Go 1.N whose rules a package follows, in a program whose go.mod names this one.
-pub fn version_under(built_in: bool, minor: u32) -> u32
-    ensures { result ≡ version_under built_in minor }
-{
-    if built_in { NEWEST_MINOR } else { minor }
-}
 
 /// The number N of a version `1.N` or `1.N.P`.
 pub fn minor_version(word: &[u8]) -> Option<u32>

@@ -7,8 +7,8 @@ use crate::items::{Form, Item};
 use crate::tables::{Found, Sort, Spot, Tables};
 use go_ast::Token;
 use go_base::{NoMemory, TypeId};
-use go_load::SourceFile;
 use go_names::Entity;
+use go_sources::SourceFile;
 use go_syntax::{NamedType, TypeExpr};
 use go_type::{Basic, TypeTerm, Types, basic};
 

@@ -2,9 +2,8 @@
 
 use crate::bases::{TypeFact, define_basic, type_facts};
 use crate::cycles::{blame_cycles, holding, incomparable};
-use crate::declared::Declared;
 use crate::denoting::denote;
-use crate::error::CheckError;
+use crate::error::lost;
 use crate::extent::{find_leaves, find_nestings};
 use crate::finishing::finish;
 use crate::graphs::{Order, order_of, reach_marked};
@@ -17,7 +16,8 @@ use crate::shapes::find_shapes;
 use crate::tables::Tables;
 use crate::values::find_values;
 use go_base::NoMemory;
-use go_load::Sources;
+use go_declared::{CheckError, Declared};
+use go_sources::Sources;
 use std::alloc::Global;
 
 /// What the packages of a program declare. `Refused` with the first broken rule of their declarations: of names, types,
@@ -86,7 +86,7 @@ fn refuse(alloc: Global, tables: Tables) -> Result<Declared, CheckError> {
             pos: violation.at,
             rule: violation.rule,
         }),
-        None => Err(CheckError::from(crate::error::lost())),
+        None => Err(CheckError::from(lost())),
     }
 }
 

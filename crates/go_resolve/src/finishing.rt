@@ -1,6 +1,5 @@
 //! What sound declarations give.
 
-use crate::declared::Declared;
 use crate::error::lost;
 use crate::graphs::Order;
 use crate::importing::file_scopes;
@@ -12,8 +11,9 @@ use crate::rows::{Facts, receiver_base};
 use crate::specifications::Made;
 use crate::tables::{Sort, Tables};
 use go_base::{FuncId, NameId, NoMemory, Pos, TypeId, VarId};
-use go_load::Sources;
+use go_declared::Declared;
 use go_names::{Constant, Constants, Entity, Extent, Extents, PackageBlocks};
+use go_sources::Sources;
 use go_syntax::FuncDecl;
 use go_tree::{
     DeclaredType, DeclaredTypes, FunctionDecl, FunctionDecls, FunctionForm, Variable, Variables,

@@ -8,10 +8,10 @@ use crate::reading::Reader;
 use crate::tables::{Found, Imported, Sort, Spot};
 use go_ast::Token;
 use go_base::{NoMemory, Pos, Rule};
-use go_load::SourceFile;
 use go_names::Entity;
 use go_places::expr_start;
 use go_rules::LogicOp;
+use go_sources::SourceFile;
 use go_syntax::{Expr, ListedExpr, NamedType};
 use go_type::{Builtin, CompareOp, Const, ConstOp, UnaryOp};
 

@@ -6,8 +6,8 @@ use crate::nodes::Kind;
 use crate::package_order::{PackageOrder, narrow};
 use crate::tables::{Imported, InBlock, Tables};
 use go_base::{NameId, NoMemory, Pos, Rule};
-use go_load::{Import, Sources};
 use go_names::{FileScope, FileScopes, ImportOf};
+use go_sources::{Import, Sources};
 use go_syntax::{FileTree, ImportSpec};
 use std::alloc::Global;
 

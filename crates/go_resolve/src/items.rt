@@ -6,7 +6,7 @@ use crate::package_order::{PackageOrder, narrow};
 use crate::tables::{Declaration, InBlock, Sort, Tables};
 use go_ast::Token;
 use go_base::{NameId, NoMemory, Pos};
-use go_load::{SourceFile, Sources};
+use go_sources::{SourceFile, Sources};
 use go_syntax::{
     Decl, FuncDecl, ListedExpr, ListedName, ResultForm, Signature, TypeExpr, TypeSpec, ValueSpec,
 };

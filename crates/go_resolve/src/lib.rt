@@ -3,7 +3,6 @@
 
 mod bases;
 mod cycles;
-mod declared;
 mod declaring;
 mod denoting;
 mod error;
@@ -25,6 +24,4 @@ mod tables;
 mod values;
 mod violations;
 
-pub use declared::{Declared, LocalTypes};
 pub use declaring::declare;
-pub use error::CheckError;

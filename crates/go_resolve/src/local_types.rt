@@ -1,10 +1,10 @@
 //! The types that are declared in bodies, numbered by place. Go specification, "Type declarations".
 
-use crate::declared::LocalTypes;
 use crate::error::lost;
 use crate::items::Listed;
 use go_ast::{Kind, Token};
 use go_base::{MAX_FILE_BYTES, NoMemory, Pos};
+use go_declared::LocalTypes;
 use go_scan::scan;
 use go_syntax::{Decl, DeclLine};
 use std::alloc::Global;

@@ -3,7 +3,7 @@
 
 use crate::error::lost;
 use go_base::{NoMemory, Text};
-use go_load::Sources;
+use go_sources::Sources;
 use go_tree::{Package, Packages};
 use std::alloc::Global;
 use std::collections::BTreeSet;

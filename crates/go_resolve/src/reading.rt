@@ -5,9 +5,9 @@ use crate::nodes::{ElementNode, FieldNode, Kind, SignatureNode};
 use crate::tables::{Found, Imported, InNode, Sort, Spot, Tables, Tie, package_of};
 use go_ast::Token;
 use go_base::{Bytes, NameId, NoMemory, Rule};
-use go_load::SourceFile;
 use go_names::Entity;
 use go_places::type_start;
+use go_sources::SourceFile;
 use go_syntax::{
     ElementLine, FieldLine, ListedName, NamedType, Param, Params, ResultForm, Signature, TypeExpr,
 };

@@ -12,7 +12,7 @@ use indexmap::IndexSet;
 use stmt_rules::{Holder, Reading, Walker, mentions_from};
 
 /// An import, by its index in its file.
-#[derive(Clone, Copy, Debug, PartialEq, Eq, Hash)]
+#[derive(Clone, Copy, PartialEq, Eq, Hash)]
 struct ImportKey {
     file: u32,
     index: u32,
@@ -57,7 +57,7 @@ fn report_variables(walker: &mut Walker<'_>) {
 fn report_imports<'s>(walker: &mut Walker<'s>, used: &IndexSet<ImportKey>) -> Result<(), NoMemory> {
     for file in files_in_order(walker)? {
         walker.enter_file(file);
-        let sources: &'s go_load::Sources = walker.sources;
+        let sources: &'s go_sources::Sources = walker.sources;
         if let Some(source) = sources.file(file) {
             let mut index: u32 = 0;
             for import in &source.tree.imports {

@@ -94,7 +94,7 @@ fn push_file<'s>(
     places: &BTreeMap<Pos, usize>,
     file: u32,
 ) -> Result<(), NoMemory> {
-    let sources: &'s go_load::Sources = walker.sources;
+    let sources: &'s go_sources::Sources = walker.sources;
     let Some(source) = sources.file(file) else {
         return Ok(());
     };

@@ -1,8 +1,8 @@
 //! The verdict on a program alone.
 
 use crate::program::check;
-use go_load::Sources;
-use go_resolve::CheckError;
+use go_declared::CheckError;
+use go_sources::Sources;
 use std::alloc::Global;
 
 /// Whether a program that breaks no rule can be run: its target is a package main, with a function main. `Refused` with

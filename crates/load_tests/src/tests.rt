@@ -3,7 +3,8 @@
 ghost use Rattle.std.specs.List.Sorted.{IsStrictlyIncreasing};
 
 use go_base::{MemFiles, NoMemory, Place, Rule, Text};
-use go_load::{LoadError, Sources, Target, from_text, load};
+use go_load::{LoadError, Target, from_text, load};
+use go_sources::Sources;
 use std::alloc::Global;
 use std::test::Fail;
 

@@ -15,7 +15,7 @@ use typed_rules::{
 };
 
 /// What the cases of a switch are compared with.
-#[derive(Clone, Copy, Debug, PartialEq, Eq)]
+#[derive(Clone, Copy, PartialEq, Eq)]
 pub enum Tag {
     /// There is no tag: with `true`.
     Truth,
@@ -38,7 +38,7 @@ impl SeenTag {
 }
 
 /// A constant of a case, with its type.
-#[derive(Drop, Debug, PartialEq, Eq, Hash)]
+#[derive(Drop, PartialEq, Eq, Hash)]
 pub enum CaseKey {
     Number(TypeId, i128),
     Text(TypeId, Bytes),
@@ -66,21 +66,21 @@ impl Cases {
 }
 
 /// The operand of a type switch: its type for the cases, and the variable of the clauses.
-#[derive(Clone, Copy, Debug)]
+#[derive(Clone, Copy)]
 pub struct Matched {
     pub of: Option<TypeId>,
     pub binding: Option<Bound>,
 }
 
 /// The name that a type switch binds, and its number among the names that have to be used.
-#[derive(Clone, Copy, Debug)]
+#[derive(Clone, Copy)]
 pub struct Bound {
     pub name: Token,
     pub need: usize,
 }
 
 /// A case of a type switch, where its type is sound.
-#[derive(Clone, Copy, Debug)]
+#[derive(Clone, Copy)]
 pub struct SeenCase {
     pub case: Option<TypeCase>,
     /// Whether it breaks no rule.

@@ -10,7 +10,7 @@ use indexmap::IndexSet;
 use typed_rules::{Into, Listed, values_into};
 
 /// A name on the left of `:=`.
-#[derive(Clone, Copy, Debug)]
+#[derive(Clone, Copy)]
 pub enum Left {
     Blank,
     /// A variable of the innermost block.

@@ -37,7 +37,7 @@ pub struct Entered {
 }
 
 /// A parameter or result: its name, and the type that it is written with.
-#[derive(Clone, Copy, Debug)]
+#[derive(Clone, Copy)]
 struct Named {
     name: Option<Token>,
     at: Pos,

@@ -6,7 +6,7 @@ use go_base::{TypeId, VarId};
 use std::alloc::Global;
 
 /// A result of the function.
-#[derive(Clone, Copy, Debug)]
+#[derive(Clone, Copy)]
 pub struct ResultOf {
     pub variable: VarId,
     /// Its name, which may be `_`.

@@ -5,7 +5,7 @@ use go_tree::{TypedArm, TypedBlock, TypedStmt};
 use std::alloc::Global;
 
 /// Where a statement stands.
-#[derive(Clone, Copy, Debug)]
+#[derive(Clone, Copy)]
 pub struct Spot {
     /// The last of its labels.
     pub label: Option<NameId>,

@@ -5,7 +5,7 @@ use go_names::Mention;
 use std::alloc::Global;
 
 /// A name that has to be used: of a variable, or of the variables of the clauses of a type switch.
-#[derive(Clone, Copy, Debug)]
+#[derive(Clone, Copy)]
 pub struct Need {
     pub at: Pos,
     pub package: u32,
@@ -59,7 +59,7 @@ impl Needs {
 }
 
 /// Who names what is read in an initialiser or a body.
-#[derive(Clone, Copy, Debug, PartialEq, Eq)]
+#[derive(Clone, Copy, PartialEq, Eq)]
 pub enum Holder {
     /// An initialisation, by its number.
     Step(usize),
@@ -67,7 +67,7 @@ pub enum Holder {
 }
 
 /// Names that were read one after the other in what one holds, by their numbers from `from` to before `to`.
-#[derive(Clone, Copy, Debug)]
+#[derive(Clone, Copy)]
 pub struct Reading {
     pub holder: Holder,
     pub from: usize,

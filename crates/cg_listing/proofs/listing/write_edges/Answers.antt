@@ -1,6 +1,6 @@
 use Rattle.std.proofs.Common.{◌∙◌, ap, sym, map, subst, refl, inl}
 use Rattle.std.proofs.lemmas.Result.{on_err_weaker, on_ok_weaker}
-use Rattle.go_load.specs.Sources.{files_of}
+use Rattle.go_sources.specs.Sources.{files_of}
 use Rattle.cg_listing.specs.Listing.{IsInOrder, line_by, lines_text, name_in, name_of}
 use Rattle.cg_listing.specs.Rows.{line_of_row}
 use Rattle.cg_listing.proofs.Flushing.{something_written}

@@ -1,7 +1,7 @@
 use Rattle.std.proofs.Common.{◌≤◌, ◌∙◌, ◌++◌, ◌+◌, [], sym, ap, subst, length, take, drop, map, arith}
 use Rattle.std.proofs.lemmas.List.{append-nil}
 use Rattle.std.proofs.lemmas.Result.{on_err_weaker}
-use Rattle.go_load.specs.Sources.{files_of}
+use Rattle.go_sources.specs.Sources.{files_of}
 use Rattle.cg_listing.specs.Listing.{lines_text}
 use Rattle.cg_listing.specs.Rows.{line_of_row, Flushes}
 use Rattle.cg_listing.proofs.Flushing.{flushes_more, front_before, front_after, line_split, line_more, all_taken, on_any_err}

@@ -1,7 +1,7 @@
 use Rattle.std.proofs.Common.{◌≤◌, map, take}
+use Rattle.go_sources.specs.Sources.{files_of}
 use Rattle.cg_listing.specs.Listing.{lines_text}
 use Rattle.cg_listing.specs.Rows.{line_of_row, IsNamed, Flushes}
-use Rattle.go_load.specs.Sources.{files_of}
 use Rattle.cg_listing.proofs.listing.write_rows.Given as goal
 
 abbrev pub invariant-loop-row : goal.invariant-loop-row

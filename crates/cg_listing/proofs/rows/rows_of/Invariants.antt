@@ -1,7 +1,7 @@
 use Rattle.std.proofs.Common.{◌≡◌, map, take}
+use Rattle.go_sources.specs.Sources.{files_of}
 use Rattle.cg_listing.specs.Listing.{line_by, name_in}
 use Rattle.cg_listing.specs.Rows.{line_of_row}
-use Rattle.go_load.specs.Sources.{files_of}
 use Rattle.cg_listing.proofs.rows.rows_of.Given as goal
 
 abbrev pub invariant-loop-edge : goal.invariant-loop-edge

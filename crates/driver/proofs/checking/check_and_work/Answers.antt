@@ -1,4 +1,4 @@
-use Rattle.go_load.specs.Sources.{files_of}
+use Rattle.go_sources.specs.Sources.{files_of}
 use Rattle.driver.proofs.Working.{refusal_comes, wants_comes}
 use Rattle.driver.specs.Working.{IsResult}
 use Rattle.driver.proofs.checking.check_and_work.Goals as goal

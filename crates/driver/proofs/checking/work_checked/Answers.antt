@@ -1,4 +1,4 @@
-use Rattle.go_load.specs.Sources.{files_of}
+use Rattle.go_sources.specs.Sources.{files_of}
 use Rattle.driver.proofs.Working.{refusal_comes}
 use Rattle.driver.proofs.checking.work_checked.Goals as goal
 

@@ -1,5 +1,5 @@
 use Rattle.std.proofs.Common.{◌≡◌, Some, rules}
-use Rattle.go_load.specs.Sources.{files_of}
+use Rattle.go_sources.specs.Sources.{files_of}
 use Rattle.driver.specs.Running.{only_file}
 use Rattle.driver.proofs.Working.{known_by_file}
 use Rattle.driver.proofs.literals.known_output.Goals as goal

@@ -1,4 +1,4 @@
-use Rattle.go_load.specs.Sources.{files_of}
+use Rattle.go_sources.specs.Sources.{files_of}
 use Rattle.driver.specs.Working.{IsWork}
 use Rattle.driver.proofs.Working.{known_finishes, known_listing_stops, known_run_stops}
 use Rattle.driver.proofs.Written.{does_stop}

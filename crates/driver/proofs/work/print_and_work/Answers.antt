@@ -1,4 +1,4 @@
-use Rattle.go_load.specs.Sources.{files_of}
+use Rattle.go_sources.specs.Sources.{files_of}
 use Rattle.driver.specs.Working.{IsWork}
 use Rattle.driver.proofs.Working.{printed_finishes, printed_listing_stops, printed_run_finishes, printed_run_stops, printing_stops}
 use Rattle.driver.proofs.Written.{does_stop}

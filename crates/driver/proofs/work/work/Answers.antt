@@ -1,5 +1,5 @@
 use Rattle.std.proofs.Common.{Err, ap, sym}
-use Rattle.go_load.specs.Sources.{files_of}
+use Rattle.go_sources.specs.Sources.{files_of}
 use Rattle.driver.proofs.Working.{fault_stop, stop_comes, unbuilt_comes, work_faultless, worked_comes}
 use Rattle.driver.proofs.work.work.Goals as goal
 

@@ -1,7 +1,7 @@
 use Rattle.std.proofs.Common.{◌≡◌, ◌∙◌, true, false, bytes_eq, ap, List, map, rules}
 use Rattle.std.proofs.Math.ListN.{drop_of_length-le}
 use Rattle.go_base.specs.declared.rule.Rule.TheVariants.{SecondPackageName}
-use Rattle.go_load.specs.declared.sources.SourceFile.{SourceFile}
+use Rattle.go_sources.specs.declared.sources.SourceFile.{SourceFile}
 use Rattle.go_load.specs.Finding.{view_file}
 use Rattle.go_load.specs.Programs.{broken_at, name_of, other_name}
 use Rattle.go_load.proofs.LoaderLaws.{refused}
@@ -9,14 +9,14 @@ use Rattle.go_load.proofs.NameLaws.{same_name_next, other_name_here}
 use Rattle.go_load.proofs.loader.check_names.Goals as goal
 
 pub returns-then-ne-clause-why : goal.returns-then-ne-clause-why
-returns-then-ne-clause-why c = λ files. c.refuse.ensures.why files (λ place. tt)
+returns-then-ne-clause-why c = λ files. c.refuse_in.ensures.why files (λ place. tt)
 
 pub returns-then-ne-clause-exact : goal.returns-then-ne-clause-exact
 returns-then-ne-clause-exact c =
     let name = name_of (view_file c.args.head.now) in
     let other : bytes_eq (name_of (view_file c.file-item.result)) (name_of (view_file c.args.head.now)) ≡ false = search rules in
-    refused (Unit {0}) (broken_at (view_file c.file-item.result) c.file-item.result.tree.name SecondPackageName).place SecondPackageName c.refuse.result (other_name name (map view_file c.args.others.now))
-    (c.files.invariant ∙ other_name_here name c.args.others.now c.files.file-index c.file-item.result c.files-test.true c.file-item.is other) c.refuse.ensures.here
+    refused (Unit {0}) (broken_at (view_file c.file-item.result) c.file-item.result.tree.name SecondPackageName).place SecondPackageName c.refuse_in.result (other_name name (map view_file c.args.others.now))
+    (c.files.invariant ∙ other_name_here name c.args.others.now c.files.file-index c.file-item.result c.files-test.true c.file-item.is other) c.refuse_in.ensures.here
 
 pub files-preserved : goal.files-preserved
 files-preserved c =

@@ -1,5 +1,5 @@
 use Rattle.std.proofs.lemmas.Result.{err_from_is_err_and}
-use Rattle.go_load.specs.Sources.{AreTold}
+use Rattle.go_sources.specs.Sources.{AreTold}
 use Rattle.go_load.proofs.Finishing.{all_loaded, imports_stopped, queue_stopped, runtime_stopped}
 use Rattle.go_load.proofs.loading.finish.Goals as goal
 

@@ -1,6 +1,6 @@
 use Rattle.std.proofs.Common.{◌≡◌, ◌∙◌, [], ◌∷◌, inr}
 use Rattle.std.proofs.lemmas.Result.{err_from_is_err_and}
-use Rattle.go_load.specs.BuiltIns.{built_in_text}
+use Rattle.go_sources.specs.BuiltIns.{built_in_text}
 use Rattle.go_load.proofs.FileLaws.{built_in_read, built_in_refused}
 use Rattle.go_load.proofs.package_files.read_built_in.Goals as goal
 

@@ -1,6 +1,6 @@
 use Rattle.std.proofs.Common.{◌≡◌, ◌≤◌}
+use Rattle.go_sources.specs.Sources.{AreTold}
 use Rattle.go_load.specs.FileReading.{AreOf}
-use Rattle.go_load.specs.Sources.{AreTold}
 use Rattle.go_load.proofs.FileLaws.{TellsBehind}
 use Rattle.go_load.proofs.package_files.read_paths.Given as goal
 

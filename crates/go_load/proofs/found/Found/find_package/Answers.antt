@@ -1,6 +1,6 @@
 use Rattle.std.proofs.Common.{◌≡◌, ◌∙◌, Some, None, ap, sym, rules}
+use Rattle.go_sources.specs.BuiltIns.{built_in_named}
 use Rattle.go_load.specs.Entries.{dir_in}
-use Rattle.go_load.specs.Imports.{built_in_named}
 use Rattle.go_load.proofs.Joining.{package_in_directory}
 use Rattle.go_load.proofs.found.Found.find_package.Goals as goal
 

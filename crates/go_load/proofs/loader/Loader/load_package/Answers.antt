@@ -1,7 +1,7 @@
 use Rattle.std.proofs.lemmas.Result.{err_from_is_err_and}
 use Rattle.std.proofs.lemmas.List.Elements.{All-append, All-same}
-use Rattle.go_load.specs.declared.sources.SourceFile.{SourceFile}
-use Rattle.go_load.specs.Sources.{IsText}
+use Rattle.go_sources.specs.declared.sources.SourceFile.{SourceFile}
+use Rattle.go_sources.specs.Sources.{IsText}
 use Rattle.go_load.proofs.PackageLoading.{unread, faulty, unfound_import, loaded}
 use Rattle.go_load.proofs.loader.Loader.load_package.Goals as goal
 

@@ -1,5 +1,5 @@
 use Rattle.std.proofs.Common.{◌≡◌, ◌≤◌, IfSome}
-use Rattle.go_load.specs.Sources.{AreTold}
+use Rattle.go_sources.specs.Sources.{AreTold}
 use Rattle.go_load.proofs.QueueLoading.{KeepsOn}
 use Rattle.go_load.proofs.loader.Loader.load_queue.Given as goal
 

@@ -1,6 +1,0 @@
-use Rattle.std.proofs.Common.{◌≡◌, ◌++◌, take}
-use Rattle.go_load.specs.Soundness.{edges_of_file}
-use Rattle.go_load.proofs.soundness.push_edges.Given as goal
-
-abbrev pub invariant-imports : goal.invariant-imports
-invariant-imports l = l.edges.items ≡ l.initial.edges.items ++ edges_of_file l.number (take l.import-index l.imports)
