@@ -1,7 +1,7 @@
 //! The places of a text, and the devices over memory and over the system.
 
 use go_base::{
-    FileError, Files, MemFiles, MemSink, RealFiles, RealSink, Sink, SinkError, line_column,
+    FileError, Files, MemFiles, MemSink, Names, RealFiles, RealSink, Sink, SinkError, line_column,
 };
 use std::alloc::Global;
 use std::io::{ErrorKind, Write};
@@ -14,6 +14,16 @@ fn lines_and_columns(rt: HostRuntime) {
     for (offset, line, column) in [(0, 1, 1), (3, 3, 1), (6, 4, 1)] {
         assert_eq!(rt; line_column(b"a\n\nbc\n", offset), (line, column));
     }
+}
+
+#[test]
+fn names(rt: HostRuntime) -> Result<(), Fail> {
+    let mut names = Names::new(rt.alloc());
+    let id = names.intern("a")?;
+    let copy = names.copy(rt.alloc())?;
+    assert_eq!(rt; copy.find("a"), Some(id));
+    assert_eq!(rt; copy.find("b"), None);
+    Ok(())
 }
 
 /// What is asked of a device: the path, and the limit of the file's bytes or, for a list of names, 0.
