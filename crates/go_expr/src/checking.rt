@@ -13,7 +13,7 @@ use go_sources::{SourceFile, Sources};
 use go_syntax::{Decl, Expr, TypeExpr};
 use go_tree::TypedExpr;
 use std::alloc::Global;
-use typed_rules::{Given, Seen, assigned, by_default, type_of, value_of};
+use typed_parts::{Given, Seen, assigned, by_default, type_of, value_of};
 
 /// What an expression was found to be.
 #[derive(Drop)]
@@ -140,7 +140,7 @@ pub fn check_expr(
     let seen = see_expr(alloc, sources, scope, expr)?;
     let typed = match want {
         Some(to) => {
-            let given = typed_rules::one_value(&mut scope.ground, seen);
+            let given = typed_parts::one_value(&mut scope.ground, seen);
             assigned(&mut scope.ground, given, Some(to))?
         }
         None => match value_of(&mut scope.ground, seen) {
@@ -160,7 +160,7 @@ pub fn check_one(
 ) -> Result<Checked, CheckError> {
     let before = scope.set_least(Least::new());
     let seen = see_expr(alloc, sources, scope, expr)?;
-    let typed = match typed_rules::one_value(&mut scope.ground, seen) {
+    let typed = match typed_parts::one_value(&mut scope.ground, seen) {
         Some(given) => Some(given.expr),
         None => None,
     };
@@ -176,7 +176,7 @@ pub fn check_default(
 ) -> Result<Checked, CheckError> {
     let before = scope.set_least(Least::new());
     let seen = see_expr(alloc, sources, scope, expr)?;
-    let given = typed_rules::one_value(&mut scope.ground, seen);
+    let given = typed_parts::one_value(&mut scope.ground, seen);
     let typed = by_default(&mut scope.ground, given)?;
     refused(scope, before, Checked::of(typed))
 }
@@ -192,7 +192,7 @@ pub fn check_assigned(
 ) -> Result<Checked, CheckError> {
     let before = scope.set_least(Least::new());
     let seen = see_expr(alloc, sources, scope, expr)?;
-    let given = typed_rules::one_value(&mut scope.ground, seen);
+    let given = typed_parts::one_value(&mut scope.ground, seen);
     let typed = assigned(&mut scope.ground, given, to)?;
     refused(scope, before, Checked::of(typed))
 }
@@ -201,7 +201,7 @@ pub fn check_assigned(
 pub fn one_value(scope: &mut Scope, at: Pos, expr: TypedExpr) -> Result<Checked, CheckError> {
     let before = scope.set_least(Least::new());
     let seen = Seen::value(at, Some(expr));
-    let typed = match typed_rules::one_value(&mut scope.ground, seen) {
+    let typed = match typed_parts::one_value(&mut scope.ground, seen) {
         Some(given) => Some(given.expr),
         None => None,
     };
@@ -218,7 +218,7 @@ pub fn settle(
     to: Option<TypeId>,
 ) -> Result<Checked, CheckError> {
     let before = scope.set_least(Least::new());
-    let typed = typed_rules::settle(&mut scope.ground, Some(Given { at, expr }), to)?;
+    let typed = typed_parts::settle(&mut scope.ground, Some(Given { at, expr }), to)?;
     refused(scope, before, Checked::of(typed))
 }
 

@@ -9,9 +9,10 @@ use go_base::{NameId, NoMemory, Pos};
 use go_sources::SourceFile;
 use go_syntax::{Element, Expr, TypeExpr};
 use std::alloc::Global;
-use typed_rules::{
-    Entry, FieldEntry, Hint, Literal, LiteralKind, Seen, elided_literal, indexed_literal,
-    map_literal, open_array_literal, struct_literal, written_literal,
+use typed_parts::Seen;
+use typed_primaries::{
+    Entry, FieldEntry, Hint, Literal, LiteralKind, elided_literal, indexed_literal, map_literal,
+    open_array_literal, struct_literal, written_literal,
 };
 
 /// The value or key of an element, which may be a composite literal without its type: then the hint says what it is.

@@ -12,7 +12,8 @@ use go_sources::SourceFile;
 use go_syntax::{Expr, ListedExpr, ListedName, ValueSpec};
 use go_tree::{ExprKind, TypedExpr};
 use std::alloc::Global;
-use typed_rules::{Seen, constant_value, one_value};
+use typed_operators::constant_value;
+use typed_parts::{Seen, one_value};
 
 /// The type that is written for the values of a specification.
 #[derive(Clone, Copy, PartialEq, Eq)]

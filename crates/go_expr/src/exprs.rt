@@ -14,9 +14,9 @@ use go_syntax::{Expr, ListedExpr};
 use go_tree::{ExprKind, Method, TypedExpr};
 use go_type::{SelectError, SelectionKind, find_selector};
 use std::alloc::Global;
-use typed_rules::{
-    Seen, call, index_expression, parenthesized, selector, slice_expression, type_assertion,
-};
+use typed_calls::call;
+use typed_parts::{Seen, parenthesized};
+use typed_primaries::{index_expression, selector, slice_expression, type_assertion};
 
 /// What an expression is seen to be. Each row that is broken in it is reported. Each form with operands has a function of its
 /// own, so that a level of nesting takes little of the host's stack.

@@ -10,7 +10,7 @@ use go_scan::{int_value, is_literal, rune_value, string_value};
 use go_sources::SourceFile;
 use go_tree::{FunctionDecl, FunctionForm};
 use std::alloc::Global;
-use typed_rules::{Seen, function_literal, integer_literal, rune_literal, text_literal};
+use typed_parts::{Seen, function_literal, integer_literal, rune_literal, text_literal};
 
 /// An integer, rune or string literal.
 pub(crate) fn literal_of_token(

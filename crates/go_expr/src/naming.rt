@@ -10,7 +10,7 @@ use go_names::{Entity, ImportOf, Mention, Mentioned};
 use go_scan::is_exported;
 use go_sources::SourceFile;
 use go_type::{Basic, Const, EXPORTED, basic};
-use typed_rules::{Meaning, Seen, constant, function, iota, nil, variable};
+use typed_parts::{Meaning, Seen, constant, function, iota, nil, variable};
 
 impl Scope {
     /// A name in an expression.

@@ -6,10 +6,11 @@ use go_ast::{Kind, Token};
 use go_base::NoMemory;
 use go_rules::LogicOp;
 use go_type::{BinaryOp, CompareOp};
-use typed_rules::{
-    Seen, SignOp, address_of, binary_expression, comparison, indirection, logical, negation,
-    receive, sign,
+use typed_operators::{
+    SignOp, address_of, binary_expression, comparison, indirection, logical, negation, receive,
+    sign,
 };
+use typed_parts::Seen;
 
 /// An operator on two operands.
 #[derive(Clone, Copy, PartialEq, Eq)]

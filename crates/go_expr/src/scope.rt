@@ -20,7 +20,7 @@ use std::alloc::Global;
 use std::collections::BTreeMap;
 use type_bare::Bare;
 use type_sizes::Sizes;
-use typed_rules::Ground;
+use typed_parts::Ground;
 
 /// The phase in which initialisers and bodies are asked.
 const PHASE: u8 = 3;

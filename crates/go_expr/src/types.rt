@@ -13,7 +13,7 @@ use go_sources::SourceFile;
 use go_syntax::{ElementLine, Expr, FieldLine, NamedType, Param, ResultForm, Signature, TypeExpr};
 use go_type::{Dir, TypeTerm};
 use std::alloc::Global;
-use typed_rules::array_length;
+use typed_operators::array_length;
 
 /// The type that is written, where it is sound. Each row that is broken in it is reported.
 #[cycle(seeing)]

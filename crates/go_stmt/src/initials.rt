@@ -11,7 +11,8 @@ use go_tree::Values;
 use std::alloc::Global;
 use std::collections::BTreeMap;
 use stmt_rules::{Holder, Walker, mentions_from};
-use typed_rules::{Into, Listed, Seen, values_into};
+use typed_parts::Seen;
+use typed_primaries::{Into, Listed, values_into};
 
 /// The values of an initialisation.
 #[derive(Clone, Copy)]

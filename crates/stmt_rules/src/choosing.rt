@@ -10,9 +10,9 @@ use go_tree::{ExprKind, TypeCase, TypedCase, TypedExpr};
 use go_type::Const;
 use indexmap::IndexSet;
 use std::alloc::Global;
-use typed_rules::{
-    asserted_case, case_value, interface_operand, one_value, switch_tag, truth_case,
-};
+use typed_operators::{case_value, switch_tag, truth_case};
+use typed_parts::one_value;
+use typed_primaries::{asserted_case, interface_operand};
 
 /// What the cases of a switch are compared with.
 #[derive(Clone, Copy, PartialEq, Eq)]

@@ -9,7 +9,7 @@ use go_base::{NameId, NoMemory, Pos, Rule, VarId};
 use go_expr::see_decl;
 use go_syntax::{Decl, Expr, IfArm, Label, ListedExpr, Stmt, TypeSwitchStmt};
 use go_tree::{Comm, TypeCase, TypeClause, TypedArm, TypedCase, TypedClause, TypedExpr, TypedStmt};
-use typed_rules::condition;
+use typed_operators::condition;
 
 /// Labels whose statement begins.
 #[derive(Drop)]

@@ -7,7 +7,7 @@ use go_names::{Entity, Mention, Mentioned};
 use go_syntax::{Expr, ListedExpr, ListedName, ValueSpec};
 use go_tree::{DefineTarget, TypedStmt, Values};
 use indexmap::IndexSet;
-use typed_rules::{Into, Listed, values_into};
+use typed_primaries::{Into, Listed, values_into};
 
 /// A name on the left of `:=`.
 #[derive(Clone, Copy)]

@@ -9,7 +9,8 @@ use go_base::{NoMemory, Pos, Rule, TypeId, VarId};
 use go_places::expr_start;
 use go_syntax::{Expr, ListedExpr};
 use go_tree::{DefineTarget, RangeOver, RangeTargets, Target, TypedExpr};
-use typed_rules::{Ranged, assigned_part, range_operand};
+use typed_operators::{Ranged, range_operand};
+use typed_parts::assigned_part;
 
 /// The targets of a range that were seen; names among them are not declared yet.
 #[derive(Drop)]

@@ -9,7 +9,8 @@ use go_places::{expr_start, stmt_start};
 use go_syntax::{Expr, ListedExpr, Stmt};
 use go_tree::{Comm, ExprKind, ReceiveInto, TypedExpr};
 use go_type::{Basic, basic};
-use typed_rules::{Given, assigned_ok, assigned_part, send};
+use typed_operators::send;
+use typed_parts::{Given, assigned_ok, assigned_part};
 
 /// A case of a select that was seen, and whose names are not declared yet.
 #[derive(Drop)]

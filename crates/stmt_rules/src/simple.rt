@@ -11,10 +11,9 @@ use go_syntax::{Expr, ListedExpr, Stmt};
 use go_tree::{ExprKind, Target, TypedExpr, TypedStmt};
 use go_type::{BinaryOp, Builtin};
 use std::alloc::Global;
-use typed_rules::{
-    Into, Listed, Meaning, Seen, binary_expression, is_place, send, step, target, value_of,
-    values_into,
-};
+use typed_operators::{binary_expression, send, step, target};
+use typed_parts::{Meaning, Seen, is_place, value_of};
+use typed_primaries::{Into, Listed, values_into};
 
 /// A side of an assignment.
 #[derive(Drop)]

@@ -12,7 +12,7 @@ use go_syntax::{Expr, ListedExpr, TypeExpr};
 use go_tree::{Bodies, Body};
 use go_type::{TypeTerm, Types};
 use std::alloc::Global;
-use typed_rules::{Given, Meaning, Seen, value_of};
+use typed_parts::{Given, Meaning, Seen, value_of};
 
 /// The first minor version of Go in which each turn of a loop has variables of its own.
 const FRESH_LOOPS: u32 = 22;

@@ -1,0 +1,263 @@
+//! Calls of built-in functions. Go specification, "Built-in functions".
+
+use crate::extremes::extreme_of;
+use crate::growing::append_of;
+use crate::making::formed;
+use crate::measuring::length_of;
+use crate::moving::{cleared, closed, copied, deleted};
+use go_base::{NoMemory, Pos, Rule, TypeId};
+use go_rules::{is_ordered, takes_logic};
+use go_tree::{ExprKind, TypedExpr};
+use go_type::{Builtin, Types};
+use typed_parts::{
+    Given, Ground, Seen, assigned, beside, by_default, lost, node, one_value, only, place_of,
+    with_last,
+};
+
+/// A call of a built-in function.
+#[derive(Clone, Copy)]
+pub struct BuiltInCall {
+    /// Its first byte.
+    pub at: Pos,
+    pub builtin: Builtin,
+    pub parenthesis: Pos,
+    pub dots: Option<Pos>,
+}
+
+impl BuiltInCall {
+    /// The call with its arguments.
+    pub fn node(
+        self,
+        of: TypeId,
+        form: Option<TypeId>,
+        arguments: Vec<TypedExpr>,
+        spread: bool,
+    ) -> TypedExpr {
+        node(
+            self.parenthesis,
+            of,
+            ExprKind::BuiltinOf {
+                builtin: self.builtin,
+                form,
+                arguments,
+                spread,
+            },
+        )
+    }
+
+    /// The call without a value, where its arguments are sound.
+    pub fn action(
+        self,
+        ground: &mut Ground,
+        arguments: Option<Vec<TypedExpr>>,
+    ) -> Result<Option<TypedExpr>, NoMemory> {
+        match arguments {
+            Some(arguments) => self.without_value(ground, arguments),
+            None => Ok(None),
+        }
+    }
+
+    fn without_value(
+        self,
+        ground: &mut Ground,
+        arguments: Vec<TypedExpr>,
+    ) -> Result<Option<TypedExpr>, NoMemory> {
+        let (nothing, arguments) = beside(ground.tuple(&[]), arguments)?;
+        Ok(Some(self.node(nothing, None, arguments, false)))
+    }
+}
+
+/// A call of a built-in function, which begins at a place. `BadBuiltInCall` at an argument that the function does not
+/// take; `WrongNumberOfValues` at the arguments, or at the call where there are none; `BadUseOfDots` at the `...`.
+pub fn built_in(
+    ground: &mut Ground,
+    at: Pos,
+    builtin: Builtin,
+    parenthesis: Pos,
+    arguments: Vec<Seen>,
+    dots: Option<Pos>,
+) -> Result<Option<TypedExpr>, NoMemory> {
+    let call = BuiltInCall {
+        at,
+        builtin,
+        parenthesis,
+        dots,
+    };
+    if matches!(builtin, Builtin::Make | Builtin::New) {
+        return formed(ground, call, arguments);
+    }
+    let arguments = each_value(ground, arguments)?;
+    let takes = ask_number(ground, call, arguments.as_slice());
+    match only(Some(arguments), takes) {
+        Some(arguments) => plain(ground, call, arguments),
+        None => Ok(None),
+    }
+}
+
+/// Arguments, each asked to be one value.
+pub fn each_value(
+    ground: &mut Ground,
+    arguments: Vec<Seen>,
+) -> Result<Vec<Option<Given>>, NoMemory> {
+    let mut values = Vec::new(ground.alloc);
+    for argument in arguments {
+        values.push(one_value(ground, argument))?;
+    }
+    Ok(values)
+}
+
+/// Whether there is no `...` where none may be, and the number of arguments is one that the function takes.
+fn ask_number(ground: &mut Ground, call: BuiltInCall, arguments: &[Option<Given>]) -> bool {
+    let place = place_of(arguments, call.at);
+    if let (Some(dots), false) = (call.dots, call.builtin == Builtin::Append) {
+        if place.is_some() {
+            ground.report(dots, Rule::BadUseOfDots);
+        }
+        return false;
+    }
+    if takes_number(call.builtin, arguments.len()) {
+        return true;
+    }
+    if let Some(place) = place {
+        ground.report(place, Rule::WrongNumberOfValues);
+    }
+    false
+}
+
+fn takes_number(builtin: Builtin, number: usize) -> bool {
+    match builtin {
+        Builtin::Append | Builtin::Max | Builtin::Min | Builtin::Make => number >= 1,
+        Builtin::Cap
+        | Builtin::Clear
+        | Builtin::Close
+        | Builtin::Len
+        | Builtin::New
+        | Builtin::Panic => number == 1,
+        Builtin::Copy | Builtin::Delete => number == 2,
+        Builtin::Print | Builtin::Println => true,
+        Builtin::Recover => number == 0,
+    }
+}
+
+/// A function that takes values alone, in a number that it takes.
+fn plain(
+    ground: &mut Ground,
+    call: BuiltInCall,
+    arguments: Vec<Option<Given>>,
+) -> Result<Option<TypedExpr>, NoMemory> {
+    match call.builtin {
+        Builtin::Append => append_of(ground, call, arguments),
+        Builtin::Max | Builtin::Min => extreme_of(ground, call, arguments),
+        Builtin::Print | Builtin::Println => printed(ground, call, arguments),
+        Builtin::Recover => {
+            drop(arguments);
+            recovered(ground, call)
+        }
+        Builtin::Copy | Builtin::Delete => of_two(ground, call, arguments),
+        Builtin::Make | Builtin::New => {
+            drop(arguments);
+            Err(lost())
+        }
+        _ => of_one(ground, call, arguments),
+    }
+}
+
+fn of_one(
+    ground: &mut Ground,
+    call: BuiltInCall,
+    mut arguments: Vec<Option<Given>>,
+) -> Result<Option<TypedExpr>, NoMemory> {
+    let x = arguments.pop().flatten();
+    drop(arguments);
+    match x {
+        Some(x) => of_value(ground, call, x),
+        None => Ok(None),
+    }
+}
+
+fn of_value(
+    ground: &mut Ground,
+    call: BuiltInCall,
+    x: Given,
+) -> Result<Option<TypedExpr>, NoMemory> {
+    match call.builtin {
+        Builtin::Clear => cleared(ground, call, x),
+        Builtin::Close => closed(ground, call, x),
+        Builtin::Panic => panicked(ground, call, x),
+        _ => length_of(ground, call, x),
+    }
+}
+
+fn of_two(
+    ground: &mut Ground,
+    call: BuiltInCall,
+    mut arguments: Vec<Option<Given>>,
+) -> Result<Option<TypedExpr>, NoMemory> {
+    let second = arguments.pop().flatten();
+    let first = arguments.pop().flatten();
+    drop(arguments);
+    match call.builtin {
+        Builtin::Copy => copied(ground, call, first, second),
+        _ => deleted(ground, call, first, second),
+    }
+}
+
+/// `panic(v)`, whose argument becomes an `interface{}`.
+fn panicked(
+    ground: &mut Ground,
+    call: BuiltInCall,
+    x: Given,
+) -> Result<Option<TypedExpr>, NoMemory> {
+    let (any, x) = beside(ground.any_type(), x)?;
+    let value = assigned(ground, Some(x), Some(any))?;
+    let arguments = one_of(ground, value)?;
+    call.action(ground, arguments)
+}
+
+/// A list of one, where that is sound.
+pub fn one_of(
+    ground: &Ground,
+    value: Option<TypedExpr>,
+) -> Result<Option<Vec<TypedExpr>>, NoMemory> {
+    with_last(Some(Vec::new(ground.alloc)), value)
+}
+
+fn recovered(ground: &mut Ground, call: BuiltInCall) -> Result<Option<TypedExpr>, NoMemory> {
+    let any = ground.any_type()?;
+    Ok(Some(call.node(any, None, Vec::new(ground.alloc), false)))
+}
+
+/// `print` and `println`: integers, strings and booleans, untyped ones by their default types.
+fn printed(
+    ground: &mut Ground,
+    call: BuiltInCall,
+    arguments: Vec<Option<Given>>,
+) -> Result<Option<TypedExpr>, NoMemory> {
+    let mut values = Some(Vec::new(ground.alloc));
+    for argument in arguments {
+        let value = printable(ground, argument)?;
+        values = with_last(values, value)?;
+    }
+    call.action(ground, values)
+}
+
+fn printable(ground: &mut Ground, x: Option<Given>) -> Result<Option<TypedExpr>, NoMemory> {
+    let Some(x) = x else {
+        return Ok(None);
+    };
+    let at = x.at;
+    let value = by_default(ground, Some(x))?;
+    let prints = is_printed(&ground.types, &value);
+    if !prints {
+        ground.report(at, Rule::BadBuiltInCall);
+    }
+    Ok(only(value, prints))
+}
+
+/// Whether a value that is sound is one that is printed.
+fn is_printed(types: &Types, value: &Option<TypedExpr>) -> bool {
+    match value {
+        Some(value) => is_ordered(types, value.of) || takes_logic(types, value.of),
+        None => true,
+    }
+}

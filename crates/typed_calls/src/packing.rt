@@ -1,0 +1,208 @@
+//! Arguments as values of parameters, packed in slices where these are variadic. Go specification, "Passing arguments to ...
+//! parameters".
+
+use crate::calling::CallSite;
+use go_base::{NoMemory, Pos, TypeId};
+use go_tree::{Elements, ExprKind, ItemInit, TypedExpr, Values};
+use go_type::{Signature, TypeTerm, Types};
+use typed_parts::{
+    Given, Ground, assigned, assigned_part, beside, both, boxed_sound, lost, node, only, with_last,
+};
+
+/// How arguments go to parameters.
+#[derive(Clone, Copy)]
+pub struct Plan {
+    call: CallSite,
+    /// How many arguments have parameters of their own.
+    fixed: usize,
+    /// Where the others are packed: the type of the slice, and that of its elements.
+    packs: Option<(TypeId, TypeId)>,
+}
+
+impl Plan {
+    /// Arguments of a variadic function are packed where there is no `...`.
+    pub fn new(ground: &Ground, call: CallSite, signature: &Signature) -> Plan {
+        let packs = signature.variadic && call.dots.is_none();
+        let params = signature.params.as_slice();
+        match params.last() {
+            Some(slice) if packs => Plan {
+                call,
+                fixed: params.len().saturating_sub(1),
+                packs: slice_of(&ground.types, *slice),
+            },
+            _ => Plan {
+                call,
+                fixed: params.len(),
+                packs: None,
+            },
+        }
+    }
+
+    /// The type that an argument goes to.
+    fn target(&self, signature: &Signature, number: usize) -> Option<TypeId> {
+        if number < self.fixed {
+            return signature.params.as_slice().get(number).copied();
+        }
+        let (_, elem) = self.packs?;
+        Some(elem)
+    }
+}
+
+/// A slice type and the type of its elements.
+fn slice_of(types: &Types, of: TypeId) -> Option<(TypeId, TypeId)> {
+    match types.underlying_term(of) {
+        Some(TypeTerm::Slice(elem)) => Some((of, *elem)),
+        _ => None,
+    }
+}
+
+/// Values as those of the parameters.
+pub fn passed_each(
+    ground: &mut Ground,
+    signature: &Signature,
+    plan: Plan,
+    values: Vec<Option<Given>>,
+) -> Result<Option<Vec<TypedExpr>>, NoMemory> {
+    let mut passed = Some(Vec::new(ground.alloc));
+    for (number, value) in values.into_iter().enumerate() {
+        let to = plan.target(signature, number);
+        let value = assigned(ground, value, to)?;
+        passed = with_last(passed, value)?;
+    }
+    Ok(passed)
+}
+
+/// Values that came, packed where they are sound.
+pub fn packed_values(
+    ground: &mut Ground,
+    plan: Plan,
+    values: Result<Option<Vec<TypedExpr>>, NoMemory>,
+) -> Result<Option<Values>, NoMemory> {
+    match packed_sound(ground, plan, values)? {
+        Some(values) => Ok(Some(Values::Each(values))),
+        None => Ok(None),
+    }
+}
+
+fn packed_sound(
+    ground: &mut Ground,
+    plan: Plan,
+    values: Result<Option<Vec<TypedExpr>>, NoMemory>,
+) -> Result<Option<Vec<TypedExpr>>, NoMemory> {
+    match values? {
+        Some(values) => packed(ground, plan, values),
+        None => Ok(None),
+    }
+}
+
+/// The results of a call as the values of the parameters of another.
+pub fn spread(
+    ground: &mut Ground,
+    signature: &Signature,
+    plan: Plan,
+    tuple: Given,
+    parts: Vec<TypeId>,
+) -> Result<Option<Values>, NoMemory> {
+    let passed = passed_parts(ground, signature, plan, tuple.at, parts.as_slice());
+    let passed = packed_sound(ground, plan, passed);
+    let tuple = boxed_sound(ground, Ok(Some(tuple.expr)));
+    match both(passed, tuple)? {
+        Some((parts, tuple)) => Ok(Some(Values::Spread { tuple, parts })),
+        None => Ok(None),
+    }
+}
+
+fn passed_parts(
+    ground: &mut Ground,
+    signature: &Signature,
+    plan: Plan,
+    at: Pos,
+    parts: &[TypeId],
+) -> Result<Option<Vec<TypedExpr>>, NoMemory> {
+    let mut passed = Some(Vec::new(ground.alloc));
+    for (number, part) in parts.iter().enumerate() {
+        let to = plan.target(signature, number);
+        let value = passed_part(ground, at, number, *part, to)?;
+        passed = with_last(passed, value)?;
+    }
+    Ok(passed)
+}
+
+fn passed_part(
+    ground: &mut Ground,
+    at: Pos,
+    number: usize,
+    part: TypeId,
+    to: Option<TypeId>,
+) -> Result<Option<TypedExpr>, NoMemory> {
+    match (to, u32::try_from(number)) {
+        (Some(to), Ok(number)) => assigned_part(ground, at, number, part, to),
+        _ => Err(lost()),
+    }
+}
+
+/// The arguments with those behind the fixed ones packed in a slice. `TypeTooLarge` at the call where they are too many.
+fn packed(
+    ground: &mut Ground,
+    plan: Plan,
+    values: Vec<TypedExpr>,
+) -> Result<Option<Vec<TypedExpr>>, NoMemory> {
+    let Some((slice, elem)) = plan.packs else {
+        return Ok(Some(values));
+    };
+    let apart = Apart::of(ground, plan.fixed, values)?;
+    let fits = ground.fit_many(plan.call.at, elem, apart.items.len() as u64);
+    let (fits, apart) = beside(fits, apart)?;
+    match only(Some(apart), fits) {
+        Some(apart) => apart.joined(plan.call.parenthesis, slice),
+        None => Ok(None),
+    }
+}
+
+/// Arguments that have parameters of their own, and those that are packed.
+#[derive(Drop)]
+struct Apart {
+    fixed: Vec<TypedExpr>,
+    items: Vec<ItemInit>,
+}
+
+impl Apart {
+    fn of(ground: &Ground, fixed: usize, values: Vec<TypedExpr>) -> Result<Apart, NoMemory> {
+        let mut apart = Apart {
+            fixed: Vec::new(ground.alloc),
+            items: Vec::new(ground.alloc),
+        };
+        for (number, value) in values.into_iter().enumerate() {
+            apart.add(number < fixed, value)?;
+        }
+        Ok(apart)
+    }
+
+    fn add(&mut self, is_fixed: bool, value: TypedExpr) -> Result<(), NoMemory> {
+        if is_fixed {
+            self.fixed.push(value)?;
+        } else {
+            let index = self.items.len() as u64;
+            self.items.push(ItemInit { index, value })?;
+        }
+        Ok(())
+    }
+
+    /// The fixed arguments, and behind them the others as a slice.
+    fn joined(self, at: Pos, slice: TypeId) -> Result<Option<Vec<TypedExpr>>, NoMemory> {
+        with_last(Some(self.fixed), Some(slice_node(at, slice, self.items)))
+    }
+}
+
+/// A slice of items, which is `nil` where there are none.
+fn slice_node(at: Pos, slice: TypeId, items: Vec<ItemInit>) -> TypedExpr {
+    if items.is_empty() {
+        return node(at, slice, ExprKind::NilOf);
+    }
+    let len = items.len() as u64;
+    node(
+        at,
+        slice,
+        ExprKind::CompositeOf(Elements::Items { items, len }),
+    )
+}

@@ -1,0 +1,266 @@
+//! What statements and declarations ask of expressions. Go specification, "Statements" and "Constant declarations".
+
+use go_base::{NoMemory, Rule, TypeId};
+use go_rules::{is_ordered, takes_logic, takes_sign};
+use go_tree::{ExprKind, RangeOver, TypedExpr};
+use go_type::{Basic, Const, Dir, TypeTerm, Types, basic};
+use typed_parts::{
+    Given, Ground, Seen, Shape, asked, assigned, by_default, holds_call, integer_of, is_constant,
+    is_place, node, one_value, shape_of, with_text_type,
+};
+
+/// The parts of a send.
+#[derive(Drop)]
+pub struct Sent {
+    pub channel: TypedExpr,
+    pub value: TypedExpr,
+}
+
+/// The parts of `x++` or `x--`.
+#[derive(Drop)]
+pub struct Stepped {
+    pub target: TypedExpr,
+    /// 1 of the type of the target.
+    pub one: TypedExpr,
+}
+
+/// The operand of a range.
+#[derive(Drop)]
+pub struct Ranged {
+    pub over: RangeOver,
+    pub operand: TypedExpr,
+    pub key: TypeId,
+    /// None over a channel.
+    pub value: Option<TypeId>,
+    /// The length where the operand is an array or a pointer to one without a call in it: so many rounds are known where
+    /// there is no second target.
+    pub constant: Option<u64>,
+}
+
+/// A condition. `ConditionNotBoolean` at it where it is no boolean; an untyped one becomes `bool`.
+pub fn condition(ground: &mut Ground, x: Seen) -> Result<Option<TypedExpr>, NoMemory> {
+    let Some(x) = one_value(ground, x) else {
+        return Ok(None);
+    };
+    let is_truth = takes_logic(&ground.types, x.expr.of);
+    let x = asked(ground, x, is_truth, Rule::ConditionNotBoolean);
+    by_default(ground, x)
+}
+
+/// A value of a constant, with its type where one is written (`to`). `NotAConstant` at it where it is none, or where the
+/// type has no constants; else what `assigned` reports.
+pub fn constant_value(
+    ground: &mut Ground,
+    x: Seen,
+    to: Option<TypeId>,
+) -> Result<Option<TypedExpr>, NoMemory> {
+    let Some(x) = one_constant(ground, x) else {
+        return Ok(None);
+    };
+    match to {
+        Some(to) => typed_constant(ground, x, to),
+        None => Ok(Some(x.expr)),
+    }
+}
+
+fn typed_constant(
+    ground: &mut Ground,
+    x: Given,
+    to: TypeId,
+) -> Result<Option<TypedExpr>, NoMemory> {
+    let may = has_constants(&ground.types, to);
+    let x = asked(ground, x, may, Rule::NotAConstant);
+    assigned(ground, x, Some(to))
+}
+
+/// A constant. `NotAConstant` at what is none.
+fn one_constant(ground: &mut Ground, x: Seen) -> Option<Given> {
+    let x = one_value(ground, x)?;
+    let is_one = is_constant(&x.expr);
+    asked(ground, x, is_one, Rule::NotAConstant)
+}
+
+/// Whether a type has constants: of booleans, integers or strings.
+fn has_constants(types: &Types, of: TypeId) -> bool {
+    is_ordered(types, of) || takes_logic(types, of)
+}
+
+/// The length of an array type. `NotAConstant` at what is no constant, and `BadArrayLength` at one that is no integer from 0
+/// to 2^63-1.
+pub fn array_length(ground: &mut Ground, x: Seen) -> Option<u64> {
+    let x = one_constant(ground, x)?;
+    let len = known_length(&x.expr);
+    if len.is_none() {
+        ground.report(x.at, Rule::BadArrayLength);
+    }
+    drop(x);
+    len
+}
+
+fn known_length(expr: &TypedExpr) -> Option<u64> {
+    let number = integer_of(expr)?;
+    length_from(number)
+}
+
+fn length_from(number: i128) -> Option<u64> {
+    if number > 0x7fff_ffff_ffff_ffff {
+        return None;
+    }
+    match u64::try_from(number) {
+        Ok(len) => Some(len),
+        Err(_) => None,
+    }
+}
+
+/// A value that is assigned to: a place, or an element of a map. `CannotAssign` at any other.
+pub fn target(ground: &mut Ground, x: Seen) -> Option<TypedExpr> {
+    let x = one_value(ground, x)?;
+    let x = asked_target(ground, x)?;
+    Some(x.expr)
+}
+
+fn asked_target(ground: &mut Ground, x: Given) -> Option<Given> {
+    let may = is_target(&x.expr);
+    asked(ground, x, may, Rule::CannotAssign)
+}
+
+fn is_target(expr: &TypedExpr) -> bool {
+    matches!(&expr.kind, ExprKind::MapIndex { .. }) || is_place(expr)
+}
+
+/// `x++` or `x--`. `BadOperand` at what is no integer, and `CannotAssign` as `target`.
+pub fn step(ground: &mut Ground, x: Seen) -> Option<Stepped> {
+    let x = one_value(ground, x)?;
+    let is_integer = takes_sign(&ground.types, x.expr.of);
+    let x = asked(ground, x, is_integer, Rule::BadOperand)?;
+    let x = asked_target(ground, x)?;
+    Some(by_one(x.expr))
+}
+
+fn by_one(target: TypedExpr) -> Stepped {
+    let one = node(target.at, target.of, ExprKind::ConstOf(Const::Int(1)));
+    Stepped { target, one }
+}
+
+/// `channel <- value`. `BadChannelOperation` at what is no channel, or only one for receiving; else what `assigned` reports.
+pub fn send(ground: &mut Ground, channel: Seen, value: Seen) -> Result<Option<Sent>, NoMemory> {
+    let channel = one_value(ground, channel);
+    let value = one_value(ground, value);
+    let channel = sent_to(ground, channel);
+    let elem = elem_sent(ground, &channel);
+    let value = assigned(ground, value, elem)?;
+    match channel.zip(value) {
+        Some((channel, value)) => Ok(Some(Sent {
+            channel: channel.expr,
+            value,
+        })),
+        None => Ok(None),
+    }
+}
+
+/// A channel that may be sent to. `BadChannelOperation` at any other value.
+fn sent_to(ground: &mut Ground, channel: Option<Given>) -> Option<Given> {
+    let channel = channel?;
+    let may = sent_elem(ground, channel.expr.of).is_some();
+    asked(ground, channel, may, Rule::BadChannelOperation)
+}
+
+fn elem_sent(ground: &Ground, channel: &Option<Given>) -> Option<TypeId> {
+    match channel {
+        Some(channel) => sent_elem(ground, channel.expr.of),
+        None => None,
+    }
+}
+
+/// What is sent to a channel type that is not only for receiving.
+fn sent_elem(ground: &Ground, of: TypeId) -> Option<TypeId> {
+    match ground.types.underlying_term(of) {
+        Some(
+            TypeTerm::Chan {
+                dir: Dir::Both | Dir::Send,
+                elem,
+            },
+        ) => Some(*elem),
+        _ => None,
+    }
+}
+
+/// The tag of a switch, which takes its default type.
+pub fn switch_tag(ground: &mut Ground, x: Seen) -> Result<Option<TypedExpr>, NoMemory> {
+    let x = one_value(ground, x);
+    by_default(ground, x)
+}
+
+/// The operand of a range. `BadRange` at what is no array, pointer to one, slice, string, map or channel that can be received
+/// from. `over` is never `Constant`: `constant` tells of what may be.
+pub fn range_operand(ground: &mut Ground, x: Seen) -> Result<Option<Ranged>, NoMemory> {
+    let x = one_value(ground, x);
+    let Some(x) = with_text_type(ground, x)? else {
+        return Ok(None);
+    };
+    let parts = range_parts(shape_of(ground, x.expr.of));
+    let x = asked(ground, x, parts.is_some(), Rule::BadRange);
+    match parts.zip(x) {
+        Some((parts, x)) => Ok(Some(range_over(parts, x.expr))),
+        None => Ok(None),
+    }
+}
+
+fn range_over(parts: RangeParts, operand: TypedExpr) -> Ranged {
+    let constant = match parts.len {
+        Some(len) if !holds_call(&operand) => Some(len),
+        _ => None,
+    };
+    Ranged {
+        over: parts.over,
+        operand,
+        key: parts.key,
+        value: parts.value,
+        constant,
+    }
+}
+
+/// What a range over values of a type gives.
+#[derive(Clone, Copy)]
+struct RangeParts {
+    over: RangeOver,
+    key: TypeId,
+    value: Option<TypeId>,
+    /// The length of an array.
+    len: Option<u64>,
+}
+
+fn range_parts(shape: Option<Shape>) -> Option<RangeParts> {
+    let int = basic(Basic::Int);
+    match shape? {
+        Shape::Text => Some(parts_of(RangeOver::Text, int, Some(basic(Basic::Int32)))),
+        Shape::Slice { elem } => Some(parts_of(RangeOver::Slice, int, Some(elem))),
+        Shape::Map { key, elem } => Some(parts_of(RangeOver::Map, key, Some(elem))),
+        Shape::Array { len, elem } => Some(array_parts(RangeOver::Array, len, elem)),
+        Shape::ArrayPointer { len, elem, .. } => {
+            Some(array_parts(RangeOver::ArrayPointer, len, elem))
+        }
+        Shape::Chan { dir, elem } => match dir {
+            Dir::Both | Dir::Receive => Some(parts_of(RangeOver::Channel, elem, None)),
+            Dir::Send => None,
+        },
+    }
+}
+
+const fn parts_of(over: RangeOver, key: TypeId, value: Option<TypeId>) -> RangeParts {
+    RangeParts {
+        over,
+        key,
+        value,
+        len: None,
+    }
+}
+
+fn array_parts(over: RangeOver, len: u64, elem: TypeId) -> RangeParts {
+    RangeParts {
+        over,
+        key: basic(Basic::Int),
+        value: Some(elem),
+        len: Some(len),
+    }
+}

@@ -1,0 +1,163 @@
+//! Values made ones of the types that they are assigned to. Go specification, "Assignability" and "Variables".
+
+use crate::ground::Ground;
+use crate::joining::{asked, sound};
+use crate::meaning::Given;
+use crate::nodes::{boxed, node};
+use crate::retyping::{defaulted, retyped};
+use go_base::{NoMemory, Pos, Rule, TypeId};
+use go_rules::{Untyped, is_empty_interface, kind_fits, untyped_kind};
+use go_tree::{ExprKind, TypedExpr};
+use go_type::{Basic, TypeTerm, Types, assignable, basic, identical, implements};
+
+/// A value with a type of its own: an untyped operand takes its default type. `UseOfUntypedNil` at `nil`, and
+/// `ConstantOutOfRange` at a constant that is no value of its default type.
+pub fn by_default(ground: &mut Ground, x: Option<Given>) -> Result<Option<TypedExpr>, NoMemory> {
+    let Some(x) = x else {
+        return Ok(None);
+    };
+    let has_default = !is_nil(&ground.types, x.expr.of);
+    match asked(ground, x, has_default, Rule::UseOfUntypedNil) {
+        Some(x) => defaulted(ground, x.expr),
+        None => Ok(None),
+    }
+}
+
+/// Whether a type is that of `nil` without a type.
+pub fn is_nil(types: &Types, of: TypeId) -> bool {
+    matches!(untyped_kind(types, of), Some(Untyped::Nil))
+}
+
+/// A value as one of exactly a type, to which it is assigned. `ConstantOutOfRange` at an untyped constant that is of
+/// the class of the type, or goes into an interface, and does not fit; else `NotAssignable` at the value.
+pub fn assigned(
+    ground: &mut Ground,
+    x: Option<Given>,
+    to: Option<TypeId>,
+) -> Result<Option<TypedExpr>, NoMemory> {
+    match x.zip(to) {
+        Some((x, to)) => assigned_to(ground, x, to),
+        None => Ok(None),
+    }
+}
+
+fn assigned_to(ground: &mut Ground, x: Given, to: TypeId) -> Result<Option<TypedExpr>, NoMemory> {
+    let Given { at, expr } = x;
+    match untyped_kind(&ground.types, expr.of) {
+        Some(kind) => assigned_untyped(ground, at, expr, kind, to),
+        None => passed(ground, at, expr, to),
+    }
+}
+
+fn assigned_untyped(
+    ground: &mut Ground,
+    at: Pos,
+    expr: TypedExpr,
+    kind: Untyped,
+    to: TypeId,
+) -> Result<Option<TypedExpr>, NoMemory> {
+    if kind_fits(&ground.types, kind, to) {
+        return retyped(ground, expr, to);
+    }
+    match kind.default_type() {
+        Some(of) if is_interface(&ground.types, to) => into_interface(ground, at, expr, of, to),
+        _ => {
+            drop(expr);
+            ground.report(at, Rule::NotAssignable);
+            Ok(None)
+        }
+    }
+}
+
+/// An untyped operand by its default type made a value of an interface.
+fn into_interface(
+    ground: &mut Ground,
+    at: Pos,
+    expr: TypedExpr,
+    of: TypeId,
+    to: TypeId,
+) -> Result<Option<TypedExpr>, NoMemory> {
+    match retyped(ground, expr, of)? {
+        Some(expr) => passed(ground, at, expr, to),
+        None => Ok(None),
+    }
+}
+
+/// A typed value as one of a type, to which it is assigned. `NotAssignable` at the place where it may not be.
+pub fn passed(
+    ground: &mut Ground,
+    at: Pos,
+    expr: TypedExpr,
+    to: TypeId,
+) -> Result<Option<TypedExpr>, NoMemory> {
+    if may_pass(&ground.types, expr.of, to) {
+        return sound(made(ground, expr, to));
+    }
+    drop(expr);
+    ground.report(at, Rule::NotAssignable);
+    Ok(None)
+}
+
+/// Whether a typed value of a type may be assigned to another.
+pub fn may_pass(types: &Types, from: TypeId, to: TypeId) -> bool {
+    assignable(types, from, to)
+}
+
+/// A typed value made one of a type, to which it may be assigned or converted.
+pub fn made(ground: &Ground, expr: TypedExpr, to: TypeId) -> Result<TypedExpr, NoMemory> {
+    if identical(&ground.types, expr.of, to) {
+        return Ok(expr);
+    }
+    let at = expr.at;
+    let becomes = implements(&ground.types, expr.of, to);
+    let operand = boxed(ground, expr)?;
+    if becomes {
+        Ok(node(at, to, ExprKind::ToInterface(operand)))
+    } else {
+        Ok(node(at, to, ExprKind::ConvertTo(operand)))
+    }
+}
+
+/// Whether a type's underlying type is an interface.
+pub fn is_interface(types: &Types, of: TypeId) -> bool {
+    matches!(types.underlying_term(of), Some(TypeTerm::Interface(_)))
+}
+
+/// What is given no type by its context as `by_default`, and else as `assigned`.
+pub fn settle(
+    ground: &mut Ground,
+    x: Option<Given>,
+    to: Option<TypeId>,
+) -> Result<Option<TypedExpr>, NoMemory> {
+    match to {
+        Some(to) => assigned(ground, x, Some(to)),
+        None => by_default(ground, x),
+    }
+}
+
+/// A part of a call's several values, by its number and type, as a value of a type to which it is assigned.
+/// `NotAssignable` at the place of the call.
+pub fn assigned_part(
+    ground: &mut Ground,
+    at: Pos,
+    part: u32,
+    of: TypeId,
+    to: TypeId,
+) -> Result<Option<TypedExpr>, NoMemory> {
+    passed(ground, at, node(at, of, ExprKind::PartOf(part)), to)
+}
+
+/// The second part of a comma-ok form, an untyped boolean, as a value of a type to which it is assigned. `NotAssignable`
+/// at the place of the form.
+pub fn assigned_ok(
+    ground: &mut Ground,
+    at: Pos,
+    to: TypeId,
+) -> Result<Option<TypedExpr>, NoMemory> {
+    if kind_fits(&ground.types, Untyped::Bool, to) || is_empty_interface(&ground.types, to) {
+        let part = node(at, basic(Basic::Bool), ExprKind::PartOf(1));
+        return sound(made(ground, part, to));
+    }
+    ground.report(at, Rule::NotAssignable);
+    Ok(None)
+}

@@ -1,0 +1,146 @@
+//! What parts of an expression mean, and what is asked of every part. Go specification, "Operands", "Calls" and "Address
+//! operators".
+
+use crate::ground::Ground;
+use crate::joining::asked;
+use go_base::{Pos, Rule, TypeId};
+use go_rules::untyped_kind;
+use go_tree::{ExprKind, IndexBase, TypedExpr};
+use go_type::{Builtin, TypeTerm, Types};
+
+/// What a written expression stands for, before anything is asked of it.
+#[derive(Drop)]
+pub enum Meaning {
+    /// A value, or several as a call gives them, whose type is then a tuple.
+    Value(TypedExpr),
+    Type(TypeId),
+    Builtin(Builtin),
+}
+
+/// What was seen of a written expression.
+#[derive(Drop)]
+pub struct Seen {
+    /// Its first byte as written, with parentheses.
+    pub at: Pos,
+    /// None where it is unsound.
+    pub meaning: Option<Meaning>,
+}
+
+/// A value, and the first byte of its expression as written.
+#[derive(Drop)]
+pub struct Given {
+    pub at: Pos,
+    pub expr: TypedExpr,
+}
+
+impl Seen {
+    /// A value, where it is sound.
+    pub fn value(at: Pos, expr: Option<TypedExpr>) -> Seen {
+        match expr {
+            Some(expr) => Seen {
+                at,
+                meaning: Some(Meaning::Value(expr)),
+            },
+            None => Seen { at, meaning: None },
+        }
+    }
+
+    /// A type, where it is sound.
+    pub fn of_type(at: Pos, of: Option<TypeId>) -> Seen {
+        match of {
+            Some(of) => Seen {
+                at,
+                meaning: Some(Meaning::Type(of)),
+            },
+            None => Seen { at, meaning: None },
+        }
+    }
+}
+
+/// The value or values that a part stands for. `WrongKindOfName` at a type, and `BadBuiltInCall` at a built-in function.
+pub fn value_of(ground: &mut Ground, part: Seen) -> Option<Given> {
+    let Seen { at, meaning } = part;
+    match meaning? {
+        Meaning::Value(expr) => Some(Given { at, expr }),
+        Meaning::Type(_) => {
+            ground.report(at, Rule::WrongKindOfName);
+            None
+        }
+        Meaning::Builtin(_) => {
+            ground.report(at, Rule::BadBuiltInCall);
+            None
+        }
+    }
+}
+
+/// The one value that a part stands for: as `value_of`, and `WrongNumberOfValues` at a call of none or several.
+pub fn one_value(ground: &mut Ground, part: Seen) -> Option<Given> {
+    let given = value_of(ground, part)?;
+    single(ground, given)
+}
+
+/// A value that is one.
+pub fn single(ground: &mut Ground, given: Given) -> Option<Given> {
+    let is_one = !is_tuple(&ground.types, given.expr.of);
+    asked(ground, given, is_one, Rule::WrongNumberOfValues)
+}
+
+/// Whether a type is that of several values, or of none.
+pub fn is_tuple(types: &Types, of: TypeId) -> bool {
+    matches!(types.get(of), Some(TypeTerm::Tuple(_)))
+}
+
+/// The type that a part stands for. `WrongKindOfName` at a value and at a built-in function.
+pub fn type_of(ground: &mut Ground, part: Seen) -> Option<TypeId> {
+    let of = seen_type(&part);
+    if of.is_none() && part.meaning.is_some() {
+        ground.report(part.at, Rule::WrongKindOfName);
+    }
+    drop(part);
+    of
+}
+
+/// The type that a part stands for, where it is one.
+pub fn seen_type(part: &Seen) -> Option<TypeId> {
+    match &part.meaning {
+        Some(Meaning::Type(of)) => Some(*of),
+        _ => None,
+    }
+}
+
+/// What stands in parentheses, whose first is at the place. Go specification, "Operands".
+pub fn parenthesized(types: &Types, at: Pos, inside: Seen) -> Seen {
+    let meaning = match inside.meaning {
+        Some(Meaning::Value(expr)) => Some(Meaning::Value(placed(types, at, expr))),
+        other => other,
+    };
+    Seen { at, meaning }
+}
+
+/// An untyped operand has its place as written.
+fn placed(types: &Types, at: Pos, expr: TypedExpr) -> TypedExpr {
+    if untyped_kind(types, expr.of).is_none() {
+        return expr;
+    }
+    let TypedExpr { at: _, of, kind } = expr;
+    TypedExpr { at, of, kind }
+}
+
+/// Whether an expression is a place: a variable, a dereference, an element of a slice, or a field or an element of an array
+/// that is a place.
+pub fn is_place(expr: &TypedExpr) -> bool {
+    match &expr.kind {
+        ExprKind::VarOf(_) | ExprKind::Deref(_) => true,
+        ExprKind::IndexOf {
+            base: IndexBase::Slice,
+            ..
+        } => true,
+        ExprKind::IndexOf {
+            base: IndexBase::Array,
+            operand,
+            ..
+        } => is_place(operand),
+        ExprKind::FieldOf { operand, .. } => is_place(operand),
+        _ => false,
+    }
+}

@@ -1,0 +1,102 @@
+//! What the underlying type of an operand is, for those who look at its elements.
+
+use crate::ground::Ground;
+use go_base::TypeId;
+use go_rules::{Untyped, untyped_kind};
+use go_type::{Basic, Dir, TypeTerm, Types};
+
+/// A type whose values have elements.
+#[derive(Clone, Copy)]
+pub enum Shape {
+    /// A string, or an untyped one.
+    Text,
+    Array {
+        len: u64,
+        elem: TypeId,
+    },
+    /// A pointer to an array type.
+    ArrayPointer {
+        array: TypeId,
+        len: u64,
+        elem: TypeId,
+    },
+    Slice {
+        elem: TypeId,
+    },
+    Map {
+        key: TypeId,
+        elem: TypeId,
+    },
+    Chan {
+        dir: Dir,
+        elem: TypeId,
+    },
+}
+
+/// What a type's underlying type is. None where its values have no elements.
+pub fn shape_of(ground: &Ground, of: TypeId) -> Option<Shape> {
+    match pointed(ground, of) {
+        Some(array) => pointed_shape(&ground.types, array),
+        None => plain_shape(&ground.types, of),
+    }
+}
+
+fn pointed_shape(types: &Types, array: TypeId) -> Option<Shape> {
+    match types.underlying_term(array) {
+        Some(TypeTerm::Array { len, elem }) => Some(Shape::ArrayPointer {
+            array,
+            len: *len,
+            elem: *elem,
+        }),
+        _ => None,
+    }
+}
+
+fn plain_shape(types: &Types, of: TypeId) -> Option<Shape> {
+    match types.underlying_term(of) {
+        Some(TypeTerm::Basic(Basic::Text | Basic::UntypedText)) => Some(Shape::Text),
+        Some(TypeTerm::Array { len, elem }) => Some(Shape::Array {
+            len: *len,
+            elem: *elem,
+        }),
+        Some(TypeTerm::Slice(elem)) => Some(Shape::Slice { elem: *elem }),
+        Some(TypeTerm::Map { key, elem }) => Some(Shape::Map {
+            key: *key,
+            elem: *elem,
+        }),
+        Some(TypeTerm::Chan { dir, elem }) => Some(Shape::Chan {
+            dir: *dir,
+            elem: *elem,
+        }),
+        _ => None,
+    }
+}
+
+/// What a pointer type points to.
+pub fn pointed(ground: &Ground, of: TypeId) -> Option<TypeId> {
+    match ground.types.underlying_term(of) {
+        Some(TypeTerm::Pointer(base)) => Some(*base),
+        _ => None,
+    }
+}
+
+/// Whether a type is the kind of untyped strings.
+pub fn is_untyped_text(types: &Types, of: TypeId) -> bool {
+    matches!(untyped_kind(types, of), Some(Untyped::Text))
+}
+
+/// The type of the elements of a slice type.
+pub fn elem_of(types: &Types, of: TypeId) -> Option<TypeId> {
+    match types.underlying_term(of) {
+        Some(TypeTerm::Slice(elem)) => Some(*elem),
+        _ => None,
+    }
+}
+
+/// Whether a type's underlying type is that of strings.
+pub fn is_text(types: &Types, of: TypeId) -> bool {
+    matches!(
+        types.underlying_term(of),
+        Some(TypeTerm::Basic(Basic::Text))
+    )
+}

@@ -1,0 +1,98 @@
+//! Type assertions and comma-ok forms. Go specification, "Type assertions", "Index expressions", "Receive operator" and "Type
+//! switches".
+
+use go_base::{NoMemory, Pos, Rule, TypeId};
+use go_tree::{ExprKind, TypedExpr};
+use go_type::{Basic, basic, implements};
+use typed_parts::{
+    Given, Ground, Seen, asked, beside, boxed, is_interface, node, one_value, only, sound,
+};
+
+/// `x.(T)`, where the type is at a place. `BadTypeAssertion` at an operand that is no interface, and at a type that is
+/// neither an interface nor has its methods.
+pub fn type_assertion(
+    ground: &mut Ground,
+    x: Seen,
+    to: Option<TypeId>,
+    to_at: Pos,
+) -> Result<Option<TypedExpr>, NoMemory> {
+    let x = interface_operand(ground, x);
+    let Some((x, to)) = x.zip(to) else {
+        return Ok(None);
+    };
+    let may = asserted_case(ground, x.expr.of, to, to_at);
+    match only(Some(x), may) {
+        Some(x) => sound(assertion(ground, x, to)),
+        None => Ok(None),
+    }
+}
+
+fn assertion(ground: &Ground, x: Given, to: TypeId) -> Result<TypedExpr, NoMemory> {
+    let operand = boxed(ground, x.expr)?;
+    Ok(node(
+        x.at,
+        to,
+        ExprKind::AssertTo {
+            operand,
+            to,
+            comma_ok: false,
+        },
+    ))
+}
+
+/// The operand of a type assertion or a type switch. `BadTypeAssertion` at one that is no interface.
+pub fn interface_operand(ground: &mut Ground, x: Seen) -> Option<Given> {
+    let x = one_value(ground, x)?;
+    let may = is_interface(&ground.types, x.expr.of);
+    asked(ground, x, may, Rule::BadTypeAssertion)
+}
+
+/// Whether a type may be asserted of a value of an interface type. `BadTypeAssertion` at it where it is neither an
+/// interface nor has its methods.
+pub fn asserted_case(ground: &mut Ground, of: TypeId, to: TypeId, to_at: Pos) -> bool {
+    if is_interface(&ground.types, to) || implements(&ground.types, to, of) {
+        return true;
+    }
+    ground.report(to_at, Rule::BadTypeAssertion);
+    false
+}
+
+/// Whether an expression may give a second value that tells whether it has one: an index of a map, a receive or a type
+/// assertion.
+pub fn has_ok_form(expr: &TypedExpr) -> bool {
+    matches!(
+        &expr.kind,
+        ExprKind::MapIndex { .. } | ExprKind::Receive { .. } | ExprKind::AssertTo { .. }
+    )
+}
+
+/// The expression with its second value, whose type is a tuple; where it has no such form, as it is.
+pub fn with_ok(ground: &mut Ground, expr: TypedExpr) -> Result<TypedExpr, NoMemory> {
+    let pair = ground.tuple(&[expr.of, basic(Basic::Bool)]);
+    let (pair, expr) = beside(pair, expr)?;
+    Ok(paired(expr, pair))
+}
+
+/// The expression with its second value, where it has that form.
+fn paired(expr: TypedExpr, pair: TypeId) -> TypedExpr {
+    let TypedExpr { at, of, kind } = expr;
+    let comma_ok = true;
+    match kind {
+        ExprKind::MapIndex { map, key, .. } => {
+            node(at, pair, ExprKind::MapIndex { map, key, comma_ok })
+        }
+        ExprKind::Receive { channel, .. } => {
+            node(at, pair, ExprKind::Receive { channel, comma_ok })
+        }
+        ExprKind::AssertTo { operand, to, .. } => node(
+            at,
+            pair,
+            ExprKind::AssertTo {
+                operand,
+                to,
+                comma_ok,
+            },
+        ),
+        kind => node(at, of, kind),
+    }
+}
