@@ -111,7 +111,7 @@ fn element(kinds: &Kinds, place: usize, x: u64) -> Case {
     match place {
         7 => (index(param(x)), Some(kinds.byte)),
         8 => (lookup(param(x)), Some(kinds.pointer)),
-        9 => (extract(x as u32), Some(kinds.int)),
+        9 => (extract(u32::from(x == 1)), Some(kinds.int)),
         10 => (convert(kinds.text, param(x)), Some(kinds.text)),
         11 => (boxed(kinds.any, param(x)), Some(kinds.any)),
         12 if x == 0 => (Op::MakeMap(kinds.table), Some(kinds.table)),

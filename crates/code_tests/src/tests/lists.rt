@@ -1,8 +1,8 @@
 //! The text of what a code has beside functions, and in which order it stands.
 
-use crate::tests::kinds::{Kinds, METHOD, code, make_kinds};
+use crate::tests::kinds::{Kinds, METHOD, make_kinds};
 use crate::tests::rows::empty_function;
-use crate::tests::texts::printed;
+use crate::tests::texts::{Subject, printed};
 use go_base::{FuncId, NameId, NoMemory};
 use ssa_ir::{Code, CodeVariable, FunctionKind, MethodLine};
 use std::alloc::Global;
@@ -50,15 +50,18 @@ fn add_functions(alloc: Global, code: &mut Code) -> Result<(), NoMemory> {
     code.functions.push(wrapper)
 }
 
+/// Adds a type, methods, variables, and functions without bodies.
+pub fn add_lists(alloc: Global, code: &mut Code) -> Result<(), NoMemory> {
+    let kinds = make_kinds(alloc, &mut code.types)?;
+    code.declared.push(kinds.point)?;
+    add_methods(code, &kinds)?;
+    add_variables(code, &kinds)?;
+    add_functions(alloc, code)
+}
+
 #[test]
 fn lists_and_wrappers(rt: HostRuntime) -> Result<(), Fail> {
-    let mut code = code(rt.alloc())?;
-    let kinds = make_kinds(rt.alloc(), &mut code.types)?;
-    code.declared.push(kinds.point)?;
-    add_methods(&mut code, &kinds)?;
-    add_variables(&mut code, &kinds)?;
-    add_functions(rt.alloc(), &mut code)?;
-    let out = printed(rt.alloc(), &code, true, false)?;
+    let out = printed(rt.alloc(), Subject::Lists, false)?;
     assert_eq!(rt; out.bytes(), LISTS.as_bytes());
     Ok(())
 }

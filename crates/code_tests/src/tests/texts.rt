@@ -2,24 +2,42 @@
 
 use crate::tests::cases::{CASES, case_at, params};
 use crate::tests::kinds::{Kinds, code, make_kinds};
+use crate::tests::lists::add_lists;
 use crate::tests::rows::{empty_function, instr, param};
-use crate::tests::typed::{RIGHT, four_blocks};
+use crate::tests::typed::{RIGHT, add_four_blocks};
 use go_base::{MemSink, NoMemory};
 use ssa_ir::{Block, BlockIds, Code, Function, Instrs, Op};
 use ssa_print::{Show, print};
 use std::alloc::Global;
 use std::test::Fail;
 
-/// The bytes that are printed of a code.
-pub fn printed(
-    alloc: Global,
-    code: &Code,
-    functions: bool,
-    available: bool,
-) -> Result<MemSink, NoMemory> {
+/// What a code has.
+#[derive(Clone, Copy)]
+pub enum Subject {
+    FourBlocks,
+    Forms,
+    Lists,
+}
+
+fn add(alloc: Global, code: &mut Code, subject: Subject) -> Result<(), NoMemory> {
+    match subject {
+        Subject::FourBlocks => add_four_blocks(alloc, code, &RIGHT),
+        Subject::Forms => add_forms(alloc, code),
+        Subject::Lists => add_lists(alloc, code),
+    }
+}
+
+/// What is printed of a code.
+pub fn printed(alloc: Global, subject: Subject, available: bool) -> Result<MemSink, NoMemory> {
+    let mut code = code(alloc)?;
+    add(alloc, &mut code, subject)?;
+    printed_code(alloc, &code, available)
+}
+
+fn printed_code(alloc: Global, code: &Code, available: bool) -> Result<MemSink, NoMemory> {
     let mut out = MemSink::new(alloc, &[])?;
     let show = Show {
-        functions,
+        functions: true,
         available,
     };
     match print(alloc, code, show, &mut out) {
@@ -47,9 +65,7 @@ func main.f(p0 bool, p1 int) int:
 
 #[test]
 fn a_function_of_four_blocks(rt: HostRuntime) -> Result<(), Fail> {
-    let mut code = code(rt.alloc())?;
-    code.functions.push(four_blocks(rt.alloc(), &RIGHT)?)?;
-    let out = printed(rt.alloc(), &code, true, true)?;
+    let out = printed(rt.alloc(), Subject::FourBlocks, true)?;
     assert_eq!(rt; out.bytes(), FOUR_BLOCKS.as_bytes());
     Ok(())
 }
@@ -70,14 +86,15 @@ fn all_cases(alloc: Global, kinds: &Kinds, function: &mut Function) -> Result<In
     Ok(instrs)
 }
 
-/// A function of one block with all of them.
-fn all_forms(alloc: Global, kinds: &Kinds) -> Result<Function, NoMemory> {
+/// Adds a function of one block with all of them.
+fn add_forms(alloc: Global, code: &mut Code) -> Result<(), NoMemory> {
+    let kinds = make_kinds(alloc, &mut code.types)?;
     let mut function = empty_function(alloc, "main.f")?;
-    function.params = params(alloc, kinds)?;
-    let instrs = all_cases(alloc, kinds, &mut function)?;
+    function.params = params(alloc, &kinds)?;
+    let instrs = all_cases(alloc, &kinds, &mut function)?;
     let preds = BlockIds::new(alloc);
     function.blocks.push(Block { preds, instrs })?;
-    Ok(function)
+    code.functions.push(function)
 }
 
 const ALL_FORMS: &str = "package main
@@ -114,10 +131,7 @@ func main.f(p0 int, p1 bool, p2 string, p3 []int, p4 map[int]*main.point, p5 *ma
 
 #[test]
 fn every_form(rt: HostRuntime) -> Result<(), Fail> {
-    let mut code = code(rt.alloc())?;
-    let kinds = make_kinds(rt.alloc(), &mut code.types)?;
-    code.functions.push(all_forms(rt.alloc(), &kinds)?)?;
-    let out = printed(rt.alloc(), &code, true, false)?;
+    let out = printed(rt.alloc(), Subject::Forms, false)?;
     assert_eq!(rt; out.bytes(), ALL_FORMS.as_bytes());
     Ok(())
 }
