@@ -219,8 +219,7 @@ fn untyped_conversion(types: &Types, kind: Untyped, to: TypeId) -> UntypedConver
     if kind_fits(types, kind, to) || (is_integer(kind) && is_text(types, to)) {
         return UntypedConversion::Retyped;
     }
-    let may = is_empty_interface(types, to)
-        || (kind == Untyped::Text && is_characters(types, to));
+    let may = is_empty_interface(types, to) || (kind == Untyped::Text && is_characters(types, to));
     match kind.default_type() {
         Some(of) if may => UntypedConversion::Through(of),
         _ => UntypedConversion::Refused,
@@ -305,12 +304,7 @@ fn explicit_sound(
 }
 
 /// A conversion that is written always leaves a node.
-fn explicit(
-    ground: &Ground,
-    at: Pos,
-    expr: TypedExpr,
-    to: TypeId,
-) -> Result<TypedExpr, NoMemory> {
+fn explicit(ground: &Ground, at: Pos, expr: TypedExpr, to: TypeId) -> Result<TypedExpr, NoMemory> {
     let operand = boxed(ground, expr)?;
     if is_interface(&ground.types, to) {
         Ok(node(at, to, ExprKind::ToInterface(operand)))

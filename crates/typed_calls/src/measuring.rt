@@ -19,7 +19,12 @@ pub fn length_of(
         return Ok(None);
     };
     let shape = shape_of(ground, x.expr.of);
-    match asked(ground, x, has_length(call.builtin, shape), Rule::BadBuiltInCall) {
+    match asked(
+        ground,
+        x,
+        has_length(call.builtin, shape),
+        Rule::BadBuiltInCall,
+    ) {
         Some(x) => length_call(ground, call, shape, x.expr),
         None => Ok(None),
     }

@@ -6,7 +6,8 @@ use go_base::{NoMemory, Rule, TypeId};
 use go_tree::TypedExpr;
 use go_type::{Basic, Dir, TypeTerm, basic, identical};
 use typed_parts::{
-    Given, Ground, Shape, asked, assigned, beside, elem_of, is_text, shape_of, with_last, with_text_type,
+    Given, Ground, Shape, asked, assigned, beside, elem_of, is_text, shape_of, with_last,
+    with_text_type,
 };
 
 /// `clear(x)` of a map or slice. `BadBuiltInCall` at any other.

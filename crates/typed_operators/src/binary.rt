@@ -10,9 +10,7 @@ use go_rules::{
 };
 use go_tree::{ExprKind, TypedExpr};
 use go_type::{BinaryOp, Const, ConstOp, Types, identical};
-use typed_parts::{
-    Given, Ground, Seen, and_also, binary_of, node, one_value, only, or_else,
-};
+use typed_parts::{Given, Ground, Seen, and_also, binary_of, node, one_value, only, or_else};
 
 /// An operator whose result has the type of the left operand: `arithmetic`, or `shift`.
 pub fn binary_expression(
@@ -141,7 +139,14 @@ fn combined(
         return value;
     }
     let Pair { left, right } = pair;
-    binary_of(ground, places.whole, of, binary_op(op), Ok(Some(left)), Ok(Some(right)))
+    binary_of(
+        ground,
+        places.whole,
+        of,
+        binary_op(op),
+        Ok(Some(left)),
+        Ok(Some(right)),
+    )
 }
 
 fn fold(

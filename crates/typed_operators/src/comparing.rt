@@ -6,8 +6,8 @@ use go_rules::{Matched, Untyped, fold_compare, match_compared, takes_comparison}
 use go_tree::{ExprKind, TypedCase, TypedExpr};
 use go_type::{Basic, CompareOp, Const, Types, basic};
 use typed_parts::{
-    Given, Ground, Seen, asked, beside, boxes, defaulted, is_nil, lost, made, may_pass,
-    node, one_value, only, retyped, sound,
+    Given, Ground, Seen, asked, beside, boxes, defaulted, is_nil, lost, made, may_pass, node,
+    one_value, only, retyped, sound,
 };
 
 /// `x op y`. `NotComparable` at the whole where the two cannot be compared, and `ConstantOutOfRange` at an untyped constant

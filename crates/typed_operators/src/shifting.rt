@@ -68,7 +68,14 @@ fn shifted(
         drop(count);
         return Ok(folded(ground, left, at, a, b, of));
     }
-    binary_of(ground, at, of, shift_op(left), Ok(Some(expr)), Ok(Some(count)))
+    binary_of(
+        ground,
+        at,
+        of,
+        shift_op(left),
+        Ok(Some(expr)),
+        Ok(Some(count)),
+    )
 }
 
 const fn shift_op(left: bool) -> BinaryOp {
