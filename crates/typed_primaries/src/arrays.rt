@@ -6,8 +6,8 @@ use go_tree::{Elements, ItemInit, TypedExpr};
 use go_type::TypeTerm;
 use indexmap::IndexSet;
 use typed_parts::{
-    Given, Ground, Seen, asked, assigned, beside, both, integer_of, is_constant, lost, one_value,
-    sound, whole_index, with_last,
+    Ground, Seen, asked, assigned, beside, both, integer_of, is_constant, lost, one_value, sound,
+    whole_index, with_last,
 };
 
 /// The elements that were seen so far.
@@ -53,26 +53,20 @@ fn of_row(
     row: Row,
     elements: Vec<Entry>,
 ) -> Result<Option<TypedExpr>, NoMemory> {
+    let mut row = row;
+    for element in elements {
+        add_element(ground, &mut row, element)?;
+    }
     let Row {
         elem,
         limit,
         len,
         items,
         ..
-    } = row.filled(ground, elements)?;
+    } = row;
     match items {
         Some(items) => finished(ground, literal, elem, items, limit.unwrap_or(len)),
         None => Ok(None),
-    }
-}
-
-impl Row {
-    /// The row with elements added.
-    fn filled(mut self, ground: &mut Ground, elements: Vec<Entry>) -> Result<Row, NoMemory> {
-        for element in elements {
-            add_element(ground, &mut self, element)?;
-        }
-        Ok(self)
     }
 }
 
@@ -101,7 +95,13 @@ fn add_element(ground: &mut Ground, row: &mut Row, element: Entry) -> Result<(),
     let index = free_index(ground, row, at, index);
     let (index, value) = beside(index, value)?;
     let value = assigned(ground, value, Some(row.elem));
-    row.add(index, value)
+    let item = match both(Ok(index), value)? {
+        Some((index, value)) => Some(ItemInit { index, value }),
+        None => None,
+    };
+    let items = row.items.take();
+    row.items = with_last(items, item)?;
+    Ok(())
 }
 
 /// The index of an element: that of its key, and without one the next.
@@ -110,26 +110,22 @@ fn element_index(
     row: &Row,
     key: Option<Seen>,
 ) -> Result<Option<u64>, NoMemory> {
-    match key {
-        Some(key) => index_of_key(ground, key),
-        None => Ok(row.next),
-    }
-}
-
-impl Row {
-    fn add(
-        &mut self,
-        index: Option<u64>,
-        value: Result<Option<TypedExpr>, NoMemory>,
-    ) -> Result<(), NoMemory> {
-        let item = match both(Ok(index), value)? {
-            Some((index, value)) => Some(ItemInit { index, value }),
-            None => None,
-        };
-        let items = self.items.take();
-        self.items = with_last(items, item)?;
-        Ok(())
-    }
+    let Some(key) = key else {
+        return Ok(row.next);
+    };
+    let key = match one_value(ground, key) {
+        Some(key) => {
+            let is_one = is_constant(&key.expr);
+            asked(ground, key, is_one, Rule::BadCompositeLiteral)
+        }
+        None => None,
+    };
+    let Some(key) = whole_index(ground, key, Rule::BadIndex)? else {
+        return Ok(None);
+    };
+    let index = index_of(&key);
+    drop(key);
+    index
 }
 
 const fn following(index: Option<u64>) -> Option<u64> {
@@ -139,31 +135,14 @@ const fn following(index: Option<u64>) -> Option<u64> {
     }
 }
 
-/// The index that a key is.
-fn index_of_key(ground: &mut Ground, key: Seen) -> Result<Option<u64>, NoMemory> {
-    let key = constant_key(ground, key);
-    match whole_index(ground, key, Rule::BadIndex)? {
-        Some(key) => index_of(key),
-        None => Ok(None),
-    }
-}
-
-/// A key that is a constant. `BadCompositeLiteral` at any other.
-fn constant_key(ground: &mut Ground, key: Seen) -> Option<Given> {
-    let key = one_value(ground, key)?;
-    let is_one = is_constant(&key.expr);
-    asked(ground, key, is_one, Rule::BadCompositeLiteral)
-}
-
-fn index_of(key: TypedExpr) -> Result<Option<u64>, NoMemory> {
-    let number = integer_of(&key);
-    drop(key);
-    match number {
-        Some(number) => match u64::try_from(number) {
-            Ok(index) => Ok(Some(index)),
-            Err(_) => Err(lost()),
-        },
-        None => Err(lost()),
+/// The index that a constant key is.
+fn index_of(key: &TypedExpr) -> Result<Option<u64>, NoMemory> {
+    let Some(number) = integer_of(key) else {
+        return Err(lost());
+    };
+    match u64::try_from(number) {
+        Ok(index) => Ok(Some(index)),
+        Err(_) => Err(lost()),
     }
 }
 

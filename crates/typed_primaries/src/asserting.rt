@@ -4,9 +4,7 @@
 use go_base::{NoMemory, Pos, Rule, TypeId};
 use go_tree::{ExprKind, TypedExpr};
 use go_type::{Basic, basic, implements};
-use typed_parts::{
-    Given, Ground, Seen, asked, beside, boxed, is_interface, node, one_value, only, sound,
-};
+use typed_parts::{Given, Ground, Seen, asked, beside, boxed, is_interface, node, one_value, only};
 
 /// `x.(T)`, where the type is at a place. `BadTypeAssertion` at an operand that is no interface, and at a type that is
 /// neither an interface nor has its methods.
@@ -21,15 +19,11 @@ pub fn type_assertion(
         return Ok(None);
     };
     let may = asserted_case(ground, x.expr.of, to, to_at);
-    match only(Some(x), may) {
-        Some(x) => sound(assertion(ground, x, to)),
-        None => Ok(None),
-    }
-}
-
-fn assertion(ground: &Ground, x: Given, to: TypeId) -> Result<TypedExpr, NoMemory> {
+    let Some(x) = only(Some(x), may) else {
+        return Ok(None);
+    };
     let operand = boxed(ground, x.expr)?;
-    Ok(node(
+    Ok(Some(node(
         x.at,
         to,
         ExprKind::AssertTo {
@@ -37,7 +31,7 @@ fn assertion(ground: &Ground, x: Given, to: TypeId) -> Result<TypedExpr, NoMemor
             to,
             comma_ok: false,
         },
-    ))
+    )))
 }
 
 /// The operand of a type assertion or a type switch. `BadTypeAssertion` at one that is no interface.
@@ -70,21 +64,16 @@ pub fn has_ok_form(expr: &TypedExpr) -> bool {
 pub fn with_ok(ground: &mut Ground, expr: TypedExpr) -> Result<TypedExpr, NoMemory> {
     let pair = ground.tuple(&[expr.of, basic(Basic::Bool)]);
     let (pair, expr) = beside(pair, expr)?;
-    Ok(paired(expr, pair))
-}
-
-/// The expression with its second value, where it has that form.
-fn paired(expr: TypedExpr, pair: TypeId) -> TypedExpr {
     let TypedExpr { at, of, kind } = expr;
     let comma_ok = true;
     match kind {
         ExprKind::MapIndex { map, key, .. } => {
-            node(at, pair, ExprKind::MapIndex { map, key, comma_ok })
+            Ok(node(at, pair, ExprKind::MapIndex { map, key, comma_ok }))
         }
         ExprKind::Receive { channel, .. } => {
-            node(at, pair, ExprKind::Receive { channel, comma_ok })
+            Ok(node(at, pair, ExprKind::Receive { channel, comma_ok }))
         }
-        ExprKind::AssertTo { operand, to, .. } => node(
+        ExprKind::AssertTo { operand, to, .. } => Ok(node(
             at,
             pair,
             ExprKind::AssertTo {
@@ -92,7 +81,7 @@ fn paired(expr: TypedExpr, pair: TypeId) -> TypedExpr {
                 to,
                 comma_ok,
             },
-        ),
-        kind => node(at, of, kind),
+        )),
+        kind => Ok(node(at, of, kind)),
     }
 }

@@ -168,34 +168,23 @@ pub fn literal_node(
     elements: Elements,
 ) -> Result<TypedExpr, NoMemory> {
     let composite = node(literal.brace, of, ExprKind::CompositeOf(elements));
-    match literal.pointer {
-        Some(to) => literal_address(ground, composite, to),
-        None => Ok(composite),
-    }
-}
-
-/// The address of a literal, as a value of a pointer type.
-fn literal_address(
-    ground: &mut Ground,
-    composite: TypedExpr,
-    to: TypeId,
-) -> Result<TypedExpr, NoMemory> {
-    let at = composite.at;
-    let pointer = ground.hold(TypeTerm::Pointer(composite.of));
-    let (pointer, composite) = beside(pointer, composite)?;
+    let Some(to) = literal.pointer else {
+        return Ok(composite);
+    };
+    let (pointer, composite) = beside(ground.hold(TypeTerm::Pointer(of)), composite)?;
     let operand = boxed(ground, composite)?;
-    made(ground, node(at, pointer, ExprKind::AddressOf(operand)), to)
+    made(
+        ground,
+        node(literal.brace, pointer, ExprKind::AddressOf(operand)),
+        to,
+    )
 }
 
 /// Asks values alone, of a literal whose type is unsound.
 pub fn ask_values(ground: &mut Ground, elements: Vec<Entry>) {
     for element in elements {
-        ask_value(ground, element);
+        let Entry { at: _, key, value } = element;
+        drop(key);
+        drop(one_value(ground, value));
     }
-}
-
-fn ask_value(ground: &mut Ground, element: Entry) {
-    let Entry { at: _, key, value } = element;
-    drop(key);
-    drop(one_value(ground, value));
 }

@@ -5,8 +5,8 @@ use go_base::{NoMemory, Pos, Rule, TypeId};
 use go_tree::{ExprKind, IndexBase, TypedExpr};
 use go_type::{Basic, basic};
 use typed_parts::{
-    Given, Ground, Seen, Shape, asked, assigned, beside, both, boxed_both, boxes, integer_of, lost,
-    node, one_value, only, shape_of, sound, text_length, whole_index, with_text_type,
+    Given, Ground, Seen, Shape, assigned, beside, both, boxed_both, boxes, integer_of, lost, node,
+    one_value, only, shape_of, text_length, whole_index, with_text_type,
 };
 
 /// How many elements are known by an expression: those of an array, of what a pointer to one points to, and of a
@@ -28,40 +28,11 @@ pub fn index_expression(
 ) -> Result<Option<TypedExpr>, NoMemory> {
     let x = one_value(ground, x);
     let i = one_value(ground, i);
-    let x = with_text_type(ground, x);
-    let x = indexed_operand(ground, x);
-    match both(x, Ok(Some(i)))? {
-        Some(((x, shape), i)) => index_of(ground, x, shape, i),
-        None => Ok(None),
-    }
-}
-
-/// What is indexed, with its shape. `BadIndex` at an operand that has no elements.
-fn indexed_operand(
-    ground: &mut Ground,
-    x: Result<Option<Given>, NoMemory>,
-) -> Result<Option<(Given, Shape)>, NoMemory> {
-    let Some(x) = x? else {
+    let (x, i) = beside(with_text_type(ground, x), i)?;
+    let shape = ask_indexed(ground, &x);
+    let Some(((x, shape), i)) = x.zip(shape).zip(Some(i)) else {
         return Ok(None);
     };
-    let shape = indexed_shape(ground, x.expr.of);
-    let x = asked(ground, x, shape.is_some(), Rule::BadIndex);
-    Ok(x.zip(shape))
-}
-
-fn indexed_shape(ground: &Ground, of: TypeId) -> Option<Shape> {
-    match shape_of(ground, of) {
-        None | Some(Shape::Chan { .. }) => None,
-        Some(shape) => Some(shape),
-    }
-}
-
-fn index_of(
-    ground: &mut Ground,
-    x: Given,
-    shape: Shape,
-    i: Option<Given>,
-) -> Result<Option<TypedExpr>, NoMemory> {
     let Given { at, expr } = x;
     if let Shape::Map { key, elem } = shape {
         let key = assigned(ground, i, Some(key));
@@ -69,6 +40,20 @@ fn index_of(
     }
     let index = index_below(ground, i, known_length(shape, &expr));
     element(ground, at, shape, expr, index)
+}
+
+/// The shape of what is indexed. `BadIndex` at an operand that has no elements.
+fn ask_indexed(ground: &mut Ground, x: &Option<Given>) -> Option<Shape> {
+    let Some(x) = x else {
+        return None;
+    };
+    match shape_of(ground, x.expr.of) {
+        None | Some(Shape::Chan { .. }) => {
+            ground.report(x.at, Rule::BadIndex);
+            None
+        }
+        Some(shape) => Some(shape),
+    }
 }
 
 fn map_index(
@@ -111,16 +96,12 @@ fn index_below(
 }
 
 fn is_below(index: &Option<TypedExpr>, len: Option<i128>) -> bool {
-    match (constant_index(index), len) {
-        (Some(number), Some(len)) => number < len,
+    match (index, len) {
+        (Some(index), Some(len)) => match integer_of(index) {
+            Some(number) => number < len,
+            None => true,
+        },
         _ => true,
-    }
-}
-
-fn constant_index(index: &Option<TypedExpr>) -> Option<i128> {
-    match index {
-        Some(index) => integer_of(index),
-        None => None,
     }
 }
 
@@ -135,39 +116,11 @@ fn element(
     let Some((index, operand)) = both(index, Ok(Some(operand)))? else {
         return Ok(None);
     };
-    match indexed_base(shape) {
-        Some(base) => sound(element_node(ground, at, base, operand, index)),
-        None => {
-            drop(operand);
-            drop(index);
-            Err(lost())
-        }
-    }
-}
-
-/// What is indexed, and the type of its elements.
-fn indexed_base(shape: Shape) -> Option<(IndexBase, TypeId)> {
-    match shape {
-        Shape::Text => Some((IndexBase::Text, basic(Basic::Uint8))),
-        Shape::Array { elem, .. } | Shape::ArrayPointer { elem, .. } => {
-            Some((IndexBase::Array, elem))
-        }
-        Shape::Slice { elem } => Some((IndexBase::Slice, elem)),
-        _ => None,
-    }
-}
-
-fn element_node(
-    ground: &Ground,
-    at: Pos,
-    base: (IndexBase, TypeId),
-    operand: TypedExpr,
-    index: TypedExpr,
-) -> Result<TypedExpr, NoMemory> {
-    let (base, of) = base;
+    let (base, (operand, index)) = beside(indexed_base(shape), (operand, index))?;
     let (operand, index) = beside(dereferenced(ground, operand), index)?;
     let (operand, index) = boxes(ground, operand, index)?;
-    Ok(node(
+    let (base, of) = base;
+    Ok(Some(node(
         at,
         of,
         ExprKind::IndexOf {
@@ -175,5 +128,17 @@ fn element_node(
             operand,
             index,
         },
-    ))
+    )))
+}
+
+/// What is indexed, and the type of its elements.
+fn indexed_base(shape: Shape) -> Result<(IndexBase, TypeId), NoMemory> {
+    match shape {
+        Shape::Text => Ok((IndexBase::Text, basic(Basic::Uint8))),
+        Shape::Array { elem, .. } | Shape::ArrayPointer { elem, .. } => {
+            Ok((IndexBase::Array, elem))
+        }
+        Shape::Slice { elem } => Ok((IndexBase::Slice, elem)),
+        _ => Err(lost()),
+    }
 }

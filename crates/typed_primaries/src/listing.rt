@@ -143,19 +143,9 @@ fn sole_into(
 ) -> Result<Listed, NoMemory> {
     let value = values.pop().flatten();
     drop(values);
-    match value {
-        Some(value) => one_into(ground, value, targets, with_ok),
-        None => nothing(ground, targets),
-    }
-}
-
-fn one_into(
-    ground: &mut Ground,
-    value: Given,
-    targets: &[Into],
-    with_ok: bool,
-) -> Result<Listed, NoMemory> {
-    let Given { at, expr } = value;
+    let Some(Given { at, expr }) = value else {
+        return nothing(ground, targets);
+    };
     let (parts, expr) = beside(several_parts(ground, expr.of), expr)?;
     match parts {
         Some(parts) if parts.len() == targets.len() => {

@@ -65,21 +65,6 @@ fn of_entries(
     map: MapLiteral,
     elements: Vec<Entry>,
 ) -> Result<Option<TypedExpr>, NoMemory> {
-    let literal = map.literal;
-    match entries_of(ground, map, elements)? {
-        Some(entries) => {
-            let expr = literal_node(ground, literal, literal.of, Elements::Entries(entries));
-            sound(expr)
-        }
-        None => Ok(None),
-    }
-}
-
-fn entries_of(
-    ground: &mut Ground,
-    map: MapLiteral,
-    elements: Vec<Entry>,
-) -> Result<Option<Vec<EntryInit>>, NoMemory> {
     let mut keys = Keys {
         numbers: IndexSet::new(ground.alloc),
         texts: IndexSet::new(ground.alloc),
@@ -89,7 +74,14 @@ fn entries_of(
         let entry = entry_of(ground, &mut keys, map, element)?;
         entries = with_last(entries, entry)?;
     }
-    Ok(entries)
+    let literal = map.literal;
+    match entries {
+        Some(entries) => {
+            let expr = literal_node(ground, literal, literal.of, Elements::Entries(entries));
+            sound(expr)
+        }
+        None => Ok(None),
+    }
 }
 
 fn entry_of(
@@ -113,7 +105,7 @@ fn part_value(ground: &mut Ground, part: Seen, to: TypeId) -> Result<Option<Type
     assigned(ground, part, Some(to))
 }
 
-/// The key of an entry. `BadCompositeLiteral` where there is none.
+/// The key of an entry. `BadCompositeLiteral` where there is none, and at a constant that comes again.
 fn entry_key(
     ground: &mut Ground,
     keys: &mut Keys,
@@ -121,26 +113,12 @@ fn entry_key(
     of: TypeId,
     key: Option<Seen>,
 ) -> Result<Option<TypedExpr>, NoMemory> {
-    match key {
-        Some(key) => {
-            let key = part_value(ground, key, of)?;
-            new_key(ground, keys, at, key)
-        }
-        None => {
-            ground.report(at, Rule::BadCompositeLiteral);
-            Ok(None)
-        }
-    }
-}
-
-/// A key that is no constant, or one that has not come yet. `BadCompositeLiteral` at one that comes again.
-fn new_key(
-    ground: &mut Ground,
-    keys: &mut Keys,
-    at: Pos,
-    key: Option<TypedExpr>,
-) -> Result<Option<TypedExpr>, NoMemory> {
-    let is_new = add_key(keys, ground.alloc, &key);
+    let Some(key) = key else {
+        ground.report(at, Rule::BadCompositeLiteral);
+        return Ok(None);
+    };
+    let key = part_value(ground, key, of)?;
+    let is_new = keys.add(ground.alloc, &key);
     let (is_new, key) = beside(is_new, key)?;
     if !is_new {
         ground.report(at, Rule::BadCompositeLiteral);
@@ -148,16 +126,12 @@ fn new_key(
     Ok(only(key, is_new))
 }
 
-fn add_key(keys: &mut Keys, alloc: Global, key: &Option<TypedExpr>) -> Result<bool, NoMemory> {
-    match key {
-        Some(key) => keys.add(alloc, key),
-        None => Ok(true),
-    }
-}
-
 impl Keys {
     /// Adds a key where it is a constant. False where that has come.
-    fn add(&mut self, alloc: Global, key: &TypedExpr) -> Result<bool, NoMemory> {
+    fn add(&mut self, alloc: Global, key: &Option<TypedExpr>) -> Result<bool, NoMemory> {
+        let Some(key) = key else {
+            return Ok(true);
+        };
         match &key.kind {
             ExprKind::ConstOf(value) => self.add_constant(alloc, key.of, value),
             ExprKind::ToInterface(operand) => match &operand.kind {

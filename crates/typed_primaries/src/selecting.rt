@@ -9,7 +9,7 @@ use go_type::{
     find_selector, method_set,
 };
 use typed_parts::{
-    Given, Ground, Meaning, Seen, beside, boxed, is_place, lost, node, only, pointed, single, sound,
+    Given, Ground, Meaning, Seen, both, boxed, is_place, lost, node, only, pointed, single, sound,
 };
 
 /// A name that is selected.
@@ -45,7 +45,7 @@ pub fn selector(
         }
         Some(Meaning::Value(expr)) => {
             let x = single(ground, Given { at, expr });
-            value_selector(ground, x, selected)
+            field_or_method(ground, x, selected)
         }
     }
 }
@@ -80,39 +80,21 @@ fn selection_of(
     }
 }
 
-fn value_selector(
+/// What is selected of a value.
+fn field_or_method(
     ground: &mut Ground,
     x: Option<Given>,
     selected: Selected,
 ) -> Result<Option<TypedExpr>, NoMemory> {
-    match x {
-        Some(x) => field_or_method(ground, x.expr, selected),
-        None => Ok(None),
-    }
-}
-
-fn field_or_method(
-    ground: &mut Ground,
-    expr: TypedExpr,
-    selected: Selected,
-) -> Result<Option<TypedExpr>, NoMemory> {
-    let selection = selection_of(ground, expr.of, selected);
-    let (selection, expr) = beside(selection, expr)?;
-    match selection.zip(Some(expr)) {
-        Some((selection, expr)) => selected_of(ground, expr, selection, selected),
-        None => Ok(None),
-    }
-}
-
-/// What is selected of a value. `ReceiverNotAddressable` at the name.
-fn selected_of(
-    ground: &mut Ground,
-    expr: TypedExpr,
-    selection: Selection,
-    selected: Selected,
-) -> Result<Option<TypedExpr>, NoMemory> {
+    let Some(x) = x else {
+        return Ok(None);
+    };
+    let selection = selection_of(ground, x.expr.of, selected);
+    let Some((selection, x)) = both(selection, Ok(Some(x)))? else {
+        return Ok(None);
+    };
     let (kind, result) = (selection.kind, selection.result);
-    let expr = along(ground, expr, selection.path.as_slice());
+    let expr = along(ground, x.expr, selection.path.as_slice());
     drop(selection);
     let expr = expr?;
     match kind {
@@ -151,41 +133,26 @@ fn concrete_method(
     signature: TypeId,
     name_at: Pos,
 ) -> Result<Option<TypedExpr>, NoMemory> {
-    let at = expr.at;
     let owner = pointed(ground, expr.of).unwrap_or(expr.of);
     let by_pointer = has_pointer_receiver(ground.types.methods(owner), function);
     let may = !by_pointer || may_address(ground, &expr);
     if !may {
         ground.report(name_at, Rule::ReceiverNotAddressable);
     }
-    match only(Some(expr), may) {
-        Some(expr) => sound(received_method(ground, at, expr, signature, function, by_pointer)),
-        None => Ok(None),
-    }
-}
-
-/// Whether a value is a pointer, or has an address.
-fn may_address(ground: &Ground, expr: &TypedExpr) -> bool {
-    pointed(ground, expr.of).is_some() || is_place(expr)
-}
-
-/// A method of a receiver, which becomes a pointer, or what it points to.
-fn received_method(
-    ground: &mut Ground,
-    at: Pos,
-    expr: TypedExpr,
-    signature: TypeId,
-    function: FuncId,
-    by_pointer: bool,
-) -> Result<TypedExpr, NoMemory> {
+    let Some(expr) = only(Some(expr), may) else {
+        return Ok(None);
+    };
     let receiver = if by_pointer {
         addressed(ground, expr)
     } else {
         dereferenced(ground, expr)
     };
-    let receiver = boxed(ground, receiver?)?;
-    let method = Method::Concrete(function);
-    Ok(node(at, signature, ExprKind::MethodValue { receiver, method }))
+    sound(method_value(ground, receiver?, signature, Method::Concrete(function)))
+}
+
+/// Whether a value is a pointer, or has an address.
+fn may_address(ground: &Ground, expr: &TypedExpr) -> bool {
+    pointed(ground, expr.of).is_some() || is_place(expr)
 }
 
 /// Whether a method among those of a type has a pointer as its receiver.

@@ -6,8 +6,8 @@ use go_base::{NoMemory, Pos, Rule, TypeId};
 use go_tree::{ExprKind, SliceBase, TypedExpr};
 use go_type::TypeTerm;
 use typed_parts::{
-    Given, Ground, Seen, Shape, asked, beside, both, boxed, integer_of, is_place, node, one_value,
-    only, shape_of, sound, whole_index, with_text_type,
+    Given, Ground, Seen, Shape, beside, boxed, integer_of, is_place, node, one_value, only,
+    shape_of, sound, whole_index, with_text_type,
 };
 
 /// A bound of a slice expression.
@@ -38,22 +38,11 @@ pub fn slice_expression(
     let x = one_value(ground, x);
     let (bounds, x) = beside(bounds_of(ground, low, high, max), x)?;
     let ordered = ask_order(ground, &bounds);
-    let x = with_text_type(ground, x);
-    let x = sliced_operand(ground, x);
-    match both(x, Ok(Some(bounds)))? {
-        Some(((x, shape), bounds)) => bounded(ground, x, shape, bounds, ordered),
-        None => Ok(None),
-    }
-}
-
-/// A slice expression with bounds, which are in order or not.
-fn bounded(
-    ground: &mut Ground,
-    x: Given,
-    shape: Shape,
-    bounds: Bounds,
-    ordered: bool,
-) -> Result<Option<TypedExpr>, NoMemory> {
+    let (x, bounds) = beside(with_text_type(ground, x), bounds)?;
+    let shape = ask_sliced(ground, &x);
+    let Some(((x, shape), bounds)) = x.zip(shape).zip(Some(bounds)) else {
+        return Ok(None);
+    };
     let within = ask_bounds(ground, &bounds, known_length(shape, &x.expr));
     let full = ask_full(ground, x.at, shape, &bounds);
     let may = ordered && within && full && bounds.are_sound();
@@ -76,13 +65,9 @@ fn bounds_of(
 }
 
 fn bound_of(ground: &mut Ground, part: Option<Seen>) -> Result<Bound, NoMemory> {
-    match part {
-        Some(part) => written_bound(ground, part),
-        None => Ok(Bound::Absent),
-    }
-}
-
-fn written_bound(ground: &mut Ground, part: Seen) -> Result<Bound, NoMemory> {
+    let Some(part) = part else {
+        return Ok(Bound::Absent);
+    };
     let at = part.at;
     let given = one_value(ground, part);
     match whole_index(ground, given, Rule::BadSlice)? {
@@ -144,17 +129,16 @@ fn ask_bound(ground: &mut Ground, bound: &Bound, len: i128) -> bool {
     false
 }
 
-/// What is sliced, with its shape. `BadSlice` at an operand that cannot be.
-fn sliced_operand(
-    ground: &mut Ground,
-    x: Result<Option<Given>, NoMemory>,
-) -> Result<Option<(Given, Shape)>, NoMemory> {
-    let Some(x) = x? else {
-        return Ok(None);
+/// The shape of what is sliced. `BadSlice` at an operand that cannot be.
+fn ask_sliced(ground: &mut Ground, x: &Option<Given>) -> Option<Shape> {
+    let Some(x) = x else {
+        return None;
     };
     let shape = sliced_shape(ground, &x.expr);
-    let x = asked(ground, x, shape.is_some(), Rule::BadSlice);
-    Ok(x.zip(shape))
+    if shape.is_none() {
+        ground.report(x.at, Rule::BadSlice);
+    }
+    shape
 }
 
 /// The shape of what can be sliced: an array has to be a place.
@@ -208,20 +192,15 @@ fn sliced(
     let (written, expr) = beside(each_written(ground, bounds), expr)?;
     let of = slice_type(ground, shape, expr.of);
     let (of, (expr, written)) = beside(of, (expr, written))?;
-    let operand = sliced_box(ground, shape, expr);
+    let operand = match shape {
+        Shape::Array { .. } => address(ground, expr),
+        _ => Ok(expr),
+    };
     let (operand, written) = beside(operand, written)?;
-    Ok(slice_node(at, of, operand, written))
-}
-
-fn slice_node(
-    at: Pos,
-    base: (SliceBase, TypeId),
-    operand: Box<TypedExpr>,
-    written: Written,
-) -> TypedExpr {
-    let (base, of) = base;
+    let (operand, written) = beside(boxed(ground, operand), written)?;
+    let (base, of) = of;
     let Written { low, high, max } = written;
-    node(
+    Ok(node(
         at,
         of,
         ExprKind::SliceOf {
@@ -231,20 +210,7 @@ fn slice_node(
             high,
             max,
         },
-    )
-}
-
-/// The operand: of an array its address.
-fn sliced_box(
-    ground: &mut Ground,
-    shape: Shape,
-    operand: TypedExpr,
-) -> Result<Box<TypedExpr>, NoMemory> {
-    let operand = match shape {
-        Shape::Array { .. } => address(ground, operand),
-        _ => Ok(operand),
-    };
-    boxed(ground, operand?)
+    ))
 }
 
 fn each_written(ground: &Ground, bounds: Bounds) -> Result<Written, NoMemory> {

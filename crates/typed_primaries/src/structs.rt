@@ -59,15 +59,6 @@ fn of_elements(
     } else {
         listed_fields(ground, package, literal.of, elements)
     };
-    of_fields(ground, literal, fields, uniform)
-}
-
-fn of_fields(
-    ground: &mut Ground,
-    literal: Literal,
-    fields: Result<Option<Vec<FieldInit>>, NoMemory>,
-    uniform: bool,
-) -> Result<Option<TypedExpr>, NoMemory> {
     match only(fields?, uniform) {
         Some(fields) => {
             let expr = literal_node(ground, literal, literal.of, Elements::Fields(fields));
@@ -81,19 +72,15 @@ fn of_fields(
 fn each_asked(ground: &mut Ground, elements: Vec<FieldEntry>) -> Result<Vec<Element>, NoMemory> {
     let mut values = Vec::new(ground.alloc);
     for element in elements {
-        values.push(asked_element(ground, element))?;
+        values.push(Element {
+            at: element.at,
+            has_key: element.has_key,
+            name: element.name,
+            package: element.package,
+            value: one_value(ground, element.value),
+        })?;
     }
     Ok(values)
-}
-
-fn asked_element(ground: &mut Ground, element: FieldEntry) -> Element {
-    Element {
-        at: element.at,
-        has_key: element.has_key,
-        name: element.name,
-        package: element.package,
-        value: one_value(ground, element.value),
-    }
 }
 
 /// Whether all elements have keys, or none.
@@ -132,14 +119,12 @@ fn keyed_field(
 ) -> Result<Option<FieldInit>, NoMemory> {
     let at = element.at;
     let found = field_of_key(ground, of, &element);
-    match found.zip(Some(element)) {
-        Some((found, element)) => {
-            let is_new = ask_new(ground, taken, at, found.0);
-            let value = field_value(ground, found, element);
-            new_field(is_new, value)
-        }
-        None => Ok(None),
-    }
+    let Some((found, element)) = found.zip(Some(element)) else {
+        return Ok(None);
+    };
+    let (is_new, element) = beside(ask_new(ground, taken, at, found.0), element)?;
+    let value = field_value(ground, found, element)?;
+    Ok(only(value, is_new))
 }
 
 fn ask_new(
@@ -153,14 +138,6 @@ fn ask_new(
         ground.report(at, Rule::BadCompositeLiteral);
     }
     Ok(is_new)
-}
-
-fn new_field(
-    is_new: Result<bool, NoMemory>,
-    value: Result<Option<FieldInit>, NoMemory>,
-) -> Result<Option<FieldInit>, NoMemory> {
-    let (is_new, value) = beside(is_new, value)?;
-    Ok(only(value?, is_new))
 }
 
 /// The number and the type of the field that a key names. `BadCompositeLiteral` at a key that names none.
@@ -207,51 +184,28 @@ fn listed_fields(
     of: TypeId,
     elements: Vec<Element>,
 ) -> Result<Option<Vec<FieldInit>>, NoMemory> {
-    let takes = ask_listed(ground, package, of, elements.as_slice());
-    match only(Some(elements), takes.number) {
-        Some(elements) => {
-            let fields = each_listed(ground, of, elements)?;
-            Ok(only(fields, takes.open))
-        }
-        None => Ok(None),
-    }
-}
-
-/// What holds of the elements of a literal without keys.
-#[derive(Clone, Copy)]
-struct Listed {
-    /// They are as many as the fields.
-    number: bool,
-    /// Each field is exported or of the package.
-    open: bool,
-}
-
-fn ask_listed(ground: &mut Ground, package: u32, of: TypeId, elements: &[Element]) -> Listed {
-    let open = ask_open(ground, package, of, elements);
-    let number = elements.len() == fields_of(&ground.types, of).len();
-    if !number {
-        report_number(ground, elements);
-    }
-    Listed { number, open }
-}
-
-fn report_number(ground: &mut Ground, elements: &[Element]) {
-    if let Some(at) = values_place(elements) {
-        ground.report(at, Rule::BadCompositeLiteral);
-    }
-}
-
-fn each_listed(
-    ground: &mut Ground,
-    of: TypeId,
-    elements: Vec<Element>,
-) -> Result<Option<Vec<FieldInit>>, NoMemory> {
+    let open = ask_open(ground, package, of, elements.as_slice());
+    let fits = ask_number(ground, of, elements.as_slice());
+    let Some(elements) = only(Some(elements), fits) else {
+        return Ok(None);
+    };
     let mut fields = Some(Vec::new(ground.alloc));
     for (number, element) in elements.into_iter().enumerate() {
         let field = listed_field(ground, of, number, element)?;
         fields = with_last(fields, field)?;
     }
-    Ok(fields)
+    Ok(only(fields, open))
+}
+
+/// Whether there are as many elements as fields.
+fn ask_number(ground: &mut Ground, of: TypeId, elements: &[Element]) -> bool {
+    if elements.len() == fields_of(&ground.types, of).len() {
+        return true;
+    }
+    if let Some(at) = values_place(elements) {
+        ground.report(at, Rule::BadCompositeLiteral);
+    }
+    false
 }
 
 /// The place of the first of values that are all sound.
