@@ -1,15 +1,13 @@
 //! What sound declarations give.
 
 use crate::error::lost;
-use crate::graphs::Order;
-use crate::importing::file_scopes;
-use crate::items::{Form, Item, Listed};
 use crate::local_types::number_local_types;
-use crate::nodes::Kind;
-use crate::package_order::{PackageOrder, narrow, packages_of};
-use crate::rows::{Facts, receiver_base};
 use crate::specifications::Made;
-use crate::tables::{Sort, Tables};
+use decl_nodes::{
+    Form, Item, Kind, Listed, Order, PackageOrder, Sort, Tables, file_scopes, narrow, package_of,
+    packages_of,
+};
+use decl_rules::{Denoted, Facts, receiver_base};
 use go_base::{FuncId, NameId, NoMemory, Pos, TypeId, VarId};
 use go_declared::Declared;
 use go_names::{Constant, Constants, Entity, Extent, Extents, PackageBlocks};
@@ -120,8 +118,8 @@ fn define_type(
         return Ok(());
     }
     let under = match facts.denoting.under(node) {
-        Some(crate::denoting::Denoted::Form(form)) => facts.shapes.get(form),
-        Some(crate::denoting::Denoted::Predeclared(other)) => Some(tables.types.underlying(other)),
+        Some(Denoted::Form(form)) => facts.shapes.get(form),
+        Some(Denoted::Predeclared(other)) => Some(tables.types.underlying(other)),
         _ => None,
     };
     match under {
@@ -398,7 +396,7 @@ impl Finisher {
         if name == tables.known.blank {
             return Ok(());
         }
-        let package = crate::tables::package_of(listed.source.text(decl.name), listed.package);
+        let package = package_of(listed.source.text(decl.name), listed.package);
         self.give_method(tables, facts, receiver, name, package, id, signature)
     }
 
