@@ -124,6 +124,32 @@ pub struct KnownNames {
     pub main: NameId,
 }
 
+impl KnownNames {
+    fn new(names: &mut Names, blank: NameId) -> Result<KnownNames, NoMemory> {
+        Ok(KnownNames {
+            blank,
+            init: names.intern("init")?,
+            main: names.intern("main")?,
+        })
+    }
+}
+
+/// The names of the predeclared type `error` and of its method.
+#[derive(Clone, Copy)]
+struct ErrorNames {
+    name: NameId,
+    method: NameId,
+}
+
+impl ErrorNames {
+    fn new(names: &mut Names) -> Result<ErrorNames, NoMemory> {
+        Ok(ErrorNames {
+            name: names.intern("error")?,
+            method: names.intern("Error")?,
+        })
+    }
+}
+
 /// The tables of a program.
 #[derive(Drop)]
 pub struct Tables {
@@ -150,16 +176,22 @@ impl Tables {
     /// The universe alone.
     pub fn new(alloc: Global) -> Result<Tables, NoMemory> {
         let mut names = Names::new(alloc);
-        let error = names.intern("error")?;
-        let method = names.intern("Error")?;
-        let mut types = Types::new(alloc, error, method)?;
+        let error = ErrorNames::new(&mut names)?;
+        let mut types = Types::new(alloc, error.name, error.method)?;
         let universe = Universe::new(alloc, &mut names, &mut types)?;
-        let known = KnownNames {
-            blank: universe.blank(),
-            init: names.intern("init")?,
-            main: names.intern("main")?,
-        };
-        Ok(Tables {
+        let known = KnownNames::new(&mut names, universe.blank())?;
+        Ok(Tables::over(alloc, names, known, types, universe))
+    }
+
+    /// Nothing is declared yet.
+    fn over(
+        alloc: Global,
+        names: Names,
+        known: KnownNames,
+        types: Types,
+        universe: Universe,
+    ) -> Tables {
+        Tables {
             alloc,
             names,
             known,
@@ -174,7 +206,7 @@ impl Tables {
             ties: Vec::new(alloc),
             methods: Vec::new(alloc),
             parts: IndexSet::new(alloc),
-        })
+        }
     }
 
     /// The id of a name as it is written.
