@@ -63,7 +63,7 @@ fn declare_items(
             items,
             made.as_slice(),
             tables,
-            facts,
+            &facts,
             &holds,
         )?;
         return Ok(declared);
