@@ -1,21 +1,13 @@
 //! The declarations of a program.
 
-use crate::bases::{TypeFact, define_basic, type_facts};
-use crate::cycles::{blame_cycles, holding, incomparable};
-use crate::denoting::denote;
 use crate::error::lost;
-use crate::extent::{find_leaves, find_nestings};
 use crate::finishing::finish;
-use crate::graphs::{Order, order_of, reach_marked};
-use crate::importing::read_imports;
-use crate::items::{Item, Listed, collect, list_files};
-use crate::package_order::{PackageOrder, order_packages};
 use crate::reading::Reader;
-use crate::rows::{Facts, blame_methods, blame_types};
-use crate::shapes::find_shapes;
-use crate::tables::Tables;
-use crate::values::find_values;
-use go_base::NoMemory;
+use decl_nodes::{
+    Item, Listed, PackageOrder, Tables, TypeFact, collect, define_basic, list_files, order_of,
+    order_packages, read_imports, type_facts,
+};
+use decl_rules::{ask_rules, holding};
 use go_declared::{CheckError, Declared};
 use go_sources::Sources;
 use std::alloc::Global;
@@ -61,7 +53,7 @@ fn declare_items(
         facts: type_facts,
     } = reader;
     let holds = order_of(alloc, holding(alloc, &tables.nodes)?.as_slice())?;
-    let facts = look(alloc, &mut tables, type_facts.as_slice(), &holds)?;
+    let facts = ask_rules(alloc, &mut tables, type_facts.as_slice(), &holds)?;
     if tables.violations.is_empty() {
         let declared = finish(
             alloc,
@@ -71,7 +63,7 @@ fn declare_items(
             items,
             made.as_slice(),
             tables,
-            facts,
+            &facts,
             &holds,
         )?;
         return Ok(declared);
@@ -88,42 +80,4 @@ fn refuse(alloc: Global, tables: Tables) -> Result<Declared, CheckError> {
         }),
         None => Err(CheckError::from(lost())),
     }
-}
-
-/// Finds what the rules look at, and asks them.
-fn look(
-    alloc: Global,
-    tables: &mut Tables,
-    type_facts: &[TypeFact],
-    holds: &Order,
-) -> Result<Facts, NoMemory> {
-    let order = order_of(alloc, tables.nodes.edges())?;
-    let denoting = denote(alloc, &tables.nodes)?;
-    let values = find_values(
-        alloc,
-        &tables.nodes,
-        &tables.types,
-        type_facts,
-        &denoting,
-        &order,
-        &mut tables.violations,
-    )?;
-    let shapes = find_shapes(alloc, &tables.nodes, &mut tables.types, &values, &denoting)?;
-    let leaves = find_leaves(alloc, &tables.nodes, &values, holds)?;
-    let nestings = find_nestings(alloc, &tables.nodes, &tables.types, &denoting)?;
-    let marks = incomparable(alloc, &tables.nodes)?;
-    let graph = holding(alloc, &tables.nodes)?;
-    let incomparable = reach_marked(alloc, graph.as_slice(), marks.as_slice())?;
-    let facts = Facts {
-        denoting,
-        values,
-        shapes,
-        leaves,
-        nestings,
-        incomparable,
-    };
-    blame_types(tables, &facts)?;
-    blame_methods(tables, &facts)?;
-    blame_cycles(tables, type_facts, holds, &order)?;
-    Ok(facts)
 }

@@ -1,22 +1,21 @@
 //! What sound declarations give.
 
 use crate::error::lost;
-use crate::graphs::Order;
-use crate::importing::file_scopes;
-use crate::items::{Form, Item, Listed};
 use crate::local_types::number_local_types;
-use crate::nodes::Kind;
-use crate::package_order::{PackageOrder, narrow, packages_of};
-use crate::rows::{Facts, receiver_base};
 use crate::specifications::Made;
-use crate::tables::{Sort, Tables};
+use decl_nodes::{
+    Form, Item, Kind, Listed, Order, PackageOrder, Sort, Tables, file_scopes, narrow, package_of,
+    packages_of,
+};
+use decl_rules::{Denoted, Facts, receiver_base};
 use go_base::{FuncId, NameId, NoMemory, Pos, TypeId, VarId};
-use go_declared::Declared;
-use go_names::{Constant, Constants, Entity, Extent, Extents, PackageBlocks};
+use go_declared::{Declared, LocalTypes};
+use go_names::{Constant, Constants, Entity, Extent, Extents, FileScopes, PackageBlocks};
 use go_sources::Sources;
 use go_syntax::FuncDecl;
 use go_tree::{
-    DeclaredType, DeclaredTypes, FunctionDecl, FunctionDecls, FunctionForm, Variable, Variables,
+    DeclaredType, DeclaredTypes, FunctionDecl, FunctionDecls, FunctionForm, Packages, Variable,
+    Variables,
 };
 use go_type::{
     Basic, MethodEntry, Path, SelectionKind, Signature, TypeIds, TypeName, TypeTerm, basic,
@@ -41,6 +40,15 @@ struct Finisher {
     begun: usize,
 }
 
+/// What is asked of all packages and files together.
+#[derive(Drop)]
+struct Whole {
+    files: FileScopes,
+    packages: Packages,
+    local_types: LocalTypes,
+    error_string: TypeId,
+}
+
 /// What the declarations give. No rule is violated.
 pub fn finish(
     alloc: Global,
@@ -50,53 +58,75 @@ pub fn finish(
     items: &[Item<'_>],
     made: &[Made],
     tables: Tables,
-    facts: Facts,
+    facts: &Facts,
     holds: &Order,
 ) -> Result<Declared, NoMemory> {
     let mut tables = tables;
-    define_types(&mut tables, &facts, holds)?;
-    let plain = plain_function(alloc, &mut tables)?;
-    let mut finisher = Finisher {
-        alloc,
-        functions: FunctionDecls::new(alloc),
-        variables: Variables::new(alloc),
-        declared: DeclaredTypes::new(alloc),
-        constants: Constants::new(alloc),
-        blocks: PackageBlocks::new(alloc),
-        extents: Extents::new(alloc),
-        plain,
-        begun: 0,
-    };
+    define_types(&mut tables, facts, holds)?;
+    let finisher = gather(alloc, sources, order, items, made, &mut tables, facts)?;
+    let whole = Whole::new(alloc, sources, order, files, &mut tables)?;
+    Ok(declared(alloc, tables, finisher, whole))
+}
+
+/// Gathers what each item gives.
+fn gather(
+    alloc: Global,
+    sources: &Sources,
+    order: &PackageOrder,
+    items: &[Item<'_>],
+    made: &[Made],
+    tables: &mut Tables,
+    facts: &Facts,
+) -> Result<Finisher, NoMemory> {
+    let mut finisher = Finisher::new(alloc, plain_function(alloc, tables)?);
     for (index, item) in items.iter().enumerate() {
         let Some(made) = made.get(index).copied() else {
             return Err(lost());
         };
-        finisher.begin_packages(&tables, order, sources, item.listed.package as usize + 1)?;
-        finisher.add_item(&mut tables, &facts, item, made)?;
+        finisher.begin_packages(tables, order, sources, item.listed.package as usize + 1)?;
+        finisher.add_item(tables, facts, item, made)?;
     }
-    finisher.begin_packages(&tables, order, sources, order.loaded.len())?;
-    let files_of = file_scopes(&mut tables, sources, order)?;
-    let packages = packages_of(alloc, sources, order)?;
-    let local_types = number_local_types(alloc, files)?;
-    let error_string = error_string(&mut tables, sources, order)?;
-    Ok(Declared {
+    finisher.begin_packages(tables, order, sources, order.loaded.len())?;
+    Ok(finisher)
+}
+
+impl Whole {
+    fn new(
+        alloc: Global,
+        sources: &Sources,
+        order: &PackageOrder,
+        files: &[Listed<'_>],
+        tables: &mut Tables,
+    ) -> Result<Whole, NoMemory> {
+        Ok(Whole {
+            files: file_scopes(tables, sources, order)?,
+            packages: packages_of(alloc, sources, order)?,
+            local_types: number_local_types(alloc, files)?,
+            error_string: error_string(tables, sources, order)?,
+        })
+    }
+}
+
+/// All of it together.
+fn declared(alloc: Global, tables: Tables, finisher: Finisher, whole: Whole) -> Declared {
+    Declared {
         names: tables.names,
         types: tables.types,
-        packages,
+        packages: whole.packages,
         functions: finisher.functions,
         variables: finisher.variables,
         declared: finisher.declared,
         constants: finisher.constants,
         blocks: finisher.blocks,
-        files: files_of,
+        files: whole.files,
         extents: finisher.extents,
         mentions: tables.mentions,
         sizes: Sizes::new(alloc),
         bare: Bare::new(alloc),
         universe: tables.universe,
-        local_types,
-        error_string,
-    })
+        local_types: whole.local_types,
+        error_string: whole.error_string,
+    }
 }
 
 /// Gives the declared types their underlying types, those that hold others first.
@@ -120,8 +150,8 @@ fn define_type(
         return Ok(());
     }
     let under = match facts.denoting.under(node) {
-        Some(crate::denoting::Denoted::Form(form)) => facts.shapes.get(form),
-        Some(crate::denoting::Denoted::Predeclared(other)) => Some(tables.types.underlying(other)),
+        Some(Denoted::Form(form)) => facts.shapes.get(form),
+        Some(Denoted::Predeclared(other)) => Some(tables.types.underlying(other)),
         _ => None,
     };
     match under {
@@ -173,6 +203,21 @@ fn error_string(
 }
 
 impl Finisher {
+    /// Nothing is gathered yet.
+    fn new(alloc: Global, plain: TypeId) -> Finisher {
+        Finisher {
+            alloc,
+            functions: FunctionDecls::new(alloc),
+            variables: Variables::new(alloc),
+            declared: DeclaredTypes::new(alloc),
+            constants: Constants::new(alloc),
+            blocks: PackageBlocks::new(alloc),
+            extents: Extents::new(alloc),
+            plain,
+            begun: 0,
+        }
+    }
+
     /// Adds what initialises each package up to a count of them.
     fn begin_packages(
         &mut self,
@@ -398,7 +443,7 @@ impl Finisher {
         if name == tables.known.blank {
             return Ok(());
         }
-        let package = crate::tables::package_of(listed.source.text(decl.name), listed.package);
+        let package = package_of(listed.source.text(decl.name), listed.package);
         self.give_method(tables, facts, receiver, name, package, id, signature)
     }
 

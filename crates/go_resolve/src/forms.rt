@@ -1,11 +1,11 @@
 //! Constant forms, read into nodes: the values of constants and the lengths of arrays. Go specification, "Constant
 //! expressions".
 
-use crate::bases::{Base, base_of, exported};
 use crate::literals::{int_constant, rune_constant, text_value};
-use crate::nodes::{Arguments, Folded, Kind, Operator};
 use crate::reading::Reader;
-use crate::tables::{Found, Imported, Sort, Spot};
+use decl_nodes::{
+    Arguments, Base, Folded, Found, Imported, Kind, Operator, Sort, Spot, Tie, base_of, exported,
+};
 use go_ast::Token;
 use go_base::{NoMemory, Pos, Rule};
 use go_names::Entity;
@@ -16,7 +16,7 @@ use go_syntax::{Expr, ListedExpr, NamedType};
 use go_type::{Builtin, CompareOp, Const, ConstOp, UnaryOp};
 
 /// What stands before the arguments of a call.
-#[derive(Clone, Copy, Debug)]
+#[derive(Clone, Copy)]
 enum Callee {
     /// A type that has constants, or may have.
     Conversion(usize),
@@ -406,7 +406,7 @@ impl Reader {
     /// A name of a type is in the declaration of a type.
     fn tie(&mut self, target: usize, spot: Spot) -> Result<(), NoMemory> {
         if let Some(owner) = spot.owner {
-            self.tables.ties.push(crate::tables::Tie {
+            self.tables.ties.push(Tie {
                 owner,
                 target,
                 embedded: false,

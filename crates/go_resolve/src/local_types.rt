@@ -1,7 +1,7 @@
 //! The types that are declared in bodies, numbered by place. Go specification, "Type declarations".
 
 use crate::error::lost;
-use crate::items::Listed;
+use decl_nodes::Listed;
 use go_ast::{Kind, Token};
 use go_base::{MAX_FILE_BYTES, NoMemory, Pos};
 use go_declared::LocalTypes;

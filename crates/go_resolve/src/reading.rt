@@ -1,8 +1,9 @@
 //! Types as they are written, read into nodes. Go specification, "Types".
 
-use crate::bases::{TypeFact, exported};
-use crate::nodes::{ElementNode, FieldNode, Kind, SignatureNode};
-use crate::tables::{Found, Imported, InNode, Sort, Spot, Tables, Tie, package_of};
+use decl_nodes::{
+    ElementNode, FieldNode, Found, Imported, InNode, Kind, SignatureNode, Sort, Spot, Tables, Tie,
+    TypeFact, exported, package_of,
+};
 use go_ast::Token;
 use go_base::{Bytes, NameId, NoMemory, Rule};
 use go_names::Entity;

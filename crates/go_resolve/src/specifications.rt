@@ -2,16 +2,14 @@
 //! specification, "Constant declarations", "Type declarations", "Variable declarations", "Function declarations",
 //! "Method declarations".
 
-use crate::items::{Form, Item, Listed};
-use crate::nodes::Kind;
 use crate::reading::Reader;
-use crate::tables::{MethodNode, Spot, package_of};
+use decl_nodes::{Form, Item, Kind, Listed, MethodNode, Spot, package_of};
 use go_base::{NameId, NoMemory, Rule};
 use go_places::{expr_start, type_start};
 use go_syntax::{FuncDecl, ListedExpr, ListedName, Param, TypeExpr};
 
 /// The nodes that were made of an item, as far as they are asked for later.
-#[derive(Clone, Copy, Debug)]
+#[derive(Clone, Copy)]
 pub struct Made {
     /// The written type of variables, or the signature of a function or a method.
     pub form: Option<usize>,

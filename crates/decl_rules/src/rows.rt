@@ -2,11 +2,9 @@
 
 use crate::denoting::{Denoted, Denoting};
 use crate::extent::number_at;
-use crate::graphs::is_marked;
-use crate::nodes::{ElementNode, Kind};
 use crate::shapes::{MethodKey, Shapes};
-use crate::tables::{InNode, MethodNode, Tables};
 use crate::values::{Values, length_at};
+use decl_nodes::{ElementNode, InNode, Kind, MethodNode, Tables, is_marked};
 use go_base::{NoMemory, Rule, TypeId};
 use go_type::{MAX_LEAVES, MAX_NESTING, TypeTerm};
 use indexmap::{IndexMap, IndexSet};
@@ -135,7 +133,7 @@ fn is_interface(tables: &Tables, under: Denoted) -> bool {
 }
 
 /// The types that earlier elements of an interface have for a name.
-#[derive(Clone, Copy, Debug)]
+#[derive(Clone, Copy)]
 struct Earlier {
     /// That of the first embedded one, and whether there are others.
     embedded: Option<TypeId>,
@@ -253,7 +251,7 @@ fn later(earlier: Earlier, of: TypeId, embedded: bool) -> Earlier {
 }
 
 /// The declared type of a receiver, and whether the receiver is a pointer to it.
-#[derive(Clone, Copy, Debug)]
+#[derive(Clone, Copy)]
 pub struct Receiver {
     pub declared: usize,
     pub pointer: bool,

@@ -1,14 +1,14 @@
 //! The values of constants, and the rules that they break. Go specification, "Constants", "Constant expressions",
 //! "Constant declarations".
 
-use crate::bases::TypeFact;
-use crate::denoting::{Denoted, Denoting, constant_type};
-use crate::graphs::{Order, is_marked};
-use crate::nodes::{Arguments, Folded, Kind, Nodes, Operator};
-use crate::violations::Violations;
-use go_base::{Bytes, NoMemory, Rule, TypeId};
+use crate::denoting::{Denoting, constant_type, is_basic};
+use crate::runes::text_of_rune;
+use decl_nodes::{
+    Arguments, Folded, Kind, Nodes, Operator, Order, TypeFact, Violations, is_marked,
+};
+use go_base::{NoMemory, Rule, TypeId};
 use go_rules::{
-    Breach, FoldError, LogicOp, Matched, Part, Untyped, as_constant, fold_arithmetic, fold_compare,
+    Breach, FoldError, LogicOp, Matched, Part, as_constant, fold_arithmetic, fold_compare,
     fold_logic, fold_shift, fold_unary, kind_fits, match_compared, match_types, takes_arithmetic,
     takes_comparison, takes_logic, takes_shift, takes_sign, untyped_kind,
 };
@@ -16,7 +16,7 @@ use go_type::{Basic, CompareOp, Const, ConstOp, Types, UnaryOp, basic, int_kind,
 use std::alloc::Global;
 
 /// A constant and its type, which is an untyped one where it has none.
-#[derive(Debug, Drop)]
+#[derive(Drop)]
 pub struct Value {
     pub of: TypeId,
     pub value: Const,
@@ -729,7 +729,7 @@ struct Best {
 }
 
 /// What a conversion of a constant gives.
-#[derive(Debug, Drop)]
+#[derive(Drop)]
 enum Conversion {
     Value(Const),
     OutOfRange,
@@ -749,8 +749,8 @@ fn converted(
             if is_integer {
                 return Ok(made(as_constant(types, value.copy(alloc)?, to)));
             }
-            if crate::denoting::is_basic(types, to, Basic::Text) {
-                let text = crate::literals::text_of_rune(alloc, *number)?;
+            if is_basic(types, to, Basic::Text) {
+                let text = text_of_rune(alloc, *number)?;
                 return Ok(Conversion::Value(Const::Text(text)));
             }
             Ok(Conversion::Bad)

@@ -2,9 +2,11 @@
 //! its parts; a type that is a part of itself has neither.
 
 use crate::denoting::{Denoted, Denoting};
-use crate::graphs::{Order, add_edge, is_marked, no_edges, order_of};
-use crate::nodes::{ElementNode, FieldNode, Kind, Nodes, SignatureNode};
 use crate::values::{Values, length_at};
+use decl_nodes::{
+    ElementNode, FieldNode, Kind, Nodes, Order, SignatureNode, add_edge, is_marked, no_edges,
+    order_of,
+};
 use go_base::{NoMemory, TypeId};
 use go_type::{MAX_LEAVES, TypeTerm, Types};
 use std::alloc::Global;

@@ -1,9 +1,10 @@
 //! The types of nodes, held in the table of types. Go specification, "Types", "Type identity".
 
 use crate::denoting::{Denoted, Denoting};
-use crate::graphs::{add_edge, is_marked, no_edges, order_of};
-use crate::nodes::{ElementNode, FieldNode, Kind, Nodes, SignatureNode};
 use crate::values::{Values, length_at};
+use decl_nodes::{
+    ElementNode, FieldNode, Kind, Nodes, SignatureNode, add_edge, is_marked, no_edges, order_of,
+};
 use go_base::{Bytes, NameId, NoMemory, TypeId};
 use go_type::{Field, Fields, MethodType, MethodTypes, Signature, TypeIds, TypeTerm, Types};
 use indexmap::IndexMap;
@@ -17,7 +18,7 @@ pub struct Shapes {
 }
 
 /// A method of an interface.
-#[derive(Clone, Copy, Debug, PartialEq, Eq, PartialOrd, Ord, Hash)]
+#[derive(Clone, Copy, PartialEq, Eq, PartialOrd, Ord, Hash)]
 pub struct MethodKey {
     pub name: NameId,
     pub package: u32,

@@ -1,15 +1,13 @@
 //! What the nodes of types denote, and their underlying types. Go specification, "Underlying types", "Alias
 //! declarations".
 
-use crate::bases::{Base, TypeFact};
-use crate::graphs::{add_edge, no_edges, order_of};
-use crate::nodes::{Kind, Nodes};
+use decl_nodes::{Base, Kind, Nodes, TypeFact, add_edge, is_marked, no_edges, order_of};
 use go_base::{NoMemory, TypeId};
 use go_type::{Basic, TypeTerm, Types};
 use std::alloc::Global;
 
 /// What a type denotes.
-#[derive(Clone, Copy, Debug, PartialEq, Eq)]
+#[derive(Clone, Copy)]
 pub enum Denoted {
     /// A declared type, by its node.
     Declared(usize),
@@ -67,7 +65,7 @@ fn follow(alloc: Global, nodes: &Nodes, through: bool) -> Result<Vec<Option<Deno
         found.push(None)?;
     }
     for number in order.nodes.as_slice() {
-        if !crate::graphs::is_marked(order.cyclic.as_slice(), *number) {
+        if !is_marked(order.cyclic.as_slice(), *number) {
             let denoted = found_at(nodes, found.as_slice(), *number, through);
             if let Some(place) = found.get_mut(*number) {
                 *place = denoted;

@@ -1,4 +1,4 @@
-use Rattle.go_resolve.proofs.graphs.first_heard.Goals as goal
+use Rattle.decl_nodes.proofs.graphs.first_heard.Goals as goal
 
 pub components_of-requires : goal.components_of-requires
 components_of-requires c = c.is_graph.ensures.0 c.if-not-is_graph.false

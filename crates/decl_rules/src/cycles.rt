@@ -1,9 +1,9 @@
 //! Which declarations stand on themselves. Go specification, "Type declarations", "Constant declarations".
 
-use crate::bases::TypeFact;
-use crate::graphs::{Order, add_edge, is_marked, mark, no_edges, order_of, unmarked};
-use crate::nodes::{FieldNode, Kind, Nodes};
-use crate::tables::{Sort, Tables};
+use decl_nodes::{
+    FieldNode, Kind, Nodes, Order, Sort, Tables, TypeFact, add_edge, is_marked, mark, no_edges,
+    order_of, unmarked,
+};
 use go_base::{NoMemory, Rule};
 use std::alloc::Global;
 

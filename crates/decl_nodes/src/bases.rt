@@ -2,8 +2,9 @@
 //! specification, "Underlying types", "Alias declarations".
 
 use crate::error::lost;
-use crate::graphs::{add_edge, no_edges, order_of};
+use crate::graphs::{add_edge, is_marked, no_edges, order_of};
 use crate::items::{Form, Item};
+use crate::nodes::Kind;
 use crate::tables::{Found, Sort, Spot, Tables};
 use go_ast::Token;
 use go_base::{NoMemory, TypeId};
@@ -13,7 +14,7 @@ use go_syntax::{NamedType, TypeExpr};
 use go_type::{Basic, TypeTerm, Types, basic};
 
 /// The underlying type, as far as constants go.
-#[derive(Clone, Copy, Debug, PartialEq, Eq)]
+#[derive(Clone, Copy)]
 pub enum Base {
     /// There is none.
     Unknown,
@@ -23,7 +24,7 @@ pub enum Base {
 }
 
 /// What is known of a declared type or an alias by the names that it is declared as.
-#[derive(Clone, Copy, Debug)]
+#[derive(Clone, Copy)]
 pub struct TypeFact {
     pub base: Base,
     /// The declared or predeclared type that it denotes.
@@ -35,7 +36,7 @@ pub struct TypeFact {
 }
 
 /// What a type is declared as.
-#[derive(Clone, Copy, Debug)]
+#[derive(Clone, Copy)]
 enum Target {
     Unknown,
     Form,
@@ -64,7 +65,7 @@ pub fn type_facts(tables: &mut Tables, items: &[Item<'_>]) -> Result<Vec<TypeFac
         })?;
     }
     for node in order.nodes.as_slice() {
-        let is_cyclic = crate::graphs::is_marked(order.cyclic.as_slice(), *node);
+        let is_cyclic = is_marked(order.cyclic.as_slice(), *node);
         let fact = fact_of(
             tables,
             targets.as_slice(),
@@ -203,7 +204,7 @@ fn fact_of(
         fact.of = None;
         fact.canon = None;
     }
-    if let Some(crate::nodes::Kind::Defined { of, .. }) = tables.nodes.kind(node) {
+    if let Some(Kind::Defined { of, .. }) = tables.nodes.kind(node) {
         fact.of = Some(*of);
         fact.canon = Some(node);
     }

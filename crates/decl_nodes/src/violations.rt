@@ -9,7 +9,7 @@ use std::alloc::Global;
 const PHASE: u8 = 2;
 
 /// A rule that is violated at a node.
-#[derive(Clone, Copy, Debug)]
+#[derive(Clone, Copy)]
 pub struct Violation {
     pub node: usize,
     pub package: u32,
@@ -20,7 +20,7 @@ pub struct Violation {
 }
 
 /// In what order violations are named.
-#[derive(Clone, Copy, Debug, PartialEq, Eq, PartialOrd, Ord)]
+#[derive(Clone, Copy, PartialEq, Eq, PartialOrd, Ord)]
 struct Rank {
     package: u32,
     at: Pos,

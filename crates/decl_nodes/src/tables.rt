@@ -4,7 +4,7 @@ use crate::error::lost;
 use crate::nodes::{Kind, Nodes};
 use crate::violations::Violations;
 use go_ast::Token;
-use go_base::{NameId, Names, NoMemory, Pos, TypeId};
+use go_base::{NameId, Names, NoMemory, Pos, Rule};
 use go_names::{Entity, Mention, Mentioned, Mentions, Universe};
 use go_sources::SourceFile;
 use go_type::{EXPORTED, Types};
@@ -12,7 +12,7 @@ use indexmap::{IndexMap, IndexSet};
 use std::alloc::Global;
 
 /// How a name is declared at package level.
-#[derive(Clone, Copy, Debug, PartialEq, Eq)]
+#[derive(Clone, Copy, PartialEq, Eq)]
 pub enum Sort {
     Constant,
     Defined,
@@ -22,7 +22,7 @@ pub enum Sort {
 }
 
 /// A name that is declared at package level. Its node has the number of the declaration.
-#[derive(Clone, Copy, Debug)]
+#[derive(Clone, Copy)]
 pub struct Declaration {
     pub sort: Sort,
     pub package: u32,
@@ -35,14 +35,14 @@ pub struct Declaration {
 }
 
 /// A name in the block of a package or of a file.
-#[derive(Clone, Copy, Debug, PartialEq, Eq, Hash)]
+#[derive(Clone, Copy, PartialEq, Eq, Hash)]
 pub struct InBlock {
     pub block: u32,
     pub name: NameId,
 }
 
 /// A name of a part of a node: of a field, a parameter, a method.
-#[derive(Clone, Copy, Debug, PartialEq, Eq, Hash)]
+#[derive(Clone, Copy, PartialEq, Eq, Hash)]
 pub struct InNode {
     pub node: usize,
     pub name: NameId,
@@ -51,7 +51,7 @@ pub struct InNode {
 }
 
 /// An import of a file.
-#[derive(Clone, Copy, Debug)]
+#[derive(Clone, Copy)]
 pub struct Imported {
     /// Which import of its file it is.
     pub index: u32,
@@ -62,7 +62,7 @@ pub struct Imported {
 }
 
 /// What a name stands for.
-#[derive(Clone, Copy, Debug)]
+#[derive(Clone, Copy)]
 pub enum Found {
     Import(Imported),
     Declared(usize),
@@ -71,7 +71,7 @@ pub enum Found {
 }
 
 /// A name of a type in another type.
-#[derive(Clone, Copy, Debug)]
+#[derive(Clone, Copy)]
 pub struct Tie {
     /// The declared type or alias in whose declaration it is.
     pub owner: usize,
@@ -82,7 +82,7 @@ pub struct Tie {
 }
 
 /// A method, and what is read of its receiver.
-#[derive(Clone, Copy, Debug)]
+#[derive(Clone, Copy)]
 pub struct MethodNode {
     pub node: usize,
     pub receiver: usize,
@@ -94,7 +94,7 @@ pub struct MethodNode {
 }
 
 /// Where what is read stands.
-#[derive(Clone, Copy, Debug)]
+#[derive(Clone, Copy)]
 pub struct Spot {
     pub package: u32,
     pub file: u32,
@@ -117,11 +117,37 @@ impl Spot {
 }
 
 /// The names that have a part in the rules.
-#[derive(Clone, Copy, Debug)]
+#[derive(Clone, Copy)]
 pub struct KnownNames {
     pub blank: NameId,
     pub init: NameId,
     pub main: NameId,
+}
+
+impl KnownNames {
+    fn new(names: &mut Names, blank: NameId) -> Result<KnownNames, NoMemory> {
+        Ok(KnownNames {
+            blank,
+            init: names.intern("init")?,
+            main: names.intern("main")?,
+        })
+    }
+}
+
+/// The names of the predeclared type `error` and of its method.
+#[derive(Clone, Copy)]
+struct ErrorNames {
+    name: NameId,
+    method: NameId,
+}
+
+impl ErrorNames {
+    fn new(names: &mut Names) -> Result<ErrorNames, NoMemory> {
+        Ok(ErrorNames {
+            name: names.intern("error")?,
+            method: names.intern("Error")?,
+        })
+    }
 }
 
 /// The tables of a program.
@@ -150,16 +176,22 @@ impl Tables {
     /// The universe alone.
     pub fn new(alloc: Global) -> Result<Tables, NoMemory> {
         let mut names = Names::new(alloc);
-        let error = names.intern("error")?;
-        let method = names.intern("Error")?;
-        let mut types = Types::new(alloc, error, method)?;
+        let error = ErrorNames::new(&mut names)?;
+        let mut types = Types::new(alloc, error.name, error.method)?;
         let universe = Universe::new(alloc, &mut names, &mut types)?;
-        let known = KnownNames {
-            blank: universe.blank(),
-            init: names.intern("init")?,
-            main: names.intern("main")?,
-        };
-        Ok(Tables {
+        let known = KnownNames::new(&mut names, universe.blank())?;
+        Ok(Tables::over(alloc, names, known, types, universe))
+    }
+
+    /// Nothing is declared yet.
+    fn over(
+        alloc: Global,
+        names: Names,
+        known: KnownNames,
+        types: Types,
+        universe: Universe,
+    ) -> Tables {
+        Tables {
             alloc,
             names,
             known,
@@ -174,7 +206,7 @@ impl Tables {
             ties: Vec::new(alloc),
             methods: Vec::new(alloc),
             parts: IndexSet::new(alloc),
-        })
+        }
     }
 
     /// The id of a name as it is written.
@@ -243,7 +275,7 @@ impl Tables {
         &mut self,
         spot: Spot,
         offset: u32,
-        rule: go_base::Rule,
+        rule: Rule,
         on: Option<usize>,
     ) -> Result<usize, NoMemory> {
         let node = self.nodes.push(spot.package, spot.at(offset), Kind::Plain)?;
@@ -260,7 +292,7 @@ impl Tables {
         node: usize,
         spot: Spot,
         offset: u32,
-        rule: go_base::Rule,
+        rule: Rule,
     ) -> Result<(), NoMemory> {
         let part = self.make_bad(spot, offset, rule, None)?;
         self.nodes.stand(node, part)?;

@@ -6,7 +6,7 @@ use go_type::{CompareOp, Const, ConstOp, Dir, UnaryOp};
 use std::alloc::Global;
 
 /// A field of a struct. Go specification, "Struct types".
-#[derive(Debug, Drop)]
+#[derive(Drop)]
 pub struct FieldNode {
     pub name: NameId,
     /// The package of the struct, or `EXPORTED`.
@@ -18,7 +18,7 @@ pub struct FieldNode {
 }
 
 /// An element of an interface. Go specification, "Interface types".
-#[derive(Clone, Copy, Debug)]
+#[derive(Clone, Copy)]
 pub enum ElementNode {
     Own {
         node: usize,
@@ -34,7 +34,7 @@ pub enum ElementNode {
 }
 
 /// The types of parameters and results. Go specification, "Function types".
-#[derive(Debug, Drop)]
+#[derive(Drop)]
 pub struct SignatureNode {
     pub params: Vec<usize>,
     pub results: Vec<usize>,
@@ -42,7 +42,7 @@ pub struct SignatureNode {
 }
 
 /// An operator on two constants.
-#[derive(Clone, Copy, Debug, PartialEq, Eq)]
+#[derive(Clone, Copy)]
 pub enum Operator {
     Arithmetic(ConstOp),
     Logic(LogicOp),
@@ -52,7 +52,7 @@ pub enum Operator {
 }
 
 /// The arguments of a conversion or of a call of a built-in function.
-#[derive(Debug, Drop)]
+#[derive(Drop)]
 pub struct Arguments {
     pub values: Vec<usize>,
     /// The `...` behind them.
@@ -62,7 +62,7 @@ pub struct Arguments {
 }
 
 /// The built-in functions that make constants of constants.
-#[derive(Clone, Copy, Debug, PartialEq, Eq)]
+#[derive(Clone, Copy, PartialEq, Eq)]
 pub enum Folded {
     Length,
     Least,
@@ -70,7 +70,7 @@ pub enum Folded {
 }
 
 /// What a node is.
-#[derive(Debug, Drop)]
+#[derive(Drop)]
 pub enum Kind {
     /// What nothing is computed of.
     Plain,
@@ -146,7 +146,7 @@ pub enum Kind {
 }
 
 /// A node: a part of a declaration.
-#[derive(Debug, Drop)]
+#[derive(Drop)]
 pub struct Node {
     pub package: u32,
     /// Where its rules stand.
