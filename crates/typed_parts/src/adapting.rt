@@ -41,11 +41,7 @@ pub fn assigned(
     }
 }
 
-fn assigned_to(
-    ground: &mut Ground,
-    x: Given,
-    to: TypeId,
-) -> Result<Option<TypedExpr>, NoMemory> {
+fn assigned_to(ground: &mut Ground, x: Given, to: TypeId) -> Result<Option<TypedExpr>, NoMemory> {
     let Given { at, expr } = x;
     match untyped_kind(&ground.types, expr.of) {
         Some(kind) => assigned_untyped(ground, at, expr, kind, to),

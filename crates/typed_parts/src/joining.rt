@@ -5,10 +5,7 @@ use crate::meaning::Given;
 use go_base::{NoMemory, Rule};
 
 /// A first part that came, and a second beside it.
-pub fn beside<A: Drop, B: Drop>(
-    first: Result<A, NoMemory>,
-    second: B,
-) -> Result<(A, B), NoMemory> {
+pub fn beside<A: Drop, B: Drop>(first: Result<A, NoMemory>, second: B) -> Result<(A, B), NoMemory> {
     match first {
         Ok(first) => Ok((first, second)),
         Err(NoMemory) => Err(NoMemory),

@@ -35,9 +35,7 @@ pub use nodes::{
     boxed, boxed_both, boxed_sound, boxes, constant, function, function_literal, integer_literal,
     iota, nil, node, rune_literal, text_literal, variable,
 };
-pub use numbers::{
-    as_untyped, integer_of, is_constant, text_length, whole_index, with_text_type,
-};
+pub use numbers::{as_untyped, integer_of, is_constant, text_length, whole_index, with_text_type};
 pub use retyping::{and_also, binary_of, defaulted, or_else, rekinded, retyped};
 pub use several::{place_of, several_parts};
 pub use shapes::{Shape, elem_of, is_text, is_untyped_text, pointed, shape_of};
