@@ -11,7 +11,7 @@ use go_type::Const;
 use indexmap::IndexSet;
 use std::alloc::Global;
 use typed_operators::{case_value, switch_tag, truth_case};
-use typed_parts::one_value;
+use typed_parts::{beside, one_value};
 use typed_primaries::{asserted_case, interface_operand};
 
 /// What the cases of a switch are compared with.
@@ -142,21 +142,33 @@ impl<'s> Walker<'s> {
             Tag::Truth => truth_case(self.scope.ground(), seen)?,
             Tag::Of(Some(of)) => case_value(self.scope.ground(), of, seen)?,
             Tag::Of(None) => {
-                let _ = one_value(self.scope.ground(), seen);
+                drop(one_value(self.scope.ground(), seen));
                 None
             }
         };
         let Some(case) = case else {
             return Ok(None);
         };
-        let key = key_of(self.alloc, before_interface(&case.value))?;
-        if let Some(key) = key {
-            if !cases.constants.insert(key)? {
-                self.report(at, Rule::BadCase);
-                return Ok(None);
-            }
+        let is_new = self.is_new_value(at, &case, cases);
+        let (is_new, case) = beside(is_new, case)?;
+        Ok(is_new.then_some(case))
+    }
+
+    /// Whether a case is no constant that came before.
+    fn is_new_value(
+        &mut self,
+        at: Pos,
+        case: &TypedCase,
+        cases: &mut Cases,
+    ) -> Result<bool, NoMemory> {
+        let Some(key) = key_of(self.alloc, before_interface(&case.value))? else {
+            return Ok(true);
+        };
+        let is_new = cases.constants.insert(key)?;
+        if !is_new {
+            self.report(at, Rule::BadCase);
         }
-        Ok(Some(case))
+        Ok(is_new)
     }
 
     /// The word `default` of a clause.
@@ -178,24 +190,16 @@ impl<'s> Walker<'s> {
         let seen = self.see(operand)?;
         let given = interface_operand(self.scope.ground(), seen);
         let bound = match binding {
-            Some(binding) => self.see_binding(binding.name, given.is_some())?,
-            None => None,
+            Some(binding) => self.see_binding(binding.name, given.is_some()),
+            None => Ok(None),
         };
+        let (binding, given) = beside(bound, given)?;
         match given {
             Some(given) => {
-                let matched = Matched {
-                    of: Some(given.expr.of),
-                    binding: bound,
-                };
-                Ok((Some(given.expr), matched))
+                let of = Some(given.expr.of);
+                Ok((Some(given.expr), Matched { of, binding }))
             }
-            None => Ok((
-                None,
-                Matched {
-                    of: None,
-                    binding: bound,
-                },
-            )),
+            None => Ok((None, Matched { of: None, binding })),
         }
     }
 

@@ -2,7 +2,7 @@
 
 use crate::choosing::{Cases, Matched, SeenTag, Tag};
 use crate::receiving::SeenComm;
-use crate::steps::{First, Gathered, Steps, WalkedArm, WalkedBlock, with_last};
+use crate::steps::{First, Gathered, Steps, WalkedArm, WalkedBlock};
 use crate::walker::Walker;
 use go_ast::Token;
 use go_base::{NameId, NoMemory, Pos, Rule, VarId};
@@ -10,6 +10,7 @@ use go_expr::see_decl;
 use go_syntax::{Decl, Expr, IfArm, Label, ListedExpr, Stmt, TypeSwitchStmt};
 use go_tree::{Comm, TypeCase, TypeClause, TypedArm, TypedCase, TypedClause, TypedExpr, TypedStmt};
 use typed_operators::condition;
+use typed_parts::{only, with_last};
 
 /// Labels whose statement begins.
 #[derive(Drop)]
@@ -132,14 +133,14 @@ impl<'s> Walker<'s> {
         body: WalkedBlock,
     ) -> WalkedArm {
         let ends = body.ends;
-        let arm = match (condition, body.block) {
-            (Some(condition), Some(body)) if init.is_sound => Some(TypedArm {
+        let arm = match only(condition.zip(body.block), init.is_sound) {
+            Some((condition, body)) => Some(TypedArm {
                 at: self.at(word),
                 init: init.stmt,
                 condition,
                 body,
             }),
-            _ => None,
+            None => None,
         };
         WalkedArm { arm, ends }
     }
@@ -169,13 +170,13 @@ impl<'s> Walker<'s> {
             return steps.push(stmt, false);
         };
         let ends = all_end && last.ends;
-        let stmt = match (walked.items, last.block) {
-            (Some(arms), Some(block)) => Some(TypedStmt::If {
+        let stmt = match walked.items.zip(last.block) {
+            Some((arms, block)) => Some(TypedStmt::If {
                 at,
                 arms,
                 otherwise: Some(block),
             }),
-            _ => None,
+            None => None,
         };
         steps.push(stmt, ends)
     }
@@ -204,14 +205,12 @@ impl<'s> Walker<'s> {
         clauses: Option<Vec<TypedClause>>,
         close: Token,
     ) -> Option<TypedStmt> {
-        let clauses = clauses?;
-        if !init.is_sound || !tag.is_sound() {
-            return None;
-        }
+        let is_sound = init.is_sound && tag.is_sound();
+        let (clauses, tag) = only(clauses, is_sound).zip(Some(tag.expr))?;
         Some(TypedStmt::Switch {
             at: self.at(word),
             init: init.stmt,
-            tag: tag.expr,
+            tag,
             clauses,
             end: self.at(close),
         })
@@ -275,11 +274,8 @@ impl<'s> Walker<'s> {
         matched: Matched,
         clauses: Option<Vec<TypeClause>>,
     ) -> Option<TypedStmt> {
-        let operand = operand?;
-        let clauses = clauses?;
-        if !init.is_sound || switch.binding.is_some() != matched.binding.is_some() {
-            return None;
-        }
+        let is_bound = switch.binding.is_some() == matched.binding.is_some();
+        let (operand, clauses) = only(operand.zip(clauses), init.is_sound && is_bound)?;
         Some(TypedStmt::TypeSwitch {
             at: self.at(switch.word),
             init: init.stmt,
@@ -312,15 +308,13 @@ impl<'s> Walker<'s> {
         post: First,
         body: WalkedBlock,
     ) -> Option<TypedStmt> {
-        let body = body.block?;
-        if !init.is_sound || !condition.is_sound || !post.is_sound {
-            return None;
-        }
+        let is_sound = init.is_sound && condition.is_sound && post.is_sound;
+        let (body, condition) = only(body.block, is_sound).zip(Some(condition.condition))?;
         Some(TypedStmt::For {
             at: self.at(word),
             fresh: self.fresh,
             init: init.stmt,
-            condition: condition.condition,
+            condition,
             post: post.stmt,
             body,
         })

@@ -7,6 +7,7 @@ use go_names::{Entity, Mention, Mentioned};
 use go_syntax::{Expr, ListedExpr, ListedName, ValueSpec};
 use go_tree::{DefineTarget, TypedStmt, Values};
 use indexmap::IndexSet;
+use typed_parts::{beside, only};
 use typed_primaries::{Into, Listed, values_into};
 
 /// A name on the left of `:=`.
@@ -46,6 +47,14 @@ pub struct Specified {
     /// The written type, where it is sound; outside None where there is none.
     pub form: Option<Option<TypeId>>,
     pub listed: Option<Listed>,
+}
+
+/// The variables that a specification declares.
+#[derive(Drop)]
+struct SpecNames {
+    variables: Vec<VarId>,
+    /// Whether the written type is sound, and each name is new in its block.
+    is_sound: bool,
 }
 
 impl<'s> Walker<'s> {
@@ -169,14 +178,15 @@ impl<'s> Walker<'s> {
             is_sound,
         } = defining;
         let Listed { values, types } = listed;
-        let targets = self.declare_lefts(lefts.names.as_slice(), types.as_slice())?;
-        match values {
-            Some(values) if is_sound => Ok(Some(TypedStmt::Define {
+        let targets = self.declare_lefts(lefts.names.as_slice(), types.as_slice());
+        let (targets, values) = beside(targets, values)?;
+        match only(values, is_sound) {
+            Some(values) => Ok(Some(TypedStmt::Define {
                 at,
                 targets,
                 values,
             })),
-            _ => Ok(None),
+            None => Ok(None),
         }
     }
 
@@ -249,31 +259,44 @@ impl<'s> Walker<'s> {
         specified: Specified,
     ) -> Result<Option<TypedStmt>, NoMemory> {
         let Specified { form, listed } = specified;
-        let mut variables = Vec::new(self.alloc);
-        let mut is_sound = form != Some(None);
-        for (index, name) in names.iter().enumerate() {
-            let of = match form {
-                Some(of) => of,
-                None => type_at(&listed, index),
-            };
-            if self.is_taken(name.name)? {
-                self.report(self.at(name.name), Rule::RedeclaredInThisBlock);
-                is_sound = false;
-            } else {
-                variables.push(self.declare(name.name, of)?)?;
-            }
-        }
-        if !is_sound {
-            return Ok(None);
-        }
-        match listed {
-            None => Ok(Some(TypedStmt::Var {
+        let declared = self.declare_spec(names, form, &listed);
+        let (declared, listed) = beside(declared, listed)?;
+        let variables = declared.variables;
+        match only(Some(listed), declared.is_sound) {
+            None => Ok(None),
+            Some(None) => Ok(Some(TypedStmt::Var {
                 at,
                 variables,
                 values: None,
             })),
-            Some(listed) => Ok(var_with(at, variables, listed.values)),
+            Some(Some(listed)) => Ok(var_with(at, variables, listed.values)),
         }
+    }
+
+    /// Declares the names of a specification of variables.
+    fn declare_spec(
+        &mut self,
+        names: &[ListedName],
+        form: Option<Option<TypeId>>,
+        listed: &Option<Listed>,
+    ) -> Result<SpecNames, NoMemory> {
+        let mut declared = SpecNames {
+            variables: Vec::new(self.alloc),
+            is_sound: form != Some(None),
+        };
+        for (index, name) in names.iter().enumerate() {
+            let of = match form {
+                Some(of) => of,
+                None => type_at(listed, index),
+            };
+            if self.is_taken(name.name)? {
+                self.report(self.at(name.name), Rule::RedeclaredInThisBlock);
+                declared.is_sound = false;
+            } else {
+                declared.variables.push(self.declare(name.name, of)?)?;
+            }
+        }
+        Ok(declared)
     }
 
     /// Whether the innermost block has a name, which is not `_`.

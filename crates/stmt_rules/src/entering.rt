@@ -2,6 +2,7 @@
 //! declarations", "Method declarations", "Function literals".
 
 use crate::frames::{Frame, ResultOf};
+use crate::joining::kept;
 use crate::steps::Steps;
 use crate::uses::mentions_from;
 use crate::walker::Walker;
@@ -120,6 +121,18 @@ impl<'s> Walker<'s> {
             first_mention: self.scope.mention_count(),
             outer,
         };
+        let done = self.enter_names(receiver, signature, &types, &mut entered);
+        kept(entered, done)
+    }
+
+    /// The block of a function begins, with its receiver, parameters and results.
+    fn enter_names(
+        &mut self,
+        receiver: &Option<Params>,
+        signature: &Signature,
+        types: &SignatureTypes,
+        entered: &mut Entered,
+    ) -> Result<(), NoMemory> {
         self.scope.open_block()?;
         if let Some(receiver) = receiver {
             let names = self.names_of(&receiver.params)?;
@@ -129,8 +142,7 @@ impl<'s> Walker<'s> {
         let names = self.names_of(&signature.params.params)?;
         self.add_params(&names, &types.params, &mut entered.params)?;
         let names = self.result_names(&signature.result)?;
-        self.add_results(&names, &types.results, &mut entered.results)?;
-        Ok(entered)
+        self.add_results(&names, &types.results, &mut entered.results)
     }
 
     /// The names of parameters, in order; None where there is none, with the place of the type.
@@ -223,7 +235,7 @@ impl<'s> Walker<'s> {
             self.report_later(self.at(block.close), Rule::MissingReturn);
         }
         let captured = self.captured(entered.first_variable, entered.first_mention)?;
-        let (Some(function), Some(statements)) = (entered.function, steps.into_statements()) else {
+        let Some((function, statements)) = entered.function.zip(steps.into_statements()) else {
             return Ok(());
         };
         let body = Body {

@@ -9,6 +9,7 @@ mod composing;
 mod defining;
 mod entering;
 mod frames;
+mod joining;
 mod ranging;
 mod receiving;
 mod simple;

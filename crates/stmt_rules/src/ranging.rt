@@ -2,7 +2,6 @@
 
 use crate::defining::{Left, Lefts};
 use crate::simple::Side;
-use crate::steps::with_last;
 use crate::walker::Walker;
 use go_ast::{Kind, Token};
 use go_base::{NoMemory, Pos, Rule, TypeId, VarId};
@@ -10,7 +9,7 @@ use go_places::expr_start;
 use go_syntax::{Expr, ListedExpr};
 use go_tree::{DefineTarget, RangeOver, RangeTargets, Target, TypedExpr};
 use typed_operators::{Ranged, range_operand};
-use typed_parts::assigned_part;
+use typed_parts::{assigned_part, beside, only, with_last};
 
 /// The targets of a range that were seen; names among them are not declared yet.
 #[derive(Drop)]
@@ -31,6 +30,13 @@ pub struct SeenRange {
     pub is_sound: bool,
 }
 
+/// The targets of a range, and whether they break no rule.
+#[derive(Drop)]
+struct AskedTargets {
+    targets: SeenTargets,
+    is_sound: bool,
+}
+
 /// What a range goes over, with its targets.
 #[derive(Drop)]
 pub struct Head {
@@ -49,36 +55,43 @@ impl<'s> Walker<'s> {
     ) -> Result<SeenRange, NoMemory> {
         let seen = self.see(operand)?;
         let ranged = range_operand(self.scope.ground(), seen)?;
-        let is_define = match operator {
-            Some(operator) => operator.kind == Kind::Define,
-            None => false,
-        };
+        let asked = self.range_targets(targets, operator, &ranged);
+        let (asked, ranged) = beside(asked, ranged)?;
+        Ok(SeenRange {
+            ranged,
+            targets: asked.targets,
+            is_sound: asked.is_sound,
+        })
+    }
+
+    /// The targets of a range over an operand.
+    fn range_targets(
+        &mut self,
+        targets: &[ListedExpr],
+        operator: Option<Token>,
+        ranged: &Option<Ranged>,
+    ) -> Result<AskedTargets, NoMemory> {
         let Some(first) = targets.first() else {
-            return Ok(SeenRange {
-                ranged,
+            return Ok(AskedTargets {
                 targets: SeenTargets::None,
                 is_sound: true,
             });
         };
         let at = self.pos(expr_start(&first.expr));
-        let mut is_sound = self.has_room(at, targets.len(), &ranged);
-        if is_define {
+        let has_room = self.has_room(at, targets.len(), ranged);
+        if is_define(operator) {
             let lefts = self.range_names(at, targets, ranged.is_some())?;
-            is_sound = is_sound && lefts.is_sound;
-            Ok(SeenRange {
-                ranged,
+            return Ok(AskedTargets {
+                is_sound: has_room && lefts.is_sound,
                 targets: SeenTargets::Define(lefts),
-                is_sound,
-            })
-        } else {
-            let sides = self.sides(targets)?;
-            let parts = self.range_parts(targets, &sides, &ranged)?;
-            Ok(SeenRange {
-                ranged,
-                targets: SeenTargets::Assign { sides, parts },
-                is_sound,
-            })
+            });
         }
+        let sides = self.sides(targets)?;
+        let parts = self.range_parts(targets, &sides, ranged)?;
+        Ok(AskedTargets {
+            targets: SeenTargets::Assign { sides, parts },
+            is_sound: has_room,
+        })
     }
 
     /// Whether what is gone over gives so many values.
@@ -168,21 +181,39 @@ impl<'s> Walker<'s> {
             Some(ranged) => [Some(ranged.key), ranged.value],
             None => [None, None],
         };
-        let targets = match targets {
-            SeenTargets::None => Some(RangeTargets::None),
-            SeenTargets::Assign { sides, parts } => assigned_targets(sides, parts),
+        let targets = self.finish_targets(targets, &types);
+        let (targets, ranged) = beside(targets, ranged)?;
+        match only(ranged.zip(targets), is_sound) {
+            Some((ranged, targets)) => Ok(Some(head_of(ranged, targets))),
+            None => Ok(None),
+        }
+    }
+
+    /// The targets of a range whose key and value have these types.
+    fn finish_targets(
+        &mut self,
+        targets: SeenTargets,
+        types: &[Option<TypeId>],
+    ) -> Result<Option<RangeTargets>, NoMemory> {
+        match targets {
+            SeenTargets::None => Ok(Some(RangeTargets::None)),
+            SeenTargets::Assign { sides, parts } => Ok(assigned_targets(sides, parts)),
             SeenTargets::Define(lefts) => {
-                let targets = self.declare_lefts(lefts.names.as_slice(), &types)?;
-                Some(RangeTargets::Define {
+                let targets = self.declare_lefts(lefts.names.as_slice(), types)?;
+                Ok(Some(RangeTargets::Define {
                     key: new_variable(targets.first()),
                     value: new_variable(targets.get(1)),
-                })
+                }))
             }
-        };
-        match (ranged, targets) {
-            (Some(ranged), Some(targets)) if is_sound => Ok(Some(head_of(ranged, targets))),
-            _ => Ok(None),
         }
+    }
+}
+
+/// Whether a range declares its targets.
+fn is_define(operator: Option<Token>) -> bool {
+    match operator {
+        Some(operator) => operator.kind == Kind::Define,
+        None => false,
     }
 }
 
@@ -196,17 +227,19 @@ fn new_variable(target: Option<&DefineTarget>) -> Option<VarId> {
 
 /// Where key and value are assigned to, where all are sound.
 fn assigned_targets(sides: Vec<Side>, parts: Option<Vec<TypedExpr>>) -> Option<RangeTargets> {
-    let parts = parts?;
     let mut sides = sides.into_iter();
-    let key = match sides.next() {
-        Some(side) => Some(target_of(side)?),
-        None => None,
-    };
-    let value = match sides.next() {
-        Some(side) => Some(target_of(side)?),
-        None => None,
-    };
+    let key = next_target(sides.next());
+    let value = next_target(sides.next());
+    let ((key, value), parts) = key.zip(value).zip(parts)?;
     Some(RangeTargets::Assign { key, value, parts })
+}
+
+/// The target that a side is, where there is one. None where it is unsound.
+fn next_target(side: Option<Side>) -> Option<Option<Target>> {
+    match side {
+        Some(side) => Some(Some(target_of(side)?)),
+        None => Some(None),
+    }
 }
 
 fn target_of(side: Side) -> Option<Target> {

@@ -1,8 +1,8 @@
 //! The cases of a select. Go specification, "Select statements".
 
 use crate::defining::{Left, Lefts};
+use crate::joining::nothing;
 use crate::simple::{Side, targets_of};
-use crate::steps::with_last;
 use crate::walker::Walker;
 use go_base::{NoMemory, Pos, Rule, TypeId};
 use go_places::{expr_start, stmt_start};
@@ -10,7 +10,7 @@ use go_syntax::{Expr, ListedExpr, Stmt};
 use go_tree::{Comm, ExprKind, ReceiveInto, TypedExpr};
 use go_type::{Basic, basic};
 use typed_operators::send;
-use typed_parts::{Given, assigned_ok, assigned_part};
+use typed_parts::{Given, assigned_ok, assigned_part, beside, both, only, with_last};
 
 /// A case of a select that was seen, and whose names are not declared yet.
 #[derive(Drop)]
@@ -41,7 +41,7 @@ fn receive_of(expr: TypedExpr) -> Option<Received> {
             channel: Box::into_inner(channel),
             of,
         }),
-        _ => None,
+        kind => nothing(kind),
     }
 }
 
@@ -73,7 +73,7 @@ impl<'s> Walker<'s> {
 
     fn comm_send(&mut self, channel: &Expr, value: &Expr) -> Result<SeenComm, NoMemory> {
         let channel = self.see(channel)?;
-        let value = self.see(value)?;
+        let (value, channel) = beside(self.see(value), channel)?;
         match send(self.scope.ground(), channel, value)? {
             Some(sent) => Ok(SeenComm::Whole(Comm::Send {
                 channel: sent.channel,
@@ -122,24 +122,32 @@ impl<'s> Walker<'s> {
         if are_sound && !is_receive(&given.expr) {
             self.report(at, Rule::BadChannelOperation);
         }
-        let value_at = given.at;
-        let of = given.expr.of;
-        let received = receive_of(given.expr);
-        let Some(received) = received else {
-            return Ok(SeenComm::Unsound);
-        };
-        let parts = self.parts_of(value_at, of, &sides)?;
-        let targets = targets_of(self.alloc, sides)?;
-        let Some((targets, parts)) = targets.zip(parts) else {
-            return Ok(SeenComm::Unsound);
-        };
-        if targets.len() > 2 {
-            return Ok(SeenComm::Unsound);
+        let (value_at, of) = (given.at, given.expr.of);
+        match receive_of(given.expr) {
+            Some(received) => self.assigned_comm(value_at, of, received, sides),
+            None => Ok(SeenComm::Unsound),
         }
-        Ok(SeenComm::Whole(Comm::Receive {
-            channel: received.channel,
-            into: ReceiveInto::Assign { targets, parts },
-        }))
+    }
+
+    /// A receive that assigns what is received, of a type, to sides.
+    fn assigned_comm(
+        &mut self,
+        at: Pos,
+        of: TypeId,
+        received: Received,
+        sides: Vec<Side>,
+    ) -> Result<SeenComm, NoMemory> {
+        let fits = sides.len() <= 2;
+        let parts = self.parts_of(at, of, &sides);
+        let into = both(targets_of(self.alloc, sides), parts);
+        let (into, received) = beside(into, received)?;
+        match only(into, fits).zip(Some(received.channel)) {
+            Some(((targets, parts), channel)) => Ok(SeenComm::Whole(Comm::Receive {
+                channel,
+                into: ReceiveInto::Assign { targets, parts },
+            })),
+            None => Ok(SeenComm::Unsound),
+        }
     }
 
     /// What is received, as values of the sides: the element, and whether it was sent.
@@ -217,13 +225,14 @@ impl<'s> Walker<'s> {
             SeenComm::Define { channel, of, lefts } => {
                 let truth = of.map(|_| basic(Basic::Bool));
                 let types = [of, truth];
-                let targets = self.declare_lefts(lefts.names.as_slice(), &types)?;
-                match channel {
-                    Some(channel) if lefts.is_sound => Ok(Some(Comm::Receive {
+                let targets = self.declare_lefts(lefts.names.as_slice(), &types);
+                let (targets, channel) = beside(targets, channel)?;
+                match only(channel, lefts.is_sound) {
+                    Some(channel) => Ok(Some(Comm::Receive {
                         channel,
                         into: ReceiveInto::Define { targets },
                     })),
-                    _ => Ok(None),
+                    None => Ok(None),
                 }
             }
         }

@@ -2,6 +2,7 @@
 //! specification, "Expression statements", "Send statements", "IncDec statements", "Assignment statements", "Go statements",
 //! "Defer statements", "Return statements", "Break statements", "Continue statements".
 
+use crate::joining::nothing;
 use crate::walker::{Walker, are_values, bare_name};
 use go_ast::{Kind, Token};
 use go_base::{NoMemory, Pos, Rule};
@@ -12,7 +13,7 @@ use go_tree::{ExprKind, Target, TypedExpr, TypedStmt};
 use go_type::{BinaryOp, Builtin};
 use std::alloc::Global;
 use typed_operators::{binary_expression, send, step, target};
-use typed_parts::{Meaning, Seen, is_place, value_of};
+use typed_parts::{Meaning, Seen, asked, beside, is_place, only, value_of};
 use typed_primaries::{Into, Listed, values_into};
 
 /// A side of an assignment.
@@ -113,7 +114,7 @@ fn assigned_op(kind: Kind) -> Option<BinaryOp> {
 }
 
 /// The one expression of a list.
-fn only(exprs: &[ListedExpr]) -> Option<&Expr> {
+fn single(exprs: &[ListedExpr]) -> Option<&Expr> {
     match exprs {
         [one] => Some(&one.expr),
         _ => None,
@@ -146,14 +147,14 @@ impl<'s> Walker<'s> {
         let Some(given) = self.see_value(expr)? else {
             return Ok(None);
         };
-        if !stands_alone(&given.expr) {
-            self.report(given.at, Rule::ResultNotUsed);
-            return Ok(None);
+        let holds = stands_alone(&given.expr);
+        match asked(self.scope.ground(), given, holds, Rule::ResultNotUsed) {
+            Some(given) => Ok(Some(TypedStmt::Expr {
+                at,
+                expr: given.expr,
+            })),
+            None => Ok(None),
         }
-        Ok(Some(TypedStmt::Expr {
-            at,
-            expr: given.expr,
-        }))
     }
 
     fn send(
@@ -163,7 +164,7 @@ impl<'s> Walker<'s> {
         value: &Expr,
     ) -> Result<Option<TypedStmt>, NoMemory> {
         let channel = self.see(channel)?;
-        let value = self.see(value)?;
+        let (value, channel) = beside(self.see(value), channel)?;
         match send(self.scope.ground(), channel, value)? {
             Some(sent) => Ok(Some(TypedStmt::Send {
                 at,
@@ -272,7 +273,7 @@ impl<'s> Walker<'s> {
         op: BinaryOp,
         values: &[ListedExpr],
     ) -> Result<Option<TypedStmt>, NoMemory> {
-        match (only(targets), only(values)) {
+        match (single(targets), single(values)) {
             (Some(side), Some(value)) => self.assign_one(at, side, op, value),
             _ => self.assign_many(at, targets, values),
         }
@@ -310,7 +311,7 @@ impl<'s> Walker<'s> {
         value: &Expr,
     ) -> Result<Option<TypedStmt>, NoMemory> {
         let side = self.see(side)?;
-        let value = self.see(value)?;
+        let (value, side) = beside(self.see(value), side)?;
         let is_target = match &side.meaning {
             Some(Meaning::Value(expr)) => can_be_assigned(expr),
             _ => true,
@@ -318,12 +319,10 @@ impl<'s> Walker<'s> {
         if !is_target {
             self.report(side.at, Rule::CannotAssign);
         }
-        let Some(whole) = binary_expression(self.scope.ground(), op, side, value)? else {
+        let whole = binary_expression(self.scope.ground(), op, side, value)?;
+        let Some(whole) = only(whole, is_target) else {
             return Ok(None);
         };
-        if !is_target {
-            return Ok(None);
-        }
         match whole.kind {
             ExprKind::BinaryOf { op, left, right } => Ok(Some(TypedStmt::AssignOp {
                 at,
@@ -331,7 +330,7 @@ impl<'s> Walker<'s> {
                 op,
                 value: Box::into_inner(right),
             })),
-            _ => Ok(None),
+            kind => Ok(nothing(kind)),
         }
     }
 
@@ -355,12 +354,11 @@ impl<'s> Walker<'s> {
         let Some(given) = self.see_value(call)? else {
             return Ok(None);
         };
-        let is_call = matches!(call, Expr::Call { .. });
-        if !is_call || !stands_alone(&given.expr) {
-            self.report(given.at, Rule::BadGoOrDefer);
-            return Ok(None);
+        let holds = matches!(call, Expr::Call { .. }) && stands_alone(&given.expr);
+        match asked(self.scope.ground(), given, holds, Rule::BadGoOrDefer) {
+            Some(given) => Ok(Some(given.expr)),
+            None => Ok(None),
         }
-        Ok(Some(given.expr))
     }
 
     fn returning(

@@ -3,6 +3,7 @@
 use go_base::{NameId, NoMemory, Pos};
 use go_tree::{TypedArm, TypedBlock, TypedStmt};
 use std::alloc::Global;
+use typed_parts::with_last;
 
 /// Where a statement stands.
 #[derive(Clone, Copy)]
@@ -151,18 +152,6 @@ impl WalkedBlock {
 pub struct WalkedArm {
     pub arm: Option<TypedArm>,
     pub ends: bool,
-}
-
-/// One more item, where all are sound.
-pub fn with_last<T: Drop>(
-    items: Option<Vec<T>>,
-    last: Option<T>,
-) -> Result<Option<Vec<T>>, NoMemory> {
-    let Some((mut items, last)) = items.zip(last) else {
-        return Ok(None);
-    };
-    items.push(last)?;
-    Ok(Some(items))
 }
 
 /// Items of a list, as long as all are sound, and whether each ends.

@@ -1,6 +1,7 @@
 //! What is kept while initialisers and bodies are walked.
 
 use crate::frames::Frame;
+use crate::joining::kept;
 use crate::uses::{Holder, Needs, Reading};
 use go_ast::Token;
 use go_base::{NameId, NoMemory, Pos, Rule, TypeId};
@@ -149,11 +150,19 @@ impl<'s> Walker<'s> {
 
     /// Keeps the body of a function.
     pub fn keep_body(&mut self, function: usize, body: Body) -> Result<(), NoMemory> {
+        let room = self.make_room(function);
+        let body = kept(body, room)?;
+        match self.bodies.get_mut(function) {
+            Some(place) => drop(std::mem::replace(place, Some(body))),
+            None => drop(body),
+        }
+        Ok(())
+    }
+
+    /// Makes room for the body of a function.
+    fn make_room(&mut self, function: usize) -> Result<(), NoMemory> {
         for _ in self.bodies.len()..function.saturating_add(1) {
             self.bodies.push(None)?;
-        }
-        if let Some(place) = self.bodies.get_mut(function) {
-            *place = Some(body);
         }
         Ok(())
     }
