@@ -1,11 +1,11 @@
 //! The declarations of a program.
 
 use crate::error::lost;
-use crate::finishing::finish;
+use crate::finishing::{Gathered, declared, gather};
 use crate::reading::Reader;
 use decl_nodes::{
-    Item, Listed, PackageOrder, Tables, TypeFact, collect, define_basic, list_files, order_of,
-    order_packages, read_imports, type_facts,
+    Item, Listed, PackageOrder, Tables, TypeFact, Violations, collect, define_basic, list_files,
+    order_of, order_packages, read_imports, type_facts,
 };
 use decl_rules::{ask_rules, holding};
 use go_declared::{CheckError, Declared};
@@ -41,43 +41,52 @@ fn declare_items(
     files: &[Listed<'_>],
     items: &[Item<'_>],
     tables: Tables,
-    type_facts: Vec<TypeFact>,
+    facts: Vec<TypeFact>,
 ) -> Result<Declared, CheckError> {
-    let mut reader = Reader {
-        tables,
-        facts: type_facts,
-    };
-    let made = reader.read_items(items)?;
-    let Reader {
-        mut tables,
-        facts: type_facts,
-    } = reader;
-    let holds = order_of(alloc, holding(alloc, &tables.nodes)?.as_slice())?;
-    let facts = ask_rules(alloc, &mut tables, type_facts.as_slice(), &holds)?;
-    if tables.violations.is_empty() {
-        let declared = finish(
-            alloc,
-            sources,
-            order,
-            files,
-            items,
-            made.as_slice(),
-            tables,
-            &facts,
-            &holds,
-        )?;
-        return Ok(declared);
-    }
-    refuse(alloc, tables)
+    let mut reader = Reader { tables, facts };
+    let gathered = judge(alloc, sources, order, files, items, &mut reader)?;
+    Ok(declared(alloc, reader.tables, gathered))
 }
 
-/// Names the first rule that is broken.
-fn refuse(alloc: Global, tables: Tables) -> Result<Declared, CheckError> {
-    match tables.violations.first(alloc, &tables.nodes)? {
-        Some(violation) => Err(CheckError::Refused {
+/// Reads the items, asks the rules, and gathers what is declared where none is broken.
+fn judge(
+    alloc: Global,
+    sources: &Sources,
+    order: &PackageOrder,
+    files: &[Listed<'_>],
+    items: &[Item<'_>],
+    reader: &mut Reader,
+) -> Result<Gathered, CheckError> {
+    let made = reader.read_items(items)?;
+    let tables = &mut reader.tables;
+    let holds = order_of(alloc, holding(alloc, &tables.nodes)?.as_slice())?;
+    let facts = ask_rules(alloc, tables, reader.facts.as_slice(), &holds)?;
+    if !tables.violations.is_empty() {
+        return Err(refusal(alloc, tables));
+    }
+    let gathered = gather(
+        alloc,
+        sources,
+        order,
+        files,
+        items,
+        made.as_slice(),
+        tables,
+        &facts,
+        &holds,
+    )?;
+    Ok(gathered)
+}
+
+/// The first rule that is broken.
+fn refusal(alloc: Global, tables: &mut Tables) -> CheckError {
+    let violations = std::mem::replace(&mut tables.violations, Violations::new(alloc));
+    match violations.first(alloc, &tables.nodes) {
+        Ok(Some(violation)) => CheckError::Refused {
             pos: violation.at,
             rule: violation.rule,
-        }),
-        None => Err(CheckError::from(lost())),
+        },
+        Ok(None) => CheckError::from(lost()),
+        Err(error) => CheckError::from(error),
     }
 }

@@ -49,45 +49,30 @@ struct Whole {
     error_string: TypeId,
 }
 
-/// What the declarations give. No rule is violated.
-pub fn finish(
+/// What the declarations give beside the tables.
+#[derive(Drop)]
+pub struct Gathered {
+    finisher: Finisher,
+    whole: Whole,
+}
+
+/// Gathers what the declarations give. No rule is violated.
+pub fn gather(
     alloc: Global,
     sources: &Sources,
     order: &PackageOrder,
     files: &[Listed<'_>],
     items: &[Item<'_>],
     made: &[Made],
-    tables: Tables,
-    facts: &Facts,
-    holds: &Order,
-) -> Result<Declared, NoMemory> {
-    let mut tables = tables;
-    define_types(&mut tables, facts, holds)?;
-    let finisher = gather(alloc, sources, order, items, made, &mut tables, facts)?;
-    let whole = Whole::new(alloc, sources, order, files, &mut tables)?;
-    Ok(declared(alloc, tables, finisher, whole))
-}
-
-/// Gathers what each item gives.
-fn gather(
-    alloc: Global,
-    sources: &Sources,
-    order: &PackageOrder,
-    items: &[Item<'_>],
-    made: &[Made],
     tables: &mut Tables,
     facts: &Facts,
-) -> Result<Finisher, NoMemory> {
+    holds: &Order,
+) -> Result<Gathered, NoMemory> {
+    define_types(tables, facts, holds)?;
     let mut finisher = Finisher::new(alloc, plain_function(alloc, tables)?);
-    for (index, item) in items.iter().enumerate() {
-        let Some(made) = made.get(index).copied() else {
-            return Err(lost());
-        };
-        finisher.begin_packages(tables, order, sources, item.listed.package as usize + 1)?;
-        finisher.add_item(tables, facts, item, made)?;
-    }
-    finisher.begin_packages(tables, order, sources, order.loaded.len())?;
-    Ok(finisher)
+    finisher.add_items(sources, order, items, made, tables, facts)?;
+    let whole = Whole::new(alloc, sources, order, files, tables)?;
+    Ok(Gathered { finisher, whole })
 }
 
 impl Whole {
@@ -108,7 +93,8 @@ impl Whole {
 }
 
 /// All of it together.
-fn declared(alloc: Global, tables: Tables, finisher: Finisher, whole: Whole) -> Declared {
+pub fn declared(alloc: Global, tables: Tables, gathered: Gathered) -> Declared {
+    let Gathered { finisher, whole } = gathered;
     Declared {
         names: tables.names,
         types: tables.types,
@@ -248,6 +234,26 @@ impl Finisher {
         }
         self.begun = self.begun.max(count);
         Ok(())
+    }
+
+    /// Adds what each item gives, and what initialises each package.
+    fn add_items(
+        &mut self,
+        sources: &Sources,
+        order: &PackageOrder,
+        items: &[Item<'_>],
+        made: &[Made],
+        tables: &mut Tables,
+        facts: &Facts,
+    ) -> Result<(), NoMemory> {
+        for (index, item) in items.iter().enumerate() {
+            let Some(made) = made.get(index).copied() else {
+                return Err(lost());
+            };
+            self.begin_packages(tables, order, sources, item.listed.package as usize + 1)?;
+            self.add_item(tables, facts, item, made)?;
+        }
+        self.begin_packages(tables, order, sources, order.loaded.len())
     }
 
     fn add_item(

@@ -306,13 +306,7 @@ impl Reader {
                 let rule = Rule::DuplicateFieldOrMethod;
                 self.tables.blame(node, spot, listed.name.start, rule)?;
             }
-            fields.push(FieldNode {
-                name,
-                package,
-                form,
-                embedded: false,
-                tag: self.read_tag(tag, source)?,
-            })?;
+            self.push_field(fields, name, package, form, false, tag, source)?;
         }
         Ok(())
     }
@@ -351,12 +345,26 @@ impl Reader {
             let rule = Rule::DuplicateFieldOrMethod;
             self.tables.blame(embedded, spot, last.start, rule)?;
         }
+        self.push_field(fields, name, package, embedded, true, tag, source)
+    }
+
+    fn push_field(
+        &self,
+        fields: &mut Vec<FieldNode>,
+        name: NameId,
+        package: u32,
+        form: usize,
+        embedded: bool,
+        tag: Option<Token>,
+        source: &SourceFile,
+    ) -> Result<(), NoMemory> {
+        let tag = self.read_tag(tag, source)?;
         fields.push(FieldNode {
             name,
             package,
-            form: embedded,
-            embedded: true,
-            tag: self.read_tag(tag, source)?,
+            form,
+            embedded,
+            tag,
         })?;
         Ok(())
     }
