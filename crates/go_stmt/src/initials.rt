@@ -125,16 +125,18 @@ fn push_spec<'s>(
     }
     if spec.values.len() != spec.names.len() {
         let given = Given::All(spec.values.as_slice());
-        let initial = new_initial(walker, places, package, file, &spec.names, given)?;
-        list.push(with_form(initial, spec.form.is_some()))?;
+        let mut initial = new_initial(walker, places, package, file, &spec.names, given)?;
+        initial.has_form = spec.form.is_some();
+        list.push(initial)?;
         return Ok(());
     }
     for (index, value) in spec.values.iter().enumerate() {
         if let Some(name) = spec.names.get(index) {
             let names = [*name];
             let given = Given::One(value);
-            let initial = new_initial(walker, places, package, file, &names, given)?;
-            list.push(with_form(initial, spec.form.is_some()))?;
+            let mut initial = new_initial(walker, places, package, file, &names, given)?;
+            initial.has_form = spec.form.is_some();
+            list.push(initial)?;
         }
     }
     Ok(())
@@ -185,7 +187,9 @@ pub fn walk_initials<'s>(
     initials: &mut Initials<'s>,
 ) -> Result<(), NoMemory> {
     let graph = graph_of_initials(walker, initials)?;
-    in_groups(walker, initials, &graph)?;
+    let grouped = in_groups(walker, initials, &graph);
+    drop(graph);
+    grouped?;
     for (index, initial) in initials.list.iter_mut().enumerate() {
         if initial.has_form {
             see_initial(walker, index, initial)?;
@@ -367,7 +371,7 @@ fn see_cycle<'s>(
     let before = walker.scope.set_least(Least::new());
     for node in group {
         if let Some(initial) = initial_at(walker, initials, *node) {
-            let _ = listed_values(walker, initial)?;
+            drop(listed_values(walker, initial)?);
         }
     }
     let found = walker.scope.set_least(before);
@@ -470,12 +474,6 @@ impl<'s> Initials<'s> {
     fn of(&self, variable: usize) -> Option<usize> {
         self.of_variable.get(variable).copied().flatten()
     }
-}
-
-/// The initialisation, of variables with or without a written type.
-fn with_form<'s>(mut initial: Initial<'s>, has_form: bool) -> Initial<'s> {
-    initial.has_form = has_form;
-    initial
 }
 
 /// The specifications of variables of a declaration.

@@ -7,6 +7,7 @@
 mod ending;
 mod error;
 mod initials;
+mod keeping;
 mod literals;
 mod program;
 mod statements;

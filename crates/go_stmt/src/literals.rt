@@ -7,6 +7,7 @@ use go_syntax::{
     TypeExpr, TypeSpec, ValueSpec,
 };
 use stmt_rules::{Steps, Walker};
+use typed_parts::beside;
 
 /// The literals in a statement without statements in it.
 #[cycle(bodies)]
@@ -230,7 +231,7 @@ fn walk_literal(walker: &mut Walker<'_>, expr: &Expr) -> Result<(), NoMemory> {
     bodies_of_signature(walker, signature)?;
     let function = walker.scope.literal(walker.at(*word));
     let entered = walker.enter(function, &None, signature)?;
-    let steps = literal_body(walker, expr)?;
+    let (steps, entered) = beside(literal_body(walker, expr), entered)?;
     walker.finish(entered, body, steps)
 }
 

@@ -1,5 +1,6 @@
 //! Statements with statements in them. Go specification, "Statements".
 
+use crate::keeping::kept;
 use crate::literals::{
     bodies_of_expr, bodies_of_list, bodies_of_option, bodies_of_simple, bodies_of_spec,
     bodies_of_specs, bodies_of_type_specs,
@@ -13,9 +14,9 @@ use go_syntax::{
 };
 use go_tree::{SelectClause, TypeClause, TypedBlock, TypedClause, TypedExpr, TypedStmt};
 use stmt_rules::{
-    Cases, First, Gathered, Head, Matched, Spot, Steps, Tag, WalkedArm, WalkedBlock, Walker,
-    is_panic,
+    Cases, First, Gathered, Matched, Spot, Steps, Tag, WalkedArm, WalkedBlock, Walker, is_panic,
 };
+use typed_parts::{beside, only};
 
 /// The statements of a list; `falls` says whether its last may be `fallthrough`.
 #[cycle(bodies)]
@@ -72,7 +73,7 @@ pub fn walk_statement(
 #[cycle(bodies)]
 fn walk_plain(walker: &mut Walker<'_>, stmt: &Stmt, steps: &mut Steps) -> Result<(), NoMemory> {
     let typed = walker.simple(stmt)?;
-    bodies_of_simple(walker, stmt)?;
+    let typed = kept(typed, bodies_of_simple(walker, stmt))?;
     let ends = is_panic(&typed) || matches!(stmt, Stmt::Return { .. });
     steps.push(typed, ends)
 }
@@ -90,7 +91,7 @@ fn walk_define(walker: &mut Walker<'_>, stmt: &Stmt, steps: &mut Steps) -> Resul
     };
     let at = walker.list_at(targets);
     let seen = walker.see_define(at, targets, values)?;
-    bodies_of_list(walker, values)?;
+    let seen = kept(seen, bodies_of_list(walker, values))?;
     let typed = walker.finish_define(seen)?;
     steps.push(typed, false)
 }
@@ -143,7 +144,7 @@ fn walk_variables(
 ) -> Result<(), NoMemory> {
     for spec in specs {
         let seen = walker.see_spec(spec)?;
-        bodies_of_spec(walker, spec)?;
+        let seen = kept(seen, bodies_of_spec(walker, spec))?;
         let at = match spec.names.first() {
             Some(name) if is_list => walker.at(name.name),
             _ => walker.at(word),
@@ -235,9 +236,9 @@ fn walk_choice(walker: &mut Walker<'_>, stmt: &Stmt, steps: &mut Steps) -> Resul
 #[cycle(bodies)]
 fn walk_arm(walker: &mut Walker<'_>, arm: &IfArm) -> Result<WalkedArm, NoMemory> {
     let init = walk_first(walker, &arm.init)?;
-    let condition = walker.see_condition(&arm.condition)?;
-    bodies_of_expr(walker, &arm.condition)?;
-    let body = walk_block(walker, &arm.body)?;
+    let head = beside(walker.see_condition(&arm.condition), init)?;
+    let head = kept(head, bodies_of_expr(walker, &arm.condition))?;
+    let (body, (condition, init)) = beside(walk_block(walker, &arm.body), head)?;
     Ok(walker.finish_arm(arm.word, init, condition, body))
 }
 
@@ -250,14 +251,18 @@ fn walk_switch(
 ) -> Result<(), NoMemory> {
     walker.scope.open_block()?;
     let init = walk_first(walker, &switch.init)?;
-    let tag = walker.see_tag(&switch.tag)?;
-    bodies_of_option(walker, &switch.tag)?;
-    walker.frame.branches.enter(spot.label, false)?;
+    let head = beside(walker.see_tag(&switch.tag), init)?;
+    let head = kept(head, bodies_of_option(walker, &switch.tag))?;
+    let entered = walker.frame.branches.enter(spot.label, false);
+    let (tag, init) = kept(head, entered)?;
     let mut cases = Cases::new(walker.alloc);
-    let clauses = walk_clauses(walker, &switch.clauses, switch.close, tag.tag, &mut cases)?;
+    let clauses = walk_clauses(walker, &switch.clauses, switch.close, tag.tag, &mut cases);
+    let has_default = cases.has_default;
+    drop(cases);
+    let (clauses, (tag, init)) = beside(clauses, (tag, init))?;
     let is_left = walker.frame.branches.leave();
     walker.scope.close_block();
-    let ends = !is_left && cases.has_default && clauses.all_end;
+    let ends = !is_left && has_default && clauses.all_end;
     let typed = walker.finish_switch(switch.word, init, tag, clauses.items, switch.close);
     steps.push(typed, ends)
 }
@@ -301,18 +306,16 @@ fn walk_clause(
     walker.scope.close_block();
     let body = WalkedBlock::new(at, end, steps);
     let ends = body.ends;
-    match (typed, body.block) {
-        (Some(cases), Some(body)) if is_sound => Ok((
-            Some(TypedClause {
-                at,
-                is_default,
-                cases,
-                body,
-            }),
-            ends,
-        )),
-        _ => Ok((None, ends)),
-    }
+    let clause = match only(typed.zip(body.block), is_sound) {
+        Some((cases, body)) => Some(TypedClause {
+            at,
+            is_default,
+            cases,
+            body,
+        }),
+        None => None,
+    };
+    Ok((clause, ends))
 }
 
 #[cycle(bodies)]
@@ -324,14 +327,19 @@ fn walk_type_switch(
 ) -> Result<(), NoMemory> {
     walker.scope.open_block()?;
     let init = walk_first(walker, &switch.init)?;
-    let (operand, matched) = walker.see_matched(&switch.operand, &switch.binding)?;
-    bodies_of_expr(walker, &switch.operand)?;
-    walker.frame.branches.enter(spot.label, false)?;
+    let seen = walker.see_matched(&switch.operand, &switch.binding);
+    let ((operand, matched), init) = beside(seen, init)?;
+    let head = kept((operand, init), bodies_of_expr(walker, &switch.operand))?;
+    let entered = walker.frame.branches.enter(spot.label, false);
+    let head = kept(head, entered)?;
     let mut cases = Cases::new(walker.alloc);
-    let clauses = walk_type_clauses(walker, &switch.clauses, switch.close, matched, &mut cases)?;
+    let clauses = walk_type_clauses(walker, &switch.clauses, switch.close, matched, &mut cases);
+    let has_default = cases.has_default;
+    drop(cases);
+    let (clauses, (operand, init)) = beside(clauses, head)?;
     let is_left = walker.frame.branches.leave();
     walker.scope.close_block();
-    let ends = !is_left && cases.has_default && clauses.all_end;
+    let ends = !is_left && has_default && clauses.all_end;
     let typed = walker.finish_type_switch(switch, init, operand, matched, clauses.items);
     steps.push(typed, ends)
 }
@@ -428,18 +436,22 @@ fn walk_comm_clause(
     let at = walker.at(clause.word);
     walker.scope.open_block()?;
     let seen = walker.see_comm_of(&clause.comm, clause.word, cases)?;
-    if let Some(comm) = &clause.comm {
-        bodies_of_simple(walker, comm)?;
-    }
+    let walked = match &clause.comm {
+        Some(comm) => bodies_of_simple(walker, comm),
+        None => Ok(()),
+    };
+    let seen = kept(seen, walked)?;
     let comm = walker.finish_comm(seen)?;
-    let steps = walk_statements(walker, &clause.statements, false)?;
+    let steps = walk_statements(walker, &clause.statements, false);
+    let (steps, comm) = beside(steps, comm)?;
     walker.scope.close_block();
     let body = WalkedBlock::new(at, end, steps);
     let ends = body.ends;
-    match (comm, body.block) {
-        (Some(comm), Some(body)) => Ok((Some(SelectClause { at, comm, body }), ends)),
-        _ => Ok((None, ends)),
-    }
+    let typed = match comm.zip(body.block) {
+        Some((comm, body)) => Some(SelectClause { at, comm, body }),
+        None => None,
+    };
+    Ok((typed, ends))
 }
 
 /// A `for` with a condition, or without one.
@@ -459,9 +471,10 @@ fn walk_while(
         return Ok(());
     };
     let seen = walker.see_loop_condition(condition)?;
-    bodies_of_option(walker, condition)?;
-    walker.frame.branches.enter(spot.label, true)?;
-    let body = walk_block(walker, body)?;
+    let seen = kept(seen, bodies_of_option(walker, condition))?;
+    let entered = walker.frame.branches.enter(spot.label, true);
+    let seen = kept(seen, entered)?;
+    let (body, seen) = beside(walk_block(walker, body), seen)?;
     let is_left = walker.frame.branches.leave();
     let ends = condition.is_none() && !is_left;
     let none = First {
@@ -486,11 +499,12 @@ fn walk_for(
 ) -> Result<(), NoMemory> {
     walker.scope.open_block()?;
     let init = walk_first(walker, &stmt.init)?;
-    let seen = walker.see_loop_condition(&stmt.condition)?;
-    bodies_of_option(walker, &stmt.condition)?;
-    let post = walk_first(walker, &stmt.post)?;
-    walker.frame.branches.enter(spot.label, true)?;
-    let body = walk_block(walker, &stmt.body)?;
+    let head = beside(walker.see_loop_condition(&stmt.condition), init)?;
+    let head = kept(head, bodies_of_option(walker, &stmt.condition))?;
+    let head = beside(walk_first(walker, &stmt.post), head)?;
+    let entered = walker.frame.branches.enter(spot.label, true);
+    let head = kept(head, entered)?;
+    let (body, (post, (seen, init))) = beside(walk_block(walker, &stmt.body), head)?;
     let is_left = walker.frame.branches.leave();
     walker.scope.close_block();
     let ends = stmt.condition.is_none() && !is_left;
@@ -506,15 +520,27 @@ fn walk_range(
     steps: &mut Steps,
 ) -> Result<(), NoMemory> {
     let seen = walker.see_range(&stmt.targets, stmt.operator, &stmt.operand)?;
-    bodies_of_expr(walker, &stmt.operand)?;
-    bodies_of_list(walker, &stmt.targets)?;
-    walker.scope.open_block()?;
+    let seen = kept(seen, bodies_of_expr(walker, &stmt.operand))?;
+    let seen = kept(seen, bodies_of_list(walker, &stmt.targets))?;
+    let seen = kept(seen, walker.scope.open_block())?;
     let head = walker.finish_range(seen)?;
-    walker.frame.branches.enter(spot.label, true)?;
-    let body = walk_block(walker, &stmt.body)?;
+    let entered = walker.frame.branches.enter(spot.label, true);
+    let head = kept(head, entered)?;
+    let (body, head) = beside(walk_block(walker, &stmt.body), head)?;
     walker.frame.branches.leave();
     walker.scope.close_block();
-    let typed = range_stmt(walker.at(stmt.word), walker.fresh, head, body);
+    let at = walker.at(stmt.word);
+    let typed = match head.zip(body.block) {
+        Some((head, body)) => Some(TypedStmt::Range {
+            at,
+            fresh: walker.fresh,
+            over: head.over,
+            operand: head.operand,
+            targets: head.targets,
+            body,
+        }),
+        None => None,
+    };
     steps.push(typed, false)
 }
 
@@ -539,18 +565,4 @@ fn clause_behind(clauses: &[CaseClause], index: usize) -> Option<Token> {
 fn comm_behind(clauses: &[CommClause], index: usize) -> Option<Token> {
     let next = clauses.get(index.checked_add(1)?)?;
     Some(next.word)
-}
-
-/// A range, where its head and its body are sound.
-fn range_stmt(at: Pos, fresh: bool, head: Option<Head>, body: WalkedBlock) -> Option<TypedStmt> {
-    let head = head?;
-    let body = body.block?;
-    Some(TypedStmt::Range {
-        at,
-        fresh,
-        over: head.over,
-        operand: head.operand,
-        targets: head.targets,
-        body,
-    })
 }

@@ -8,8 +8,8 @@ use std::alloc::Global;
 /// Whether a program that breaks no rule can be run: its target is a package main, with a function main. `Refused` with
 /// the first rule that is broken, as `check`.
 pub fn can_run(alloc: Global, sources: &Sources) -> Result<bool, CheckError> {
-    match check(alloc, sources) {
-        Ok(program) => Ok(program.main.is_some()),
-        Err(error) => Err(error),
-    }
+    let program = check(alloc, sources)?;
+    let has_main = program.main.is_some();
+    drop(program);
+    Ok(has_main)
 }
