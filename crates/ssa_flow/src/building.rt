@@ -1,21 +1,22 @@
 //! The code of a program.
 
 use crate::error::lost;
-use crate::flow::Flow;
 use crate::functions::{free_types, lower_body, lower_package_init, param_types, signature_of};
 use crate::made::push_made;
 use crate::methods::{Line, finished, is_blank, method_lines};
 use crate::ordering::{function_order, sorted_needs, wrapper_place};
 use crate::renumbering::{Numbers, renumber};
-use go_base::{FuncId, NoMemory, TypeId};
+use go_base::{FuncId, Names, NoMemory, TypeId};
 use go_text::Labels;
 use go_tree::{FunctionDecl, FunctionForm, Program};
 use go_type::{TypeIds, TypeTerm, Types};
 use indexmap::IndexSet;
 use ssa_expr::{Builder, Built, Header};
 use ssa_ir::{
-    Code, CodeVariable, CodeVariables, Form, Function, FunctionKind, Functions, Needs, WrapNeed,
+    Code, CodeVariable, CodeVariables, Form, Function, FunctionKind, Functions, MethodLines, Needs,
+    WrapNeed,
 };
+use ssa_simple::Flow;
 use ssa_wrap::wrapper;
 use std::alloc::Global;
 use tree_facts::{function_name, is_in_program, labels};
@@ -43,40 +44,90 @@ struct Workshop<'a> {
     dynamic: IndexSet<TypeId>,
 }
 
+/// What follows from all functions of the program: all types, the methods, and the wrappers.
+#[derive(Drop)]
+struct Rest {
+    types: Types,
+    lines: Vec<Line>,
+    /// For each line the number of its need among all.
+    promoted: Vec<Option<u64>>,
+    /// By the number of their need.
+    wrappers: Vec<Function>,
+}
+
+/// What of a code has numbers of functions.
+#[derive(Drop)]
+struct Numbered {
+    functions: Functions,
+    methods: MethodLines,
+}
+
+/// What of a code is read off the program.
+#[derive(Drop)]
+struct Tables {
+    names: Names,
+    declared: TypeIds,
+    variables: CodeVariables,
+}
+
 /// The code of a program.
 pub fn build(alloc: Global, program: &Program, form: Form) -> Result<Code, NoMemory> {
-    let mut workshop = Workshop {
-        alloc,
-        program,
-        labels: labels(alloc, &program.packages)?,
-        types: Some(program.types.copy(alloc)?),
-        made: Vec::new(alloc),
-        needs: Vec::new(alloc),
-        dynamic: IndexSet::new(alloc),
-    };
-    let mut number = 0u64;
-    for decl in program.functions.as_slice() {
-        let function = FuncId { number };
-        if is_in_program(program, function) {
-            workshop.make(function, decl, form)?;
-        }
-        number = number.saturating_add(1);
-    }
+    let mut workshop = Workshop::new(alloc, program)?;
+    workshop.make_all(form)?;
     workshop.finish()
 }
 
 impl<'a> Workshop<'a> {
+    /// Nothing is built yet.
+    fn new(alloc: Global, program: &'a Program) -> Result<Workshop<'a>, NoMemory> {
+        let labels = labels(alloc, &program.packages)?;
+        let types = program.types.copy(alloc)?;
+        Ok(Workshop {
+            alloc,
+            program,
+            labels,
+            types: Some(types),
+            made: Vec::new(alloc),
+            needs: Vec::new(alloc),
+            dynamic: IndexSet::new(alloc),
+        })
+    }
+
+    /// Builds all functions of the program.
+    fn make_all(&mut self, form: Form) -> Result<(), NoMemory> {
+        let program: &'a Program = self.program;
+        let mut number = 0u64;
+        for decl in program.functions.as_slice() {
+            let function = FuncId { number };
+            if is_in_program(program, function) {
+                self.make(function, decl, form)?;
+            }
+            number = number.saturating_add(1);
+        }
+        Ok(())
+    }
+
     /// Builds a function of the program.
     fn make(&mut self, function: FuncId, decl: &FunctionDecl, form: Form) -> Result<(), NoMemory> {
         let types = self.take_types()?;
         let builder = Builder::new(self.alloc, self.program, types, function, form)?;
         let built = build_function(builder, function, decl)?;
         push_made(&built.types, &built.function, &mut self.dynamic)?;
-        self.types = Some(built.types);
-        let needs = self.take_needs(&built.needs)?;
+        self.keep(function.number, built)
+    }
+
+    /// A function is built.
+    fn keep(&mut self, number: u64, built: Built) -> Result<(), NoMemory> {
+        let Built {
+            function,
+            needs,
+            types,
+        } = built;
+        self.types = Some(types);
+        let needs = self.take_needs(&needs)?;
         self.made.push(Made {
-            number: function.number,
-            function: built.function,
+            number,
+            function,
             needs,
         })?;
         Ok(())
@@ -109,15 +160,27 @@ impl<'a> Workshop<'a> {
 
     fn finish(self) -> Result<Code, NoMemory> {
         let mut workshop = self;
-        let alloc = workshop.alloc;
-        let program = workshop.program;
-        let dynamic = std::mem::replace(&mut workshop.dynamic, IndexSet::new(alloc));
-        let mut types = workshop.take_types()?;
-        hold_pointers(program, &mut types)?;
-        let lines = method_lines(alloc, program, &workshop.labels, &types, &dynamic)?;
-        let promoted = workshop.promoted(lines.as_slice())?;
-        let wrappers = workshop.wrappers(&mut types)?;
-        workshop.assemble(types, lines, promoted, wrappers)
+        let rest = workshop.make_rest()?;
+        workshop.assemble(rest)
+    }
+
+    fn make_rest(&mut self) -> Result<Rest, NoMemory> {
+        let mut types = self.take_types()?;
+        let lines = self.lines(&mut types)?;
+        let promoted = self.promoted(lines.as_slice())?;
+        let wrappers = self.wrappers(&mut types)?;
+        Ok(Rest {
+            types,
+            lines,
+            promoted,
+            wrappers,
+        })
+    }
+
+    /// The methods, with pointers to the declared types among the types.
+    fn lines(&self, types: &mut Types) -> Result<Vec<Line>, NoMemory> {
+        hold_pointers(self.program, types)?;
+        method_lines(self.alloc, self.program, &self.labels, types, &self.dynamic)
     }
 
     /// For each line the number of its need among all.
@@ -146,13 +209,7 @@ impl<'a> Workshop<'a> {
     }
 
     /// All functions in their order, with their numbers in the code.
-    fn assemble(
-        self,
-        types: Types,
-        lines: Vec<Line>,
-        promoted: Vec<Option<u64>>,
-        wrappers: Vec<Function>,
-    ) -> Result<Code, NoMemory> {
+    fn assemble(self, rest: Rest) -> Result<Code, NoMemory> {
         let Workshop {
             alloc,
             program,
@@ -162,24 +219,67 @@ impl<'a> Workshop<'a> {
             needs: _,
             dynamic: _,
         } = self;
-        let mut made = made;
-        made.sort_by_key(|one| function_order(program, one.number))?;
-        let order = sorted_needs(alloc, wrappers.as_slice())?;
-        let numbers = numbers_of(alloc, program, made.as_slice(), order.as_slice())?;
-        let mut functions = Functions::new(alloc);
-        push_functions(alloc, &mut functions, made, &numbers)?;
-        push_wrappers(alloc, &mut functions, wrappers, order.as_slice(), &numbers)?;
-        let methods = finished(alloc, lines, promoted, &numbers)?;
+        let Rest {
+            types,
+            lines,
+            promoted,
+            wrappers,
+        } = rest;
+        let numbered = number_all(alloc, program, made, wrappers, lines, promoted)?;
+        let tables = tables_of(alloc, program)?;
         Ok(Code {
             types,
-            names: program.names.copy(alloc)?,
+            names: tables.names,
             packages: labels,
-            declared: declared(alloc, program)?,
-            variables: variables(alloc, program)?,
-            methods,
-            functions,
+            declared: tables.declared,
+            variables: tables.variables,
+            methods: numbered.methods,
+            functions: numbered.functions,
         })
     }
+}
+
+/// The functions in their order, and the lines of methods, which name them.
+fn number_all(
+    alloc: Global,
+    program: &Program,
+    made: Vec<Made>,
+    wrappers: Vec<Function>,
+    lines: Vec<Line>,
+    promoted: Vec<Option<u64>>,
+) -> Result<Numbered, NoMemory> {
+    let mut made = made;
+    made.sort_by_key(|one| function_order(program, one.number))?;
+    let order = sorted_needs(alloc, wrappers.as_slice())?;
+    let numbers = numbers_of(alloc, program, made.as_slice(), order.as_slice())?;
+    let functions = functions_of(alloc, made, wrappers, order.as_slice(), &numbers)?;
+    let methods = finished(alloc, lines, promoted, &numbers)?;
+    Ok(Numbered { functions, methods })
+}
+
+/// The functions of the program, then the wrappers.
+fn functions_of(
+    alloc: Global,
+    made: Vec<Made>,
+    wrappers: Vec<Function>,
+    order: &[u64],
+    numbers: &Numbers,
+) -> Result<Functions, NoMemory> {
+    let mut functions = Functions::new(alloc);
+    push_functions(alloc, &mut functions, made, numbers)?;
+    push_wrappers(alloc, &mut functions, wrappers, order, numbers)?;
+    Ok(functions)
+}
+
+fn tables_of(alloc: Global, program: &Program) -> Result<Tables, NoMemory> {
+    let names = program.names.copy(alloc)?;
+    let declared = declared(alloc, program)?;
+    let variables = variables(alloc, program)?;
+    Ok(Tables {
+        names,
+        declared,
+        variables,
+    })
 }
 
 /// Pointers to the declared types that are no interfaces are held.
@@ -199,41 +299,60 @@ fn build_function(
     function: FuncId,
     decl: &FunctionDecl,
 ) -> Result<Built, NoMemory> {
-    let alloc = builder.allocator();
-    let signature = signature_of(&builder, decl.signature)?;
-    let params = param_types(&builder, decl, &signature)?;
-    let name = function_name(alloc, builder.program(), function)?;
-    let mut flow = Flow {
-        builder,
-        exits: Vec::new(alloc),
-    };
-    let free = free_types(&mut flow.builder)?;
-    let kind = lower_function(&mut flow, decl)?;
-    let header = Header {
+    let mut builder = builder;
+    let header = header_of(&mut builder, function, decl)?;
+    let builder = lowered(builder, decl)?;
+    builder.finish(header)
+}
+
+/// What a function is but its blocks.
+fn header_of(
+    builder: &mut Builder<'_>,
+    function: FuncId,
+    decl: &FunctionDecl,
+) -> Result<Header, NoMemory> {
+    let signature = signature_of(builder, decl.signature)?;
+    let params = param_types(builder, decl, &signature)?;
+    let name = function_name(builder.allocator(), builder.program(), function)?;
+    let free = free_types(builder)?;
+    Ok(Header {
         name,
-        kind,
+        kind: kind_of(builder, decl),
         params,
         variadic: signature.variadic,
         free,
         results: signature.results,
-    };
-    let Flow { builder, .. } = flow;
-    builder.finish(header)
+    })
 }
 
-fn lower_function(flow: &mut Flow<'_>, decl: &FunctionDecl) -> Result<FunctionKind, NoMemory> {
+fn kind_of(builder: &Builder<'_>, decl: &FunctionDecl) -> FunctionKind {
     if decl.form == FunctionForm::PackageInit {
-        lower_package_init(flow, decl)?;
-        return Ok(FunctionKind::Init);
+        return FunctionKind::Init;
+    }
+    match builder.body() {
+        Some(_) => FunctionKind::Source,
+        None => FunctionKind::External,
+    }
+}
+
+/// A function with its code.
+fn lowered<'a>(builder: Builder<'a>, decl: &FunctionDecl) -> Result<Builder<'a>, NoMemory> {
+    let exits = Vec::new(builder.allocator());
+    let mut flow = Flow { builder, exits };
+    lower_function(&mut flow, decl)?;
+    let Flow { builder, .. } = flow;
+    Ok(builder)
+}
+
+fn lower_function(flow: &mut Flow<'_>, decl: &FunctionDecl) -> Result<(), NoMemory> {
+    if decl.form == FunctionForm::PackageInit {
+        return lower_package_init(flow, decl);
     }
     match flow.builder.body() {
-        Some(body) => {
-            lower_body(flow, body)?;
-            Ok(FunctionKind::Source)
-        }
+        Some(body) => lower_body(flow, body),
         None => {
             flow.builder.drop_blocks();
-            Ok(FunctionKind::External)
+            Ok(())
         }
     }
 }

@@ -98,11 +98,30 @@ impl Reader<'_> {
         }
     }
 
+    fn two(self, first: &Operand, second: &Operand) -> Result<(Operand, Operand), NoMemory> {
+        let first = self.operand(first)?;
+        let second = self.operand(second)?;
+        Ok((first, second))
+    }
+
     fn some(self, operand: &Option<Operand>) -> Result<Option<Operand>, NoMemory> {
         match operand {
             Some(operand) => Ok(Some(self.operand(operand)?)),
             None => Ok(None),
         }
+    }
+
+    /// The bounds of a slice expression.
+    fn bounds(
+        self,
+        low: &Option<Operand>,
+        high: &Option<Operand>,
+        max: &Option<Operand>,
+    ) -> Result<(Option<Operand>, Option<Operand>, Option<Operand>), NoMemory> {
+        let low = self.some(low)?;
+        let high = self.some(high)?;
+        let max = self.some(max)?;
+        Ok((low, high, max))
     }
 
     fn operands(self, operands: &Operands) -> Result<Operands, NoMemory> {
@@ -134,10 +153,10 @@ impl Reader<'_> {
 
     fn case(self, case: &SelectCase) -> Result<SelectCase, NoMemory> {
         match case {
-            SelectCase::Send { channel, value } => Ok(SelectCase::Send {
-                channel: self.operand(channel)?,
-                value: self.operand(value)?,
-            }),
+            SelectCase::Send { channel, value } => {
+                let (channel, value) = self.two(channel, value)?;
+                Ok(SelectCase::Send { channel, value })
+            }
             SelectCase::Receive { channel } => Ok(SelectCase::Receive {
                 channel: self.operand(channel)?,
             }),
@@ -198,20 +217,20 @@ impl Reader<'_> {
     fn plain(self, op: &Op) -> Result<Op, NoMemory> {
         match op {
             Op::New(of) => Ok(Op::New(*of)),
-            Op::Binary { op, left, right } => Ok(Op::Binary {
-                op: *op,
-                left: self.operand(left)?,
-                right: self.operand(right)?,
-            }),
+            Op::Binary { op, left, right } => {
+                let (left, right) = self.two(left, right)?;
+                let op = *op;
+                Ok(Op::Binary { op, left, right })
+            }
             Op::Unary { op, operand } => Ok(Op::Unary {
                 op: *op,
                 operand: self.operand(operand)?,
             }),
             Op::Load(at) => Ok(Op::Load(self.operand(at)?)),
-            Op::Store { at, value } => Ok(Op::Store {
-                at: self.operand(at)?,
-                value: self.operand(value)?,
-            }),
+            Op::Store { at, value } => {
+                let (at, value) = self.two(at, value)?;
+                Ok(Op::Store { at, value })
+            }
             Op::Field { operand, field } => Ok(Op::Field {
                 operand: self.operand(operand)?,
                 field: *field,
@@ -227,35 +246,39 @@ impl Reader<'_> {
     /// An instruction on the elements of a value.
     fn element(self, op: &Op) -> Result<Op, NoMemory> {
         match op {
-            Op::Index { operand, index } => Ok(Op::Index {
-                operand: self.operand(operand)?,
-                index: self.operand(index)?,
-            }),
-            Op::IndexAddress { operand, index } => Ok(Op::IndexAddress {
-                operand: self.operand(operand)?,
-                index: self.operand(index)?,
-            }),
-            Op::Lookup { map, key, comma_ok } => Ok(Op::Lookup {
-                map: self.operand(map)?,
-                key: self.operand(key)?,
-                comma_ok: *comma_ok,
-            }),
-            Op::Update { map, key, value } => Ok(Op::Update {
-                map: self.operand(map)?,
-                key: self.operand(key)?,
-                value: self.operand(value)?,
-            }),
+            Op::Index { operand, index } => {
+                let (operand, index) = self.two(operand, index)?;
+                Ok(Op::Index { operand, index })
+            }
+            Op::IndexAddress { operand, index } => {
+                let (operand, index) = self.two(operand, index)?;
+                Ok(Op::IndexAddress { operand, index })
+            }
+            Op::Lookup { map, key, comma_ok } => {
+                let (map, key) = self.two(map, key)?;
+                let comma_ok = *comma_ok;
+                Ok(Op::Lookup { map, key, comma_ok })
+            }
+            Op::Update { map, key, value } => {
+                let (map, key) = self.two(map, key)?;
+                let value = self.operand(value)?;
+                Ok(Op::Update { map, key, value })
+            }
             Op::Slice {
                 operand,
                 low,
                 high,
                 max,
-            } => Ok(Op::Slice {
-                operand: self.operand(operand)?,
-                low: self.some(low)?,
-                high: self.some(high)?,
-                max: self.some(max)?,
-            }),
+            } => {
+                let operand = self.operand(operand)?;
+                let (low, high, max) = self.bounds(low, high, max)?;
+                Ok(Op::Slice {
+                    operand,
+                    low,
+                    high,
+                    max,
+                })
+            }
             Op::Extract { operand, part } => Ok(Op::Extract {
                 operand: self.operand(operand)?,
                 part: *part,
@@ -297,11 +320,10 @@ impl Reader<'_> {
                 of: *of,
                 size: self.operand(size)?,
             }),
-            Op::MakeSlice { of, len, cap } => Ok(Op::MakeSlice {
-                of: *of,
-                len: self.operand(len)?,
-                cap: self.operand(cap)?,
-            }),
+            Op::MakeSlice { of, len, cap } => {
+                let (len, cap) = self.two(len, cap)?;
+                Ok(Op::MakeSlice { of: *of, len, cap })
+            }
             _ => self.other(op),
         }
     }
@@ -309,10 +331,10 @@ impl Reader<'_> {
     fn other(self, op: &Op) -> Result<Op, NoMemory> {
         match op {
             Op::RunDefers => Ok(Op::RunDefers),
-            Op::Send { channel, value } => Ok(Op::Send {
-                channel: self.operand(channel)?,
-                value: self.operand(value)?,
-            }),
+            Op::Send { channel, value } => {
+                let (channel, value) = self.two(channel, value)?;
+                Ok(Op::Send { channel, value })
+            }
             Op::Receive { channel, comma_ok } => Ok(Op::Receive {
                 channel: self.operand(channel)?,
                 comma_ok: *comma_ok,

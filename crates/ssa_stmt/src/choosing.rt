@@ -1,19 +1,13 @@
 //! `if` and `switch`. Go specification, "If statements" and "Switch statements".
 
 use crate::error::lost;
-use crate::flow::{Exit, Flow};
 use crate::statements::{lower_block, lower_init};
-use crate::storing::begin_with;
 use go_base::{BlockId, NoMemory, Pos, TypeId};
 use go_tree::{TypeCase, TypeClause, TypedArm, TypedCase, TypedClause, TypedExpr, TypedStmt};
-use go_type::{Basic, CompareOp, TypeTerm, basic};
+use go_type::{CompareOp, TypeTerm};
 use ssa_expr::lower_expr;
 use ssa_ir::{ConstValue, Infix, Op, Operand};
-
-/// The type `bool`.
-pub(crate) fn bool_type() -> TypeId {
-    basic(Basic::Bool)
-}
+use ssa_simple::{Exit, Flow, begin_with, bool_type};
 
 #[cycle(statements)]
 pub(crate) fn lower_if(flow: &mut Flow<'_>, stmt: &TypedStmt) -> Result<(), NoMemory> {
@@ -55,20 +49,8 @@ fn lower_arms(
             return Ok(());
         }
         let test = lower_expr(&mut flow.builder, &arm.condition)?;
-        let then_to = flow.builder.add_block()?;
         let follows = left > 0 || has_else;
-        let else_to = if follows {
-            flow.builder.add_block()?
-        } else {
-            flow.builder.to(join)?
-        };
-        let op = Op::If {
-            test,
-            then_to,
-            else_to,
-        };
-        flow.builder.effect(op, arm.condition.at)?;
-        flow.enter(then_to)?;
+        let else_to = branch_to_arm(flow, test, follows, join, arm.condition.at)?;
         lower_block(flow, &arm.body)?;
         flow.leave_to(join, arm.body.end)?;
         if follows {
@@ -76,6 +58,30 @@ fn lower_arms(
         }
     }
     Ok(())
+}
+
+/// An arm is next where its test holds. The answer is the block where it does not.
+fn branch_to_arm(
+    flow: &mut Flow<'_>,
+    test: Operand,
+    follows: bool,
+    join: &mut Option<BlockId>,
+    at: Pos,
+) -> Result<BlockId, NoMemory> {
+    let then_to = flow.builder.add_block()?;
+    let else_to = if follows {
+        flow.builder.add_block()?
+    } else {
+        flow.builder.to(join)?
+    };
+    let op = Op::If {
+        test,
+        then_to,
+        else_to,
+    };
+    flow.builder.effect(op, at)?;
+    flow.enter(then_to)?;
+    Ok(else_to)
 }
 
 /// The body of each clause, once something leads there.

@@ -3,13 +3,14 @@
 use crate::error::lost;
 use go_base::{BlockId, NoMemory, Pos};
 use ssa_expr::Builder;
-use ssa_ir::Op;
+use ssa_ir::{Op, Operand};
 
 /// A statement that `break` or `continue` may leave.
 #[derive(Clone, Copy)]
-pub(crate) struct Exit {
+pub struct Exit {
     /// The block behind it, once something leads there.
     pub behind: Option<BlockId>,
+    /// Whether it is a loop.
     pub is_loop: bool,
     /// Where its next turn begins, once something leads there.
     pub next: Option<BlockId>,
@@ -18,6 +19,7 @@ pub(crate) struct Exit {
 }
 
 impl Exit {
+    /// A `switch` or `select`.
     pub fn of_choice() -> Exit {
         Exit {
             behind: None,
@@ -27,6 +29,7 @@ impl Exit {
         }
     }
 
+    /// A loop; where its next turn begins, where that is known.
     pub fn of_loop(next: Option<BlockId>) -> Exit {
         Exit {
             behind: None,
@@ -37,9 +40,12 @@ impl Exit {
     }
 }
 
+/// A function while its statements are built.
 #[derive(Drop)]
-pub(crate) struct Flow<'a> {
+pub struct Flow<'a> {
+    /// Its code so far.
     pub builder: Builder<'a>,
+    /// The statements that may be left, the innermost last.
     pub exits: Vec<Exit>,
 }
 
@@ -75,11 +81,13 @@ impl<'a> Flow<'a> {
         self.builder.jump(to, at)
     }
 
+    /// Inside a statement that may be left.
     pub fn push_exit(&mut self, exit: Exit) -> Result<(), NoMemory> {
         self.exits.push(exit)?;
         Ok(())
     }
 
+    /// Behind the innermost statement that may be left.
     pub fn pop_exit(&mut self) -> Result<Exit, NoMemory> {
         match self.exits.pop() {
             Some(exit) => Ok(exit),
@@ -172,6 +180,7 @@ impl<'a> Flow<'a> {
         }
     }
 
+    /// The body of the next clause of the innermost switch, once something leads there.
     pub fn clause(&self) -> Option<BlockId> {
         self.exits.last()?.clause
     }
@@ -179,6 +188,19 @@ impl<'a> Flow<'a> {
     /// Where the next turn of the innermost loop begins, once something leads there.
     pub fn next(&self) -> Option<BlockId> {
         self.exits.last()?.next
+    }
+
+    /// The body is next where a test holds, and else what follows the loop.
+    pub fn branch_into(&mut self, test: Operand, at: Pos) -> Result<(), NoMemory> {
+        let then_to = self.builder.add_block()?;
+        let else_to = self.behind()?;
+        let op = Op::If {
+            test,
+            then_to,
+            else_to,
+        };
+        self.builder.effect(op, at)?;
+        self.enter(then_to)
     }
 
     /// A turn of a loop begins.

@@ -1,15 +1,14 @@
 //! `select`. Go specification, "Select statements".
 
-use crate::choosing::{bool_type, leave_clause};
+use crate::choosing::leave_clause;
 use crate::error::lost;
-use crate::flow::{Exit, Flow};
 use crate::statements::lower_block;
-use crate::storing::{lower_targets, put, store_all};
 use go_base::{BlockId, NoMemory, Pos, TypeId};
 use go_tree::{Comm, DefineTarget, ReceiveInto, SelectClause, Target, TypedExpr};
 use go_type::{Basic, CompareOp, MethodTypes, TypeIds, TypeTerm, basic};
 use ssa_expr::{Parts, integer, lower_expr};
 use ssa_ir::{ConstValue, Infix, Op, Operand, SelectCase, SelectCases};
+use ssa_simple::{Exit, Flow, bool_type, lower_targets, put, store_all};
 
 /// What a `select` gives, and where the tests of its cases stand.
 #[derive(Drop)]
@@ -261,13 +260,35 @@ fn assign(
     at: Pos,
 ) -> Result<(), NoMemory> {
     let sides = lower_targets(flow, targets)?;
+    let operands = received_operands(flow, chosen, part, elem, at)?;
+    let values = lower_parts_from(flow, operands, parts)?;
+    store_all(flow, sides, values)
+}
+
+/// What is received, and whether it is.
+fn received_operands(
+    flow: &mut Flow<'_>,
+    chosen: &Chosen,
+    part: u32,
+    elem: TypeId,
+    at: Pos,
+) -> Result<Vec<Operand>, NoMemory> {
     let mut operands = Vec::new(flow.builder.allocator());
     operands.push(extract(flow, chosen, part, elem, at)?)?;
     operands.push(extract(flow, chosen, 1, bool_type(), at)?)?;
+    Ok(operands)
+}
+
+/// The values of parts that are read from operands.
+fn lower_parts_from(
+    flow: &mut Flow<'_>,
+    operands: Vec<Operand>,
+    parts: &[TypedExpr],
+) -> Result<Vec<Operand>, NoMemory> {
     let outer = flow.builder.set_parts(Parts::List(operands));
-    let values = lower_parts(flow, parts)?;
+    let values = lower_parts(flow, parts);
     flow.builder.set_parts(outer);
-    store_all(flow, sides, values)
+    values
 }
 
 fn lower_parts(flow: &mut Flow<'_>, parts: &[TypedExpr]) -> Result<Vec<Operand>, NoMemory> {

@@ -1,12 +1,11 @@
 //! `for` with a condition, or without. Go specification, "For statements".
 
 use crate::error::lost;
-use crate::flow::{Exit, Flow};
 use crate::statements::{lower_block, lower_init};
 use go_base::{BlockId, NoMemory, Pos};
 use go_tree::{TypedExpr, TypedStmt};
 use ssa_expr::lower_expr;
-use ssa_ir::{Op, Operand};
+use ssa_simple::{Exit, Flow};
 
 #[cycle(statements)]
 pub(crate) fn lower_for(flow: &mut Flow<'_>, stmt: &TypedStmt) -> Result<(), NoMemory> {
@@ -52,20 +51,7 @@ fn lower_condition(flow: &mut Flow<'_>, condition: &Option<TypedExpr>) -> Result
         return Ok(());
     };
     let test = lower_expr(&mut flow.builder, condition)?;
-    branch_into(flow, test, condition.at)
-}
-
-/// The body is next where a test holds, and else what follows the loop.
-pub(crate) fn branch_into(flow: &mut Flow<'_>, test: Operand, at: Pos) -> Result<(), NoMemory> {
-    let then_to = flow.builder.add_block()?;
-    let else_to = flow.behind()?;
-    let op = Op::If {
-        test,
-        then_to,
-        else_to,
-    };
-    flow.builder.effect(op, at)?;
-    flow.enter(then_to)
+    flow.branch_into(test, condition.at)
 }
 
 /// A body that comes to its end leads to the next turn.

@@ -1,20 +1,20 @@
 //! Code of statements. Go specification, "Statements".
 
 use crate::choosing::{lower_if, lower_switch, lower_type_switch};
-use crate::flow::Flow;
-use crate::functions::lower_return;
 use crate::loops::lower_for;
 use crate::ranges::lower_range;
 use crate::selecting::lower_select;
-use crate::storing::{assign, assign_operated, declare, define, define_without_values};
 use go_base::{NoMemory, Pos};
 use go_tree::{TypedBlock, TypedExpr, TypedStmt};
 use ssa_expr::{later_call, lower_expr, panic_argument};
 use ssa_ir::Op;
+use ssa_simple::{
+    Flow, assign, assign_operated, declare, define, define_without_values, lower_return,
+};
 
 /// The statements of a block, up to one behind which nothing is reached.
 #[cycle(statements)]
-pub(crate) fn lower_block(flow: &mut Flow<'_>, block: &TypedBlock) -> Result<(), NoMemory> {
+pub fn lower_block(flow: &mut Flow<'_>, block: &TypedBlock) -> Result<(), NoMemory> {
     for stmt in block.statements.as_slice() {
         if flow.builder.is_ended() {
             return Ok(());

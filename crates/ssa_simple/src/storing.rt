@@ -10,8 +10,10 @@ use ssa_ir::{Infix, Op, Operand};
 
 /// A left side whose operands are evaluated, and its first byte. None for `_`.
 #[derive(Drop)]
-pub(crate) struct Side {
+pub struct Side {
+    /// Its place.
     pub place: Option<PlaceOperand>,
+    /// Its first byte.
     pub at: Pos,
 }
 
@@ -29,10 +31,8 @@ pub(crate) fn lower_target(flow: &mut Flow<'_>, target: &Target) -> Result<Side,
     }
 }
 
-pub(crate) fn lower_targets(
-    flow: &mut Flow<'_>,
-    targets: &[Target],
-) -> Result<Vec<Side>, NoMemory> {
+/// Evaluates the operands of left sides.
+pub fn lower_targets(flow: &mut Flow<'_>, targets: &[Target]) -> Result<Vec<Side>, NoMemory> {
     let mut sides = Vec::new(flow.builder.allocator());
     for target in targets {
         sides.push(lower_target(flow, target)?)?;
@@ -49,7 +49,8 @@ pub(crate) fn store(flow: &mut Flow<'_>, side: Side, value: Operand) -> Result<(
     }
 }
 
-pub(crate) fn store_all(
+/// Assigns values to left sides, from left to right.
+pub fn store_all(
     flow: &mut Flow<'_>,
     sides: Vec<Side>,
     values: Vec<Operand>,
@@ -65,18 +66,14 @@ pub(crate) fn store_all(
 }
 
 /// `a, b = ..`: the operands of the left sides, then the values, then the stores from left to right.
-pub(crate) fn assign(
-    flow: &mut Flow<'_>,
-    targets: &[Target],
-    values: &Values,
-) -> Result<(), NoMemory> {
+pub fn assign(flow: &mut Flow<'_>, targets: &[Target], values: &Values) -> Result<(), NoMemory> {
     let sides = lower_targets(flow, targets)?;
     let values = lower_values(&mut flow.builder, values)?;
     store_all(flow, sides, values)
 }
 
 /// `a op= b` and `a++`: the operands of `a` are evaluated once.
-pub(crate) fn assign_operated(
+pub fn assign_operated(
     flow: &mut Flow<'_>,
     target: &TypedExpr,
     op: BinaryOp,
@@ -94,7 +91,7 @@ pub(crate) fn assign_operated(
 }
 
 /// `a, b := ..`.
-pub(crate) fn define(
+pub fn define(
     flow: &mut Flow<'_>,
     targets: &[DefineTarget],
     values: &Values,
@@ -112,7 +109,7 @@ pub(crate) fn define(
 }
 
 /// One side of `:=`.
-pub(crate) fn put(
+pub fn put(
     flow: &mut Flow<'_>,
     target: DefineTarget,
     value: Operand,
@@ -126,18 +123,14 @@ pub(crate) fn put(
 }
 
 /// A variable begins with a value.
-pub(crate) fn begin_with(flow: &mut Flow<'_>, var: VarId, value: Operand) -> Result<(), NoMemory> {
+pub fn begin_with(flow: &mut Flow<'_>, var: VarId, value: Operand) -> Result<(), NoMemory> {
     let at = flow.builder.variable(var)?.at;
     flow.builder.begin_var(var)?;
     flow.builder.write_var(var, value, at)
 }
 
 /// `var a, b = ..`.
-pub(crate) fn declare(
-    flow: &mut Flow<'_>,
-    variables: &[VarId],
-    values: &Values,
-) -> Result<(), NoMemory> {
+pub fn declare(flow: &mut Flow<'_>, variables: &[VarId], values: &Values) -> Result<(), NoMemory> {
     let values = lower_values(&mut flow.builder, values)?;
     let mut values = values.into_iter();
     for var in variables {
@@ -150,10 +143,7 @@ pub(crate) fn declare(
 }
 
 /// `var a, b T`: the cells hold zero values.
-pub(crate) fn define_without_values(
-    flow: &mut Flow<'_>,
-    variables: &[VarId],
-) -> Result<(), NoMemory> {
+pub fn define_without_values(flow: &mut Flow<'_>, variables: &[VarId]) -> Result<(), NoMemory> {
     for var in variables {
         flow.builder.begin_var(*var)?;
     }

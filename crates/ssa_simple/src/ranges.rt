@@ -1,13 +1,11 @@
-//! `for` over a range. Go specification, "For statements with range clause".
+//! The heads of `for` over a range: what is done once, and what each turn begins with. Go specification, "For statements
+//! with range clause".
 
-use crate::choosing::bool_type;
 use crate::error::lost;
 use crate::flow::{Exit, Flow};
-use crate::loops::{branch_into, leave_loop};
-use crate::statements::lower_block;
 use crate::storing::{Side, lower_target, store};
-use go_base::{NoMemory, Pos, TypeId, VarId};
-use go_tree::{RangeOver, RangeTargets, Target, TypedExpr, TypedStmt};
+use go_base::{BlockId, NoMemory, Pos, TypeId, VarId};
+use go_tree::{RangeOver, RangeTargets, Target, TypedExpr};
 use go_type::{Basic, BinaryOp, Builtin, CompareOp, TypeTerm, basic};
 use ssa_expr::{Parts, integer, lower_expr, zero};
 use ssa_ir::{Call, Infix, Op, Operand, Operands};
@@ -35,35 +33,61 @@ enum Turn {
     Tuple(Operand),
 }
 
+/// The left sides of a range, where there are such and they are not `_`.
+#[derive(Drop)]
+struct Sides {
+    key: Option<Side>,
+    value: Option<Side>,
+}
+
+/// What the left sides of a range get.
+#[derive(Drop)]
+struct PartValues {
+    key: Option<Operand>,
+    value: Option<Operand>,
+}
+
+/// The type `bool`.
+pub fn bool_type() -> TypeId {
+    basic(Basic::Bool)
+}
+
 fn int_type() -> TypeId {
     basic(Basic::Int)
 }
 
-#[cycle(statements)]
-pub(crate) fn lower_range(flow: &mut Flow<'_>, stmt: &TypedStmt) -> Result<(), NoMemory> {
-    let TypedStmt::Range {
-        at,
-        over,
-        operand,
-        targets,
-        body,
-        ..
-    } = stmt
-    else {
-        return Err(lost());
-    };
-    let at = *at;
-    let ranged = begin(flow, *over, operand, targets, at)?;
+/// The head of a range, up to its body. The answer is the block where each turn begins.
+pub fn lower_range_head(
+    flow: &mut Flow<'_>,
+    over: RangeOver,
+    operand: &TypedExpr,
+    targets: &RangeTargets,
+    at: Pos,
+) -> Result<BlockId, NoMemory> {
+    let ranged = begin(flow, over, operand, targets, at)?;
+    let head = enter_loop(flow, at)?;
+    begin_turn(flow, &ranged, targets)?;
+    flow.tick(at)?;
+    Ok(head)
+}
+
+/// The block where each turn begins is the current one.
+fn enter_loop(flow: &mut Flow<'_>, at: Pos) -> Result<BlockId, NoMemory> {
     let head = flow.builder.add_block()?;
     flow.builder.jump(head, at)?;
     flow.builder.enter(head);
     flow.push_exit(Exit::of_loop(Some(head)))?;
-    let turn = lower_turn(flow, &ranged)?;
-    lower_targets(flow, &ranged, &turn, targets)?;
-    flow.tick(at)?;
-    lower_block(flow, body)?;
-    flow.jump_to(head, body.end)?;
-    leave_loop(flow, head)
+    Ok(head)
+}
+
+/// Where there is a turn, its key and value go where they belong.
+fn begin_turn(
+    flow: &mut Flow<'_>,
+    ranged: &Ranged,
+    targets: &RangeTargets,
+) -> Result<(), NoMemory> {
+    let turn = lower_turn(flow, ranged)?;
+    lower_targets(flow, ranged, &turn, targets)
 }
 
 /// What is done once: the operand, the number of turns, the variables, and the hidden index.
@@ -226,7 +250,7 @@ fn lower_index(flow: &mut Flow<'_>, ranged: &Ranged) -> Result<Turn, NoMemory> {
     let test = flow
         .builder
         .value(Op::Binary { op, left, right }, bool_type(), ranged.at)?;
-    branch_into(flow, test, ranged.at)?;
+    flow.branch_into(test, ranged.at)?;
     let left = index.copy(flow.builder.allocator())?;
     let right = integer(1, of);
     let op = Infix::Operate(BinaryOp::Add);
@@ -270,7 +294,7 @@ fn lower_next(flow: &mut Flow<'_>, ranged: &Ranged) -> Result<Turn, NoMemory> {
     let iterator = copy_of(flow, &ranged.iterator)?;
     let tuple = flow.builder.value(Op::Next(iterator), of, ranged.at)?;
     let test = extract(flow, &tuple, 0, bool_type(), ranged.at)?;
-    branch_into(flow, test, ranged.at)?;
+    flow.branch_into(test, ranged.at)?;
     Ok(Turn::Tuple(tuple))
 }
 
@@ -283,7 +307,7 @@ fn lower_receive(flow: &mut Flow<'_>, ranged: &Ranged) -> Result<Turn, NoMemory>
     };
     let tuple = flow.builder.value(op, of, ranged.at)?;
     let test = extract(flow, &tuple, 1, bool_type(), ranged.at)?;
-    branch_into(flow, test, ranged.at)?;
+    flow.branch_into(test, ranged.at)?;
     Ok(Turn::Tuple(tuple))
 }
 
@@ -378,6 +402,17 @@ fn lower_side(flow: &mut Flow<'_>, target: &Option<Target>) -> Result<Option<Sid
     }
 }
 
+/// The operands of the left sides, the key's first.
+fn lower_sides(
+    flow: &mut Flow<'_>,
+    key: &Option<Target>,
+    value: &Option<Target>,
+) -> Result<Sides, NoMemory> {
+    let key = lower_side(flow, key)?;
+    let value = lower_side(flow, value)?;
+    Ok(Sides { key, value })
+}
+
 /// The key of a turn, where it goes anywhere.
 fn key_for(
     flow: &mut Flow<'_>,
@@ -412,17 +447,46 @@ fn assign(
     value: &Option<Target>,
     parts: &[TypedExpr],
 ) -> Result<(), NoMemory> {
-    let key = lower_side(flow, key)?;
-    let value = lower_side(flow, value)?;
+    let sides = lower_sides(flow, key, value)?;
+    let operands = turn_operands(flow, ranged, turn, &sides)?;
+    let values = lower_part_values(flow, &sides, operands, parts)?;
+    store_parts(flow, sides, values)
+}
+
+/// The key and the value of a turn.
+fn turn_operands(
+    flow: &mut Flow<'_>,
+    ranged: &Ranged,
+    turn: &Turn,
+    sides: &Sides,
+) -> Result<Vec<Operand>, NoMemory> {
     let mut operands = Vec::new(flow.builder.allocator());
-    operands.push(key_for(flow, ranged, turn, &key)?)?;
-    operands.push(value_for(flow, ranged, turn, &value)?)?;
+    operands.push(key_for(flow, ranged, turn, &sides.key)?)?;
+    operands.push(value_for(flow, ranged, turn, &sides.value)?)?;
+    Ok(operands)
+}
+
+/// What the left sides get, which is read from the key and the value of a turn.
+fn lower_part_values(
+    flow: &mut Flow<'_>,
+    sides: &Sides,
+    operands: Vec<Operand>,
+    parts: &[TypedExpr],
+) -> Result<PartValues, NoMemory> {
     let outer = flow.builder.set_parts(Parts::List(operands));
-    let first = lower_part(flow, &key, parts.first())?;
-    let second = lower_part(flow, &value, parts.get(1))?;
+    let values = lower_parts(flow, sides, parts);
     flow.builder.set_parts(outer);
-    store_part(flow, key, first)?;
-    store_part(flow, value, second)
+    values
+}
+
+fn lower_parts(
+    flow: &mut Flow<'_>,
+    sides: &Sides,
+    parts: &[TypedExpr],
+) -> Result<PartValues, NoMemory> {
+    let key = lower_part(flow, &sides.key, parts.first())?;
+    let value = lower_part(flow, &sides.value, parts.get(1))?;
+    Ok(PartValues { key, value })
 }
 
 fn lower_part(
@@ -437,6 +501,11 @@ fn lower_part(
         Some(part) => Ok(Some(lower_expr(&mut flow.builder, part)?)),
         None => Err(lost()),
     }
+}
+
+fn store_parts(flow: &mut Flow<'_>, sides: Sides, values: PartValues) -> Result<(), NoMemory> {
+    store_part(flow, sides.key, values.key)?;
+    store_part(flow, sides.value, values.value)
 }
 
 fn store_part(
