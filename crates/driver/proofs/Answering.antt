@@ -13,17 +13,17 @@ use Rattle.go_load.specs.declared.error.LoadError.TheVariants as errors
 use Rattle.go_sources.specs.declared.program.Sources.{Sources}
 use Rattle.go_sources.specs.Sources.{files_of}
 use Rattle.go_load.specs.Answers.{IsLoaded, HasStopped}
-use Rattle.driver.specs.declared.outcome.Outcome.{Outcome}
-use Rattle.driver.specs.declared.outcome.Outcome.TheVariants as outcomes
-use Rattle.driver.specs.declared.stop.Stop.{Stop}
-use Rattle.driver.specs.declared.stop.Stop.TheVariants as stops
+use Rattle.program_work.specs.declared.outcome.Outcome.{Outcome}
+use Rattle.program_work.specs.declared.outcome.Outcome.TheVariants as outcomes
+use Rattle.program_work.specs.declared.stop.Stop.{Stop}
+use Rattle.program_work.specs.declared.stop.Stop.TheVariants as stops
 use Rattle.driver.specs.Generating.{IsGenerated}
-use Rattle.driver.specs.Outputs.{Comes, Finishes, IsUnfinished}
+use Rattle.program_work.specs.Outputs.{Comes, Finishes, IsUnfinished}
 use Rattle.driver.specs.Performing.{IsUsage, outcome_of}
-use Rattle.driver.specs.Stopping.{outcome_at}
+use Rattle.program_work.specs.Stopping.{outcome_at}
 use Rattle.driver.specs.WholeAnswer.{Answers, Becomes, HasProgram, IsRight, Works, generated, loaded, on_generated, on_loaded}
-use Rattle.driver.specs.Working.{IsResult, broken, done, outside, ran, worked}
-use Rattle.driver.proofs.Written.{finished_stops, finishes_as, unfinished_as}
+use Rattle.program_work.specs.Working.{IsResult, broken, done, outside, ran, worked}
+use Rattle.program_work.proofs.Written.{finished_stops, finishes_as, unfinished_as}
 
 -- ---- what is right for what was asked
 

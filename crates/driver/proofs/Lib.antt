@@ -1,5 +1,3 @@
-mod Programs
-mod Written
-mod Sinks
-mod Working
+mod Checked
+mod Generated
 mod Answering

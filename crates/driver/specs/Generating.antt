@@ -2,8 +2,8 @@
 -- which nothing is said yet.
 use Rattle.std.specs.Prelude.{◌≡◌, ℕ, List, ◌∷◌, [], ◌++◌, codes, decimal}
 use Rattle.go_base.specs.declared.ending.Ending.{Ending}
-use Rattle.driver.specs.declared.outcome.Outcome.{Outcome}
-use Rattle.driver.specs.declared.outcome.Outcome.TheVariants as outcomes
+use Rattle.program_work.specs.declared.outcome.Outcome.{Outcome}
+use Rattle.program_work.specs.declared.outcome.Outcome.TheVariants as outcomes
 
 -- a word and a number, on a line
 abbrev pub count_line : List ℕ → ℕ → List ℕ

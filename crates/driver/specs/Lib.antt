@@ -1,11 +1,3 @@
-pub mod FirstForm
-pub mod Asked
-pub mod Stopping
-pub mod Outputs
-pub mod Checking
-pub mod Reading
-pub mod Running
-pub mod Working
 pub mod Generating
 pub mod Lines
 pub mod Status

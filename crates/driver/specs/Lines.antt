@@ -5,8 +5,8 @@ use Rattle.go_base.specs.declared.rule.Rule.{Rule}
 use Rattle.go_base.specs.declared.ending.Ending.{Ending}
 use Rattle.go_base.specs.declared.ending.Ending.TheVariants.{Exited, Panicked, Deadlock, StackOverflow, Bound}
 use Rattle.go_base.specs.Rules.{code_of, text_of}
-use Rattle.driver.specs.declared.outcome.Outcome.{Outcome}
-use Rattle.driver.specs.declared.outcome.Outcome.TheVariants as outcomes
+use Rattle.program_work.specs.declared.outcome.Outcome.{Outcome}
+use Rattle.program_work.specs.declared.outcome.Outcome.TheVariants as outcomes
 
 abbrev pub line : List ℕ → List ℕ
 line text = text ++ 10 ∷ []

@@ -2,8 +2,8 @@
 use Rattle.std.specs.Prelude.{◌≡◌, ℕ, List, ◌⊎◌}
 use Rattle.go_load.specs.declared.error.LoadError.{LoadError}
 use Rattle.go_load.specs.declared.error.LoadError.TheVariants as errors
-use Rattle.driver.specs.declared.outcome.Outcome.{Outcome}
-use Rattle.driver.specs.declared.outcome.Outcome.TheVariants as outcomes
+use Rattle.program_work.specs.declared.outcome.Outcome.{Outcome}
+use Rattle.program_work.specs.declared.outcome.Outcome.TheVariants as outcomes
 
 -- the outcome for a bad word
 abbrev pub IsUsage : List ℕ → Outcome → Type 0

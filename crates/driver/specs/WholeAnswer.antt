@@ -11,12 +11,12 @@ use Rattle.go_base.specs.declared.rule.Rule.{Rule}
 use Rattle.go_sources.specs.declared.program.Sources.{Sources}
 use Rattle.go_sources.specs.Sources.{files_of}
 use Rattle.go_load.specs.Answers.{IsLoaded, Breaks}
-use Rattle.driver.specs.declared.outcome.Outcome.{Outcome}
-use Rattle.driver.specs.declared.outcome.Outcome.TheVariants as outcomes
+use Rattle.program_work.specs.declared.outcome.Outcome.{Outcome}
+use Rattle.program_work.specs.declared.outcome.Outcome.TheVariants as outcomes
 use Rattle.driver.specs.Generating.{IsGenerated}
 use Rattle.driver.specs.Lines.{line_for}
-use Rattle.driver.specs.Outputs.{Finishes, IsUnfinished}
-use Rattle.driver.specs.Working.{IsResult}
+use Rattle.program_work.specs.Outputs.{Finishes, IsUnfinished}
+use Rattle.program_work.specs.Working.{IsResult}
 
 -- a program is there: one that was loaded for a command, or the generated one
 pub data HasProgram (words : List (List ℕ)) (files : Option Tree) : Type 0 where

@@ -4,10 +4,10 @@ ghost use Rattle.std.specs.Prelude.{◌≡◌, ◌≤◌, ◌⊎◌, map, string
 ghost use Rattle.go_base.specs.Devices.{HasFaulted};
 ghost use Rattle.driver.specs.WholeAnswer.{Answers, Reports};
 
-use crate::outcome::Outcome;
 use crate::perform::perform;
 use crate::report::report;
 use go_base::{Files, Sink};
+use program_work::Outcome;
 use std::alloc::Global;
 
 /// Does what the words of a command line ask for. What a program prints goes to `out`, and a line for each outcome but

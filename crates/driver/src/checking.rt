@@ -4,19 +4,18 @@ ghost use Rattle.std.specs.Prelude.{◌≡◌, ◌≤◌, IsTrue};
 ghost use Rattle.go_base.specs.Devices.{HasFaulted};
 ghost use Rattle.go_sources.specs.Loaded.{IsWithin};
 ghost use Rattle.go_sources.specs.Sources.{files_of};
-ghost use Rattle.driver.specs.Asked.{needs_main};
-ghost use Rattle.driver.specs.Checking.{IsCheckedRow, IsRefusal};
-ghost use Rattle.driver.specs.Outputs.{Comes};
-ghost use Rattle.driver.specs.Working.{IsResult};
+ghost use Rattle.program_work.specs.Asked.{needs_main};
+ghost use Rattle.program_work.specs.Checking.{IsCheckedRow, IsRefusal};
+ghost use Rattle.program_work.specs.Outputs.{Comes};
+ghost use Rattle.program_work.specs.Working.{IsResult};
 
-use crate::outcome::Outcome;
-use crate::work::work;
 use command_line::LoadCommand;
 use go_base::{Pos, Rule, Sink};
 use go_declared::CheckError;
 use go_sources::Sources;
 use go_stmt::check;
 use go_tree::Program;
+use program_work::{Outcome, work_on};
 use std::alloc::Global;
 
 /// Checks a program that was loaded, and does what is asked with it where it breaks no rule.
@@ -53,7 +52,7 @@ fn work_checked<O: Sink>(
     if lacks_main {
         return refused(alloc, sources, package_name(sources), Rule::NotAMainPackage);
     }
-    work(alloc, command, sources, program, out)
+    work_on(alloc, command, sources, program, out)
 }
 
 // Whether what is asked begins at `main`.

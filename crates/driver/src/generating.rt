@@ -3,23 +3,20 @@
 ghost use Rattle.std.specs.Prelude.{◌≡◌, ◌≤◌, ◌++◌, IfOk, IsErrOf, OnOk};
 ghost use Rattle.go_base.specs.Devices.{HasFaulted};
 ghost use Rattle.driver.specs.Generating.{count_line, Counts, IsGenerated, IsGeneratedRun, IsRunBehind};
-ghost use Rattle.driver.specs.Outputs.{Comes, Does};
-ghost use Rattle.driver.specs.declared.stop.Stop.TheVariants.{WriteFault};
+ghost use Rattle.program_work.specs.Outputs.{Comes, Does};
+ghost use Rattle.program_work.specs.declared.stop.Stop.TheVariants.{WriteFault};
 
-use crate::coding::sound_code;
-use crate::graphs::edges_of;
-use crate::outcome::Outcome;
-use crate::stop::Stop;
 use command_line::Graph;
 use go_base::{Ending, NoMemory, Sink};
 use go_declared::CheckError;
 use go_gen::generated;
 use go_interp::run;
-use go_load::{LoadError, LoadError, Sources, from_text, from_text};
+use go_load::{LoadError, from_text};
 use go_sources::Sources;
 use go_stmt::check;
 use go_text::push_number;
 use go_tree::Program;
+use program_work::{Outcome, Stop, edges_of, sound_code};
 use ssa_ir::Code;
 use std::alloc::Global;
 

@@ -4,20 +4,11 @@
 
 mod call;
 mod checking;
-mod coding;
-mod first_form;
 mod generating;
-mod graphs;
-mod literals;
-mod outcome;
-mod output;
 mod perform;
-mod printing;
 mod report;
 mod statuses;
-mod stop;
-mod work;
 
 pub use call::ssadump;
-pub use outcome::Outcome;
+pub use program_work::Outcome;
 pub use statuses::status;

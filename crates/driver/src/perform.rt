@@ -9,10 +9,10 @@ ghost use Rattle.driver.specs.WholeAnswer.{Answers};
 
 use crate::checking::check_and_work;
 use crate::generating::generate;
-use crate::outcome::Outcome;
 use command_line::{Command, CommandError, LoadCommand, read_words};
 use go_base::{Files, Sink, Text};
 use go_load::{LoadError, load};
+use program_work::Outcome;
 use std::alloc::Global;
 
 /// Does what the words ask for.

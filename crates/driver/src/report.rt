@@ -5,8 +5,8 @@ ghost use Rattle.go_base.specs.Devices.{HasFaulted};
 ghost use Rattle.driver.specs.Lines.{line_for, ending_line as line_for_ending, panic_line as line_for_panic, refused_line, usage_line};
 ghost use Rattle.driver.specs.WholeAnswer.{Reports, Becomes};
 
-use crate::outcome::Outcome;
 use go_base::{Ending, Place, Rule, Sink, SinkError};
+use program_work::Outcome;
 use std::alloc::{AllocError, Global};
 
 /// Writes the outcome's line to standard error, and says what the call has come to then.

@@ -3,8 +3,8 @@
 ghost use Rattle.std.specs.Prelude.{◌≡◌};
 ghost use Rattle.driver.specs.Status.{status_of, status_of_ending};
 
-use crate::outcome::Outcome;
 use go_base::Ending;
+use program_work::Outcome;
 
 /// The exit status for an outcome.
 pub fn status(outcome: &Outcome) -> u8

@@ -1,6 +1,6 @@
 use Rattle.go_sources.specs.Sources.{files_of}
-use Rattle.driver.proofs.Working.{refusal_comes, wants_comes}
-use Rattle.driver.specs.Working.{IsResult}
+use Rattle.driver.proofs.Checked.{refusal_comes, wants_comes}
+use Rattle.program_work.specs.Working.{IsResult}
 use Rattle.driver.proofs.checking.check_and_work.Goals as goal
 
 pub returns-in-Err-Refused-clause-comes : goal.returns-in-Err-Refused-clause-comes

@@ -1,5 +1,5 @@
 use Rattle.go_sources.specs.Sources.{files_of}
-use Rattle.driver.proofs.Working.{refusal_comes}
+use Rattle.driver.proofs.Checked.{refusal_comes}
 use Rattle.driver.proofs.checking.work_checked.Goals as goal
 
 pub returns-then-lacks_main-clause-comes : goal.returns-then-lacks_main-clause-comes

@@ -1,4 +1,4 @@
-use Rattle.driver.proofs.Working.{generated_comes, generated_stop_comes}
+use Rattle.driver.proofs.Generated.{generated_comes, generated_stop_comes}
 use Rattle.driver.proofs.generating.generate.Goals as goal
 
 pub returns-in-Ok-clause-comes : goal.returns-in-Ok-clause-comes

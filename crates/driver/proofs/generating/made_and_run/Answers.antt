@@ -1,6 +1,6 @@
 use Rattle.driver.specs.Generating.{IsGeneratedRun}
-use Rattle.driver.proofs.Working.{counted_does}
-use Rattle.driver.proofs.Written.{does_stop, nothing_yet}
+use Rattle.driver.proofs.Generated.{counted_does}
+use Rattle.program_work.proofs.Written.{does_stop, nothing_yet}
 use Rattle.driver.proofs.generating.made_and_run.Goals as goal
 
 pub returns-in_err-code-clause-does : goal.returns-in_err-code-clause-does

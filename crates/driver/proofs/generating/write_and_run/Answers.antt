@@ -1,6 +1,6 @@
 use Rattle.driver.specs.Generating.{IsRunBehind}
-use Rattle.driver.proofs.Working.{behind_finishes, behind_stops, behind_stops_in}
-use Rattle.driver.proofs.Written.{does_stop}
+use Rattle.driver.proofs.Generated.{behind_finishes, behind_stops, behind_stops_in}
+use Rattle.program_work.proofs.Written.{does_stop}
 use Rattle.driver.proofs.generating.write_and_run.Goals as goal
 
 pub returns-in_err-write-clause-does : goal.returns-in_err-write-clause-does

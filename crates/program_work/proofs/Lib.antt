@@ -1,0 +1,4 @@
+mod Programs
+pub mod Written
+mod Sinks
+mod Working

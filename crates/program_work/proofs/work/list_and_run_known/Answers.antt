@@ -1,0 +1,17 @@
+use Rattle.go_sources.specs.Sources.{files_of}
+use Rattle.program_work.specs.Working.{IsWork}
+use Rattle.program_work.proofs.Working.{known_finishes, known_listing_stops, known_run_stops}
+use Rattle.program_work.proofs.Written.{does_stop}
+use Rattle.program_work.proofs.work.list_and_run_known.Goals as goal
+
+pub returns-in_err-list_graph-clause-does : goal.returns-in_err-list_graph-clause-does
+returns-in_err-list_graph-clause-does g c =
+    does_stop (IsWork c.args.command.now (files_of c.args.sources.now)) c.from_residual.result _ _ c.from_residual.ensures.0 (known_listing_stops c.args.command.now (files_of c.args.sources.now) c.args.text.now _ _ c.requires.no_code c.requires.run c.requires.known c.in_err-list_graph.ensures.lists)
+
+pub returns-in_err-ending-clause-does : goal.returns-in_err-ending-clause-does
+returns-in_err-ending-clause-does g c =
+    does_stop (IsWork c.args.command.now (files_of c.args.sources.now)) c.from_residual-in_err-ending.result _ _ c.from_residual-in_err-ending.ensures.0 (known_run_stops c.args.command.now (files_of c.args.sources.now) c.args.text.now _ _ _ c.requires.no_code c.requires.run c.requires.known c.in_ok-list_graph.ensures.lists c.in_err-ending.ensures.does)
+
+pub returns-clause-does : goal.returns-clause-does
+returns-clause-does g c =
+    known_finishes c.args.command.now (files_of c.args.sources.now) c.args.text.now _ _ _ _ c.requires.no_code c.requires.run c.requires.known c.in_ok-list_graph.ensures.lists c.in_ok-ending.ensures.does

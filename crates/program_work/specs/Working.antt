@@ -1,0 +1,69 @@
+-- The work on a program that was loaded: its code is printed, a call graph listed, and it is run, each where that is
+-- asked.
+use Rattle.std.specs.Prelude.{◌≡◌, ℕ, List, [], ◌∷◌, ◌++◌, ◌⊎◌, Option, Some, None, true, false}
+use Rattle.std.specs.Io.KnownBytes.{Appends}
+use Rattle.command_line.specs.declared.command.Graph.{Graph}
+use Rattle.command_line.specs.declared.command.Letters.{Letters}
+use Rattle.command_line.specs.declared.command.LoadCommand.{LoadCommand}
+use Rattle.go_base.specs.declared.ending.Ending.{Ending}
+use Rattle.go_base.specs.declared.place.Place.{Place}
+use Rattle.go_base.specs.declared.rule.Rule.TheVariants as rules
+use Rattle.go_sources.specs.declared.sources.SourceFile.{SourceFile}
+use Rattle.program_work.specs.declared.outcome.Outcome.{Outcome}
+use Rattle.program_work.specs.declared.outcome.Outcome.TheVariants as outcomes
+use Rattle.program_work.specs.Asked.{wants_registers}
+use Rattle.program_work.specs.Checking.{IsBroken}
+use Rattle.program_work.specs.Running.{IsRunOf}
+
+-- the path of the target's first file
+abbrev pub first_path : List SourceFile → List ℕ
+first_path [] = []
+first_path (file ∷ files) = file.path
+
+-- the first byte of the file at a path
+abbrev pub start_of : List ℕ → Place
+start_of path = record { path = path; offset = 0; line = 1; column = 1 }
+
+-- the text of a code, where that is asked; of the text nothing is said yet
+abbrev pub IsCodeText : Option Letters → List ℕ → Type 0
+IsCodeText None text = text ≡ []
+IsCodeText (Some letters) text = Unit {0}
+
+-- the listing of a graph, where one is asked; of the listing nothing is said yet
+abbrev pub IsListing : Option Graph → List ℕ → Type 0
+IsListing None text = text ≡ []
+IsListing (Some graph) text = Unit {0}
+
+-- how the work ends, with what the run writes, where one is asked
+pub data EndsIn (command : LoadCommand) (files : List SourceFile) (outcome : Outcome) (output : List ℕ) : Type 0 where
+  done : command.run ≡ false → outcome ≡ outcomes.Done → output ≡ [] → EndsIn command files outcome output
+  ran : command.run ≡ true → (ending : Ending) → outcome ≡ outcomes.Ended ending → IsRunOf command files ending output → EndsIn command files outcome output
+
+-- the work that a command asks for, which is built
+pub record IsWork (command : LoadCommand) (files : List SourceFile) (outcome : Outcome) (output : List ℕ) : Type 0 where
+  pub built : wants_registers command ≡ false
+  pub code : List ℕ
+  pub listing : List ℕ
+  pub run : List ℕ
+  pub is_code : IsCodeText command.build code
+  pub is_listing : IsListing command.callgraph listing
+  pub ends : EndsIn command files outcome run
+  pub parts : output ≡ code ++ (listing ++ run)
+
+-- the right outcome for a program that was loaded: it breaks a rule, what is asked is not built, or the work is done
+pub data IsResult (command : LoadCommand) (files : List SourceFile) (outcome : Outcome) (output : List ℕ) : Type 0 where
+  broken : IsBroken files outcome → output ≡ [] → IsResult command files outcome output
+  outside : wants_registers command ≡ true → outcome ≡ outcomes.Refused (start_of (first_path files)) rules.NotBuiltYet → output ≡ [] → IsResult command files outcome output
+  worked : IsWork command files outcome output → IsResult command files outcome output
+
+-- ---- what the parts of the code come to
+
+-- the outcome where what is asked is not built, for the file at a path
+abbrev pub IsNotBuilt : List ℕ → Outcome → Type 0
+IsNotBuilt path outcome = (outcome ≡ outcomes.Refused (start_of path) rules.NotBuiltYet) ⊎ (outcome ≡ outcomes.OutOfMemory)
+
+-- a listing was written, or a front of one, where one is asked
+pub record Lists (graph : Option Graph) (old new : Option (List ℕ)) : Type 0 where
+  pub text : List ℕ
+  pub is_listing : IsListing graph text
+  pub appends : Appends old new text

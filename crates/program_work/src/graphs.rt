@@ -1,0 +1,64 @@
+//! Call graphs of a program: their listing, and how many edges they have.
+
+ghost use Rattle.std.specs.Prelude.{◌≤◌, IsErrOf};
+ghost use Rattle.go_base.specs.Devices.{HasFaulted};
+ghost use Rattle.go_interp.specs.Output.{HasWritten};
+ghost use Rattle.program_work.specs.Working.{Lists};
+ghost use Rattle.program_work.specs.declared.stop.Stop.TheVariants.{WriteFault};
+
+use crate::stop::Stop;
+use cg_listing::write_edges;
+use cg_sets::{Edges, cha, rta};
+use cg_vta::vta;
+use command_line::Graph;
+use go_base::{NoMemory, PrintError, Sink};
+use go_sources::Sources;
+use go_tree::Program;
+use std::alloc::Global;
+
+/// Lists a graph, where one is asked.
+pub fn list_graph<O: Sink>(
+    alloc: Global,
+    graph: Option<Graph>,
+    sources: &Sources,
+    program: &Program,
+    out: &mut O,
+) -> Result<(), Stop>
+    ensures lists { Lists graph (O.written out.old) (O.written out.new) }
+    ensures fault { IsErrOf result WriteFault → HasFaulted (O.faults out.old) (O.faults out.new) }
+    ensures later { O.faults out.old ≤ O.faults out.new }
+{
+    let Some(graph) = graph else {
+        return Ok(());
+    };
+    let edges = edges_of(alloc, graph, program)?;
+    list_edges(alloc, &edges, sources, program, out)
+}
+
+// Lists edges.
+fn list_edges<O: Sink>(
+    alloc: Global,
+    edges: &Edges,
+    sources: &Sources,
+    program: &Program,
+    out: &mut O,
+) -> Result<(), Stop>
+    ensures written { HasWritten (O.written out.old) (O.written out.new) }
+    ensures fault { IsErrOf result WriteFault → HasFaulted (O.faults out.old) (O.faults out.new) }
+    ensures later { O.faults out.old ≤ O.faults out.new }
+{
+    match write_edges(alloc, sources, program, edges, out) {
+        Ok(()) => Ok(()),
+        Err(PrintError::WriteFault) => Err(Stop::WriteFault),
+        Err(PrintError::OutOfMemory) => Err(Stop::OutOfMemory),
+    }
+}
+
+/// The edges of a graph.
+pub fn edges_of(alloc: Global, graph: Graph, program: &Program) -> Result<Edges, NoMemory> {
+    match graph {
+        Graph::Cha => cha(alloc, program),
+        Graph::Rta => rta(alloc, program),
+        Graph::Vta => vta(alloc, program),
+    }
+}

@@ -1,0 +1,19 @@
+//! The work on a program that breaks no rule: its code is printed, a call graph listed, and it is run, each where that is
+//! asked. It meets `Working`.
+#![tactic(auto)]
+
+mod coding;
+mod first_form;
+mod graphs;
+mod literals;
+mod outcome;
+mod output;
+mod printing;
+mod stop;
+mod work;
+
+pub use coding::sound_code;
+pub use graphs::edges_of;
+pub use outcome::Outcome;
+pub use stop::Stop;
+pub use work::work_on;

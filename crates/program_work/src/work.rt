@@ -1,0 +1,229 @@
+//! The work on a program that breaks no rule: its code is printed, a call graph listed, and it is run, in this order.
+
+ghost use Rattle.std.specs.Prelude.{◌≡◌, ◌≤◌, IsErrOf, None, Some, true, false};
+ghost use Rattle.go_base.specs.Devices.{HasFaulted};
+ghost use Rattle.go_interp.specs.Output.{HasWritten};
+ghost use Rattle.go_sources.specs.Sources.{files_of};
+ghost use Rattle.program_work.specs.Asked.{wants_registers};
+ghost use Rattle.program_work.specs.Outputs.{Comes, Does};
+ghost use Rattle.program_work.specs.Running.{IsKnown, IsOther};
+ghost use Rattle.program_work.specs.Working.{first_path, IsNotBuilt, IsResult, IsWork};
+ghost use Rattle.program_work.specs.declared.stop.Stop.TheVariants.{WriteFault};
+
+use crate::coding::sound_code;
+use crate::graphs::list_graph;
+use crate::literals::{known_output, run_known};
+use crate::outcome::Outcome;
+use crate::printing::print_code;
+use crate::stop::Stop;
+use command_line::{Letters, LoadCommand};
+use go_base::{Ending, Place, Rule, Sink, Text};
+use go_interp::run;
+use go_sources::Sources;
+use go_tree::Program;
+use ssa_ir::Code;
+use std::alloc::Global;
+
+/// Does what is asked, beside a check, with a program that breaks no rule.
+pub fn work_on<O: Sink>(
+    alloc: Global,
+    command: &LoadCommand,
+    sources: &Sources,
+    program: &Program,
+    out: &mut O,
+) -> Outcome
+    ensures comes { Comes (IsResult command.now (files_of sources.now)) result (O.written out.old) (O.written out.new) }
+    ensures fault { result ≡ Outcome.WriteFault → HasFaulted (O.faults out.old) (O.faults out.new) }
+    ensures later { O.faults out.old ≤ O.faults out.new }
+{
+    if wants_registers(command) {
+        return not_built(alloc, first_path(sources));
+    }
+    match work_built(alloc, command, sources, program, out) {
+        Ok(outcome) => outcome,
+        Err(stop) => stop.outcome(),
+    }
+}
+
+// Whether code is asked in which variables need no cell.
+fn wants_registers(command: &LoadCommand) -> bool
+    ensures { result ≡ wants_registers command.now }
+{
+    match command.build {
+        Some(letters) => !letters.naive,
+        None => false,
+    }
+}
+
+// The path of the target's first file.
+fn first_path(sources: &Sources) -> &str
+    ensures { result.now ≡ first_path (files_of sources.now) }
+{
+    match sources.file(0) {
+        Some(file) => file.path.as_str(),
+        None => "",
+    }
+}
+
+// That what is asked of the program whose first file stands at a path is not built yet.
+fn not_built(alloc: Global, path: &str) -> Outcome
+    ensures { IsNotBuilt path.now result }
+{
+    match Text::new(alloc, path) {
+        Ok(path) => Outcome::Refused {
+            place: Place {
+                path,
+                offset: 0,
+                line: 1,
+                column: 1,
+            },
+            rule: Rule::NotBuiltYet,
+        },
+        Err(_) => Outcome::OutOfMemory,
+    }
+}
+
+// Does what is asked, which is built.
+fn work_built<O: Sink>(
+    alloc: Global,
+    command: &LoadCommand,
+    sources: &Sources,
+    program: &Program,
+    out: &mut O,
+) -> Result<Outcome, Stop>
+    requires { wants_registers command.now ≡ false }
+    ensures does { Does (IsWork command.now (files_of sources.now)) result (O.written out.old) (O.written out.new) }
+    ensures fault { IsErrOf result WriteFault → HasFaulted (O.faults out.old) (O.faults out.new) }
+    ensures later { O.faults out.old ≤ O.faults out.new }
+{
+    match command.build {
+        Some(letters) => print_and_work(alloc, letters, command, sources, program, out),
+        None => {
+            if command.run {
+                list_and_run(alloc, command, sources, program, out)
+            } else {
+                list_alone(alloc, command, sources, program, out)
+            }
+        }
+    }
+}
+
+// Prints the code, and does what else is asked.
+fn print_and_work<O: Sink>(
+    alloc: Global,
+    letters: Letters,
+    command: &LoadCommand,
+    sources: &Sources,
+    program: &Program,
+    out: &mut O,
+) -> Result<Outcome, Stop>
+    requires built { wants_registers command.now ≡ false }
+    requires asked { command.now.build ≡ Some letters }
+    ensures does { Does (IsWork command.now (files_of sources.now)) result (O.written out.old) (O.written out.new) }
+    ensures fault { IsErrOf result WriteFault → HasFaulted (O.faults out.old) (O.faults out.new) }
+    ensures later { O.faults out.old ≤ O.faults out.new }
+{
+    let code = sound_code(alloc, program)?;
+    print_code(alloc, &code, letters, out)?;
+    list_graph(alloc, command.callgraph, sources, program, out)?;
+    if !command.run {
+        return Ok(Outcome::Done);
+    }
+    let ending = run_code(alloc, &code, command, out)?;
+    Ok(Outcome::Ended(ending))
+}
+
+// Lists the graph where one is asked, and does nothing else.
+fn list_alone<O: Sink>(
+    alloc: Global,
+    command: &LoadCommand,
+    sources: &Sources,
+    program: &Program,
+    out: &mut O,
+) -> Result<Outcome, Stop>
+    requires no_code { command.now.build ≡ None }
+    requires no_run { command.now.run ≡ false }
+    ensures does { Does (IsWork command.now (files_of sources.now)) result (O.written out.old) (O.written out.new) }
+    ensures fault { IsErrOf result WriteFault → HasFaulted (O.faults out.old) (O.faults out.new) }
+    ensures later { O.faults out.old ≤ O.faults out.new }
+{
+    list_graph(alloc, command.callgraph, sources, program, out)?;
+    Ok(Outcome::Done)
+}
+
+// Lists the graph where one is asked, and runs the program. What it is run by is made before.
+fn list_and_run<O: Sink>(
+    alloc: Global,
+    command: &LoadCommand,
+    sources: &Sources,
+    program: &Program,
+    out: &mut O,
+) -> Result<Outcome, Stop>
+    requires no_code { command.now.build ≡ None }
+    requires run { command.now.run ≡ true }
+    ensures does { Does (IsWork command.now (files_of sources.now)) result (O.written out.old) (O.written out.new) }
+    ensures fault { IsErrOf result WriteFault → HasFaulted (O.faults out.old) (O.faults out.new) }
+    ensures later { O.faults out.old ≤ O.faults out.new }
+{
+    match known_output(alloc, sources)? {
+        Some(text) => list_and_run_known(alloc, text.as_slice(), command, sources, program, out),
+        None => list_and_run_code(alloc, command, sources, program, out),
+    }
+}
+
+// Does so with a program that prints this.
+fn list_and_run_known<O: Sink>(
+    alloc: Global,
+    text: &[u8],
+    command: &LoadCommand,
+    sources: &Sources,
+    program: &Program,
+    out: &mut O,
+) -> Result<Outcome, Stop>
+    requires no_code { command.now.build ≡ None }
+    requires run { command.now.run ≡ true }
+    requires known { IsKnown (files_of sources.now) text.now }
+    ensures does { Does (IsWork command.now (files_of sources.now)) result (O.written out.old) (O.written out.new) }
+    ensures fault { IsErrOf result WriteFault → HasFaulted (O.faults out.old) (O.faults out.new) }
+    ensures later { O.faults out.old ≤ O.faults out.new }
+{
+    list_graph(alloc, command.callgraph, sources, program, out)?;
+    let ending = run_known(text, command.bound, out)?;
+    Ok(Outcome::Ended(ending))
+}
+
+// Does so by the program's code.
+fn list_and_run_code<O: Sink>(
+    alloc: Global,
+    command: &LoadCommand,
+    sources: &Sources,
+    program: &Program,
+    out: &mut O,
+) -> Result<Outcome, Stop>
+    requires no_code { command.now.build ≡ None }
+    requires run { command.now.run ≡ true }
+    requires other { IsOther (files_of sources.now) }
+    ensures does { Does (IsWork command.now (files_of sources.now)) result (O.written out.old) (O.written out.new) }
+    ensures fault { IsErrOf result WriteFault → HasFaulted (O.faults out.old) (O.faults out.new) }
+    ensures later { O.faults out.old ≤ O.faults out.new }
+{
+    let code = sound_code(alloc, program)?;
+    list_graph(alloc, command.callgraph, sources, program, out)?;
+    let ending = run_code(alloc, &code, command, out)?;
+    Ok(Outcome::Ended(ending))
+}
+
+// Runs a code with the choices and the bound of a command.
+fn run_code<O: Sink>(
+    alloc: Global,
+    code: &Code,
+    command: &LoadCommand,
+    out: &mut O,
+) -> Result<Ending, Stop>
+    ensures written { HasWritten (O.written out.old) (O.written out.new) }
+    ensures fault { IsErrOf result WriteFault → HasFaulted (O.faults out.old) (O.faults out.new) }
+    ensures later { O.faults out.old ≤ O.faults out.new }
+{
+    let ending = run(alloc, code, command.choices.as_slice(), command.bound, out)?;
+    Ok(ending)
+}
