@@ -12,7 +12,7 @@ use ssa_typed::TypedError;
 use std::alloc::AllocError;
 
 /// Why work that was begun does not come to its end.
-#[derive(Clone, Copy, Debug, PartialEq, Eq)]
+#[derive(Clone, Copy)]
 pub enum Stop {
     /// Standard output could not be written.
     WriteFault,

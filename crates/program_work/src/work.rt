@@ -108,7 +108,7 @@ fn work_built<O: Sink>(
     }
 }
 
-// Prints the code, and does what else is asked.
+// Builds and prints the code, and does what else is asked.
 fn print_and_work<O: Sink>(
     alloc: Global,
     letters: Letters,
@@ -124,12 +124,31 @@ fn print_and_work<O: Sink>(
     ensures later { O.faults out.old ≤ O.faults out.new }
 {
     let code = sound_code(alloc, program)?;
-    print_code(alloc, &code, letters, out)?;
+    work_with_code(alloc, letters, &code, command, sources, program, out)
+}
+
+// Prints a code that was built, and does what else is asked.
+fn work_with_code<O: Sink>(
+    alloc: Global,
+    letters: Letters,
+    code: &Code,
+    command: &LoadCommand,
+    sources: &Sources,
+    program: &Program,
+    out: &mut O,
+) -> Result<Outcome, Stop>
+    requires built { wants_registers command.now ≡ false }
+    requires asked { command.now.build ≡ Some letters }
+    ensures does { Does (IsWork command.now (files_of sources.now)) result (O.written out.old) (O.written out.new) }
+    ensures fault { IsErrOf result WriteFault → HasFaulted (O.faults out.old) (O.faults out.new) }
+    ensures later { O.faults out.old ≤ O.faults out.new }
+{
+    print_code(alloc, code, letters, out)?;
     list_graph(alloc, command.callgraph, sources, program, out)?;
     if !command.run {
         return Ok(Outcome::Done);
     }
-    let ending = run_code(alloc, &code, command, out)?;
+    let ending = run_code(alloc, code, command, out)?;
     Ok(Outcome::Ended(ending))
 }
 

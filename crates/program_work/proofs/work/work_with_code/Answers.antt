@@ -2,11 +2,11 @@ use Rattle.go_sources.specs.Sources.{files_of}
 use Rattle.program_work.specs.Working.{IsWork}
 use Rattle.program_work.proofs.Working.{printed_finishes, printed_listing_stops, printed_run_finishes, printed_run_stops, printing_stops}
 use Rattle.program_work.proofs.Written.{does_stop}
-use Rattle.program_work.proofs.work.print_and_work.Goals as goal
+use Rattle.program_work.proofs.work.work_with_code.Goals as goal
 
 pub returns-in_err-print_code-clause-does : goal.returns-in_err-print_code-clause-does
 returns-in_err-print_code-clause-does g c =
-    does_stop (IsWork c.args.command.now (files_of c.args.sources.now)) c.from_residual-in_err-print_code.result _ _ c.from_residual-in_err-print_code.ensures.0 (printing_stops c.args.command.now (files_of c.args.sources.now) c.args.letters c.in_err-print_code.ensures.written.output _ _ c.requires.built c.requires.asked c.in_err-print_code.ensures.written.appends)
+    does_stop (IsWork c.args.command.now (files_of c.args.sources.now)) c.from_residual.result _ _ c.from_residual.ensures.0 (printing_stops c.args.command.now (files_of c.args.sources.now) c.args.letters c.in_err-print_code.ensures.written.output _ _ c.requires.built c.requires.asked c.in_err-print_code.ensures.written.appends)
 
 pub returns-in_err-list_graph-clause-does : goal.returns-in_err-list_graph-clause-does
 returns-in_err-list_graph-clause-does g c =
