@@ -1,6 +1,7 @@
 //! A function while it is built.
 
 use crate::error::lost;
+use crate::joining::{add, beside, beside_some, kept, refused};
 use go_base::{BlockId, FuncId, NameId, NoMemory, Pos, TypeId, VarId};
 use go_tree::{Body, FunctionDecl, Program, Variable};
 use go_type::{TypeIds, TypeTerm, Types};
@@ -14,6 +15,24 @@ pub(crate) struct OpenBlock {
     pub preds: BlockIds,
     pub instrs: Instrs,
     pub ended: bool,
+}
+
+impl OpenBlock {
+    /// A block without code and predecessors.
+    fn new(alloc: Global) -> OpenBlock {
+        OpenBlock {
+            preds: BlockIds::new(alloc),
+            instrs: Instrs::new(alloc),
+            ended: false,
+        }
+    }
+
+    /// Puts an instruction last.
+    fn put(&mut self, instr: Instr, ends: bool) -> Result<(), NoMemory> {
+        self.instrs.push(instr)?;
+        self.ended = ends;
+        Ok(())
+    }
 }
 
 /// What the parts of a value of several parts are read from.
@@ -54,22 +73,23 @@ impl<'a> Builder<'a> {
         function: FuncId,
         _form: Form,
     ) -> Result<Builder<'a>, NoMemory> {
-        let mut builder = Builder {
+        let mut blocks = Vec::new(alloc);
+        let begun = add(&mut blocks, OpenBlock::new(alloc));
+        let types = kept(types, begun)?;
+        Ok(Builder {
             alloc,
             program,
             types,
             function,
             blank: program.names.find("_"),
-            blocks: Vec::new(alloc),
+            blocks,
             current: 0,
             registers: TypeIds::new(alloc),
             homes: IndexMap::new(alloc),
             needs: Needs::new(alloc),
             recover: None,
             parts: Parts::Nothing,
-        };
-        builder.add_block()?;
-        Ok(builder)
+        })
     }
 
     /// What memory is taken from.
@@ -111,7 +131,7 @@ impl<'a> Builder<'a> {
         if self.types.can_hold(&term) {
             return self.types.hold(term);
         }
-        Err(lost())
+        refused(term)
     }
 
     /// The pointer type to a type.
@@ -139,11 +159,7 @@ impl<'a> Builder<'a> {
     /// A new block, without code and predecessors.
     pub fn add_block(&mut self) -> Result<BlockId, NoMemory> {
         let number = self.blocks.len() as u64;
-        self.blocks.push(OpenBlock {
-            preds: BlockIds::new(self.alloc),
-            instrs: Instrs::new(self.alloc),
-            ended: false,
-        })?;
+        self.blocks.push(OpenBlock::new(self.alloc))?;
         Ok(BlockId { number })
     }
 
@@ -185,21 +201,29 @@ impl<'a> Builder<'a> {
         of: Option<TypeId>,
         at: Pos,
     ) -> Result<Option<Operand>, NoMemory> {
+        match of {
+            Some(of) => Ok(Some(self.value(op, of, at)?)),
+            None => {
+                self.effect(op, at)?;
+                Ok(None)
+            }
+        }
+    }
+
+    fn put(&mut self, op: Op, register: Option<u64>, at: Pos) -> Result<(), NoMemory> {
         let (first, second) = op.targets();
         let ends = op.is_end();
-        let register = match of {
-            Some(of) => Some(self.add_register(of)?),
-            None => None,
-        };
-        let current = self.current;
-        let Some(block) = self.blocks.get_mut(current) else {
-            return Err(lost());
-        };
-        block.instrs.push(Instr { op, register, at })?;
-        block.ended = ends;
+        self.put_last(Instr { op, register, at }, ends)?;
         self.link(first)?;
-        self.link(second)?;
-        Ok(register.map(Operand::Register))
+        self.link(second)
+    }
+
+    fn put_last(&mut self, instr: Instr, ends: bool) -> Result<(), NoMemory> {
+        let current = self.current;
+        match self.blocks.get_mut(current) {
+            Some(block) => block.put(instr, ends),
+            None => refused(instr),
+        }
     }
 
     fn add_register(&mut self, of: TypeId) -> Result<u64, NoMemory> {
@@ -225,16 +249,30 @@ impl<'a> Builder<'a> {
 
     /// An instruction that gives a register.
     pub fn value(&mut self, op: Op, of: TypeId, at: Pos) -> Result<Operand, NoMemory> {
-        match self.emit(op, Some(of), at)? {
-            Some(operand) => Ok(operand),
-            None => Err(lost()),
-        }
+        Ok(Operand::Register(self.register(op, of, at)?))
+    }
+
+    /// An instruction that gives a register, and the register's number.
+    pub(crate) fn register(&mut self, op: Op, of: TypeId, at: Pos) -> Result<u64, NoMemory> {
+        let (register, op) = beside(self.add_register(of), op)?;
+        self.put(op, Some(register), at)?;
+        Ok(register)
     }
 
     /// An instruction that gives none.
     pub fn effect(&mut self, op: Op, at: Pos) -> Result<(), NoMemory> {
-        self.emit(op, None, at)?;
-        Ok(())
+        self.put(op, None, at)
+    }
+
+    /// A value is put at an address.
+    pub(crate) fn store(
+        &mut self,
+        address: Result<Operand, NoMemory>,
+        value: Operand,
+        at: Pos,
+    ) -> Result<(), NoMemory> {
+        let (address, value) = beside(address, value)?;
+        self.effect(Op::Store { at: address, value }, at)
     }
 
     /// The block of a slot; a new one, where there is none yet.
@@ -307,10 +345,8 @@ impl<'a> Builder<'a> {
         }
         let variable = *self.variable(var)?;
         let of = self.pointer_to(variable.of)?;
-        let cell = self.value(Op::New(variable.of), of, variable.at)?;
-        if let Operand::Register(register) = cell {
-            self.homes.insert(var, register)?;
-        }
+        let register = self.register(Op::New(variable.of), of, variable.at)?;
+        self.homes.insert(var, register)?;
         Ok(())
     }
 
@@ -325,10 +361,10 @@ impl<'a> Builder<'a> {
 
     /// A variable gets a value.
     pub fn write_var(&mut self, var: VarId, value: Operand, at: Pos) -> Result<(), NoMemory> {
-        match self.cell(var)? {
-            Some(cell) => self.effect(Op::Store { at: cell, value }, at),
-            None => Ok(()),
-        }
+        let Some((cell, value)) = beside_some(self.cell(var), value)? else {
+            return Ok(());
+        };
+        self.effect(Op::Store { at: cell, value }, at)
     }
 
     /// The function has no body.

@@ -1,9 +1,10 @@
 //! Calls of built-in functions. Go specification, "Built-in functions".
 
 use crate::builder::{Builder, integer, zero};
-use crate::calls::{lower_list, push_all};
+use crate::calls::{lower_list, make_call, push_all};
 use crate::error::lost;
 use crate::exprs::int_type;
+use crate::joining::{beside, two};
 use crate::places::index_address;
 use go_base::{NoMemory, Pos, TypeId};
 use go_tree::{ExprKind, TypedExpr};
@@ -60,14 +61,7 @@ fn value_of(
     at: Pos,
 ) -> Result<Operand, NoMemory> {
     let call = builtin_call(builder, builtin, values)?;
-    let register = match builder.types().get(of) {
-        Some(TypeTerm::Tuple(parts)) if parts.as_slice().is_empty() => None,
-        _ => Some(of),
-    };
-    match builder.emit(Op::Call(call), register, at)? {
-        Some(operand) => Ok(operand),
-        None => Ok(zero(of)),
-    }
+    make_call(builder, call, of, at)
 }
 
 fn make(
@@ -79,13 +73,17 @@ fn make(
     let Some(of) = form else {
         return Err(lost());
     };
-    let op = match builder.under(of)? {
-        TypeTerm::Map { .. } => Op::MakeMap(of),
-        TypeTerm::Chan { .. } => make_chan(of, values),
-        TypeTerm::Slice(_) => make_slice(builder, of, values)?,
-        _ => return Err(lost()),
-    };
+    let op = making(builder, of, values)?;
     builder.value(op, of, at)
+}
+
+fn making(builder: &Builder<'_>, of: TypeId, values: Vec<Operand>) -> Result<Op, NoMemory> {
+    match builder.under(of)? {
+        TypeTerm::Map { .. } => Ok(Op::MakeMap(of)),
+        TypeTerm::Chan { .. } => Ok(make_chan(of, values)),
+        TypeTerm::Slice(_) => make_slice(builder, of, values),
+        _ => Err(lost()),
+    }
 }
 
 /// `make` of a channel. Without a size that is zero.
@@ -105,9 +103,10 @@ fn make_slice(builder: &Builder<'_>, of: TypeId, values: Vec<Operand>) -> Result
         return Err(lost());
     };
     let cap = match values.next() {
-        Some(cap) => cap,
-        None => len.copy(builder.allocator())?,
+        Some(cap) => Ok(cap),
+        None => len.copy(builder.allocator()),
     };
+    let (cap, len) = beside(cap, len)?;
     Ok(Op::MakeSlice { of, len, cap })
 }
 
@@ -137,16 +136,13 @@ fn append(
         return value_of(builder, Builtin::Append, values, expr.of, expr.at);
     }
     let mut values = values.into_iter();
-    let Some(slice_value) = values.next() else {
+    let first = values.next();
+    let Some((slice_value, item_value)) = first.zip(values.next()) else {
         return Err(lost());
     };
-    let Some(item_value) = values.next() else {
-        return Err(lost());
-    };
-    let packed = packed(builder, slice.of, item_value, item.of, expr.at)?;
-    let mut both = Vec::new(builder.allocator());
-    both.push(slice_value)?;
-    both.push(packed)?;
+    let packed = packed(builder, slice.of, item_value, item.of, expr.at);
+    let (packed, slice_value) = beside(packed, slice_value)?;
+    let both = two(builder.allocator(), slice_value, packed)?;
     value_of(builder, Builtin::Append, both, expr.of, expr.at)
 }
 
@@ -171,17 +167,11 @@ fn packed(
         len: integer(1, int_type()),
         cap: integer(1, int_type()),
     };
-    let slice = builder.value(op, of, at)?;
-    let made = slice.copy(builder.allocator())?;
-    let place = index_address(builder, made, integer(0, int_type()), item_of, at)?;
-    builder.effect(
-        Op::Store {
-            at: place,
-            value: item,
-        },
-        at,
-    )?;
-    Ok(slice)
+    let (slice, item) = beside(builder.register(op, of, at), item)?;
+    let first = integer(0, int_type());
+    let place = index_address(builder, Operand::Register(slice), first, item_of, at);
+    builder.store(place, item, at)?;
+    Ok(Operand::Register(slice))
 }
 
 /// `len` and `cap`; of an array, or of what a pointer to one points to, a constant.

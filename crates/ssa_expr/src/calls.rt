@@ -3,7 +3,8 @@
 use crate::builder::{Builder, Parts, zero};
 use crate::built_ins::builtin_call;
 use crate::error::lost;
-use crate::exprs::{literal, lower_expr};
+use crate::exprs::{captured_by, literal, lower_expr};
+use crate::joining::{discard, kept};
 use go_base::{FuncId, NameId, NoMemory, Pos, TypeId};
 use go_tree::{Callee, ExprKind, TypedExpr, Values};
 use go_type::{Builtin, TypeTerm};
@@ -12,9 +13,8 @@ use ssa_ir::{Call, Op, Operand, Operands};
 /// What a call calls, once its operands are evaluated.
 #[derive(Drop)]
 enum Called {
+    /// A function, or a method whose receiver is its first argument.
     Function(FuncId),
-    /// A method and its receiver.
-    Method(FuncId, Operand),
     Value(Operand),
     Interface {
         receiver: Operand,
@@ -36,12 +36,27 @@ fn lower_callee(builder: &mut Builder<'_>, expr: &TypedExpr) -> Result<Call, NoM
     let ExprKind::CallOf { callee, arguments } = &expr.kind else {
         return Err(lost());
     };
-    let called = match callee {
-        Callee::Function(function) => Called::Function(*function),
-        Callee::Literal(function) => called_literal(builder, *function)?,
+    let mut operands = Operands::new(builder.allocator());
+    let called = lower_called(builder, callee, &mut operands)?;
+    let lowered = lower_arguments(builder, arguments, &mut operands);
+    let called = kept(called, lowered)?;
+    Ok(call_of(called, operands))
+}
+
+/// What is called. The receiver of a method becomes the first of the operands.
+#[cycle(lower)]
+fn lower_called(
+    builder: &mut Builder<'_>,
+    callee: &Callee,
+    operands: &mut Operands,
+) -> Result<Called, NoMemory> {
+    match callee {
+        Callee::Function(function) => Ok(Called::Function(*function)),
+        Callee::Literal(function) => called_literal(builder, *function),
         Callee::Method { receiver, function } => {
             let receiver = lower_expr(builder, receiver)?;
-            Called::Method(*function, receiver)
+            operands.push(receiver)?;
+            Ok(Called::Function(*function))
         }
         Callee::Interface {
             receiver,
@@ -49,16 +64,25 @@ fn lower_callee(builder: &mut Builder<'_>, expr: &TypedExpr) -> Result<Call, NoM
             package,
         } => {
             let receiver = lower_expr(builder, receiver)?;
-            Called::Interface {
+            Ok(Called::Interface {
                 receiver,
                 name: *name,
                 package: *package,
-            }
+            })
         }
-        Callee::Value(value) => Called::Value(lower_expr(builder, value)?),
-    };
-    let values = lower_values(builder, arguments)?;
-    call_of(builder, called, values)
+        Callee::Value(value) => Ok(Called::Value(lower_expr(builder, value)?)),
+    }
+}
+
+/// The values of a list become the last of the operands.
+#[cycle(lower)]
+fn lower_arguments(
+    builder: &mut Builder<'_>,
+    values: &Values,
+    operands: &mut Operands,
+) -> Result<(), NoMemory> {
+    let values = lower_values(builder, values)?;
+    push_all(operands, values)
 }
 
 /// The values of a list, in order.
@@ -69,9 +93,9 @@ pub fn lower_values(builder: &mut Builder<'_>, values: &Values) -> Result<Vec<Op
         Values::Spread { tuple, parts } => {
             let tuple = lower_expr(builder, tuple)?;
             let outer = builder.set_parts(Parts::Tuple(tuple));
-            let values = lower_list(builder, parts.as_slice())?;
-            builder.set_parts(outer);
-            Ok(values)
+            let values = lower_list(builder, parts.as_slice());
+            discard(builder.set_parts(outer));
+            values
         }
     }
 }
@@ -95,47 +119,30 @@ fn called_literal(builder: &mut Builder<'_>, function: FuncId) -> Result<Called,
     let Some(decl) = functions.get(function.number as usize) else {
         return Err(lost());
     };
-    match literal(builder, function, decl.signature, decl.at)? {
-        Operand::Function(function) => Ok(Called::Function(function)),
-        value => Ok(Called::Value(value)),
+    if captured_by(builder, function)?.is_empty() {
+        return Ok(Called::Function(function));
     }
+    let value = literal(builder, function, decl.signature, decl.at)?;
+    Ok(Called::Value(value))
 }
 
-fn call_of(builder: &Builder<'_>, called: Called, values: Vec<Operand>) -> Result<Call, NoMemory> {
-    let mut arguments = Operands::new(builder.allocator());
+fn call_of(called: Called, arguments: Operands) -> Call {
     match called {
-        Called::Function(function) => {
-            push_all(&mut arguments, values)?;
-            Ok(Call::Static {
-                function,
-                arguments,
-            })
-        }
-        Called::Method(function, receiver) => {
-            arguments.push(receiver)?;
-            push_all(&mut arguments, values)?;
-            Ok(Call::Static {
-                function,
-                arguments,
-            })
-        }
-        Called::Value(callee) => {
-            push_all(&mut arguments, values)?;
-            Ok(Call::Dynamic { callee, arguments })
-        }
+        Called::Function(function) => Call::Static {
+            function,
+            arguments,
+        },
+        Called::Value(callee) => Call::Dynamic { callee, arguments },
         Called::Interface {
             receiver,
             name,
             package,
-        } => {
-            push_all(&mut arguments, values)?;
-            Ok(Call::Invoke {
-                receiver,
-                name,
-                package,
-                arguments,
-            })
-        }
+        } => Call::Invoke {
+            receiver,
+            name,
+            package,
+            arguments,
+        },
     }
 }
 
@@ -154,7 +161,7 @@ fn register_type(builder: &Builder<'_>, of: TypeId) -> Option<TypeId> {
     }
 }
 
-fn make_call(
+pub(crate) fn make_call(
     builder: &mut Builder<'_>,
     call: Call,
     of: TypeId,

@@ -3,26 +3,32 @@
 use crate::builder::{Builder, integer, zero};
 use crate::error::lost;
 use crate::exprs::{int_type, lower_expr};
+use crate::joining::beside;
 use crate::places::{field_address, index_address};
 use go_base::{NoMemory, Pos, TypeId};
 use go_tree::{Elements, EntryInit, FieldInit, ItemInit};
 use go_type::TypeTerm;
 use ssa_ir::{Op, Operand};
 
-/// Where a value of a literal goes.
-#[derive(Drop)]
+/// A part of a struct, an array or a slice.
+#[derive(Clone, Copy)]
 enum Slot {
     Field(u32),
     Item(u64),
-    Entry(Operand),
 }
 
 /// A value of a literal, and where it goes.
 #[derive(Drop)]
-struct Element {
-    slot: Slot,
-    of: TypeId,
-    value: Operand,
+enum Element {
+    Part {
+        slot: Slot,
+        of: TypeId,
+        value: Operand,
+    },
+    Entry {
+        key: Operand,
+        value: Operand,
+    },
 }
 
 /// The value of a literal.
@@ -68,7 +74,7 @@ fn lower_fields(builder: &mut Builder<'_>, fields: &[FieldInit]) -> Result<Vec<E
     let mut values = Vec::new(builder.allocator());
     for field in fields {
         let value = lower_expr(builder, &field.value)?;
-        values.push(Element {
+        values.push(Element::Part {
             slot: Slot::Field(field.field),
             of: field.value.of,
             value,
@@ -82,7 +88,7 @@ fn lower_items(builder: &mut Builder<'_>, items: &[ItemInit]) -> Result<Vec<Elem
     let mut values = Vec::new(builder.allocator());
     for item in items {
         let value = lower_expr(builder, &item.value)?;
-        values.push(Element {
+        values.push(Element::Part {
             slot: Slot::Item(item.index),
             of: item.value.of,
             value,
@@ -99,12 +105,8 @@ fn lower_entries(
     let mut values = Vec::new(builder.allocator());
     for entry in entries {
         let key = lower_expr(builder, &entry.key)?;
-        let value = lower_expr(builder, &entry.value)?;
-        values.push(Element {
-            slot: Slot::Entry(key),
-            of: entry.value.of,
-            value,
-        })?;
+        let (value, key) = beside(lower_expr(builder, &entry.value), key)?;
+        values.push(Element::Entry { key, value })?;
     }
     Ok(values)
 }
@@ -125,15 +127,16 @@ fn make_value(
     at: Pos,
 ) -> Result<Operand, NoMemory> {
     if !is_inline(builder, of)? {
-        return make_reference(builder, values, elements, of, at);
+        let made = make_reference(builder, values, elements, of, at)?;
+        return Ok(Operand::Register(made));
     }
     if values.is_empty() {
         return Ok(zero(of));
     }
     let pointer = builder.pointer_to(of)?;
-    let cell = builder.value(Op::New(of), pointer, at)?;
-    put_all(builder, &cell, values, at)?;
-    builder.value(Op::Load(cell), of, at)
+    let cell = builder.register(Op::New(of), pointer, at)?;
+    put_all(builder, cell, values, at)?;
+    builder.value(Op::Load(Operand::Register(cell)), of, at)
 }
 
 fn make_address(
@@ -145,25 +148,28 @@ fn make_address(
     at: Pos,
 ) -> Result<Operand, NoMemory> {
     if is_inline(builder, of)? {
-        let cell = builder.value(Op::New(of), pointer, at)?;
-        put_all(builder, &cell, values, at)?;
-        return Ok(cell);
+        let cell = builder.register(Op::New(of), pointer, at)?;
+        put_all(builder, cell, values, at)?;
+        return Ok(Operand::Register(cell));
     }
-    let value = make_reference(builder, values, elements, of, at)?;
-    let cell = builder.value(Op::New(of), pointer, at)?;
-    let stored = cell.copy(builder.allocator())?;
-    builder.effect(Op::Store { at: stored, value }, at)?;
-    Ok(cell)
+    let made = make_reference(builder, values, elements, of, at)?;
+    let cell = builder.register(Op::New(of), pointer, at)?;
+    let store = Op::Store {
+        at: Operand::Register(cell),
+        value: Operand::Register(made),
+    };
+    builder.effect(store, at)?;
+    Ok(Operand::Register(cell))
 }
 
-/// A literal of a slice or a map.
+/// A literal of a slice or a map, and the number of its register.
 fn make_reference(
     builder: &mut Builder<'_>,
     values: Vec<Element>,
     elements: &Elements,
     of: TypeId,
     at: Pos,
-) -> Result<Operand, NoMemory> {
+) -> Result<u64, NoMemory> {
     let made = match elements {
         Elements::Items { len, .. } => {
             let len = i128::from(*len);
@@ -172,18 +178,19 @@ fn make_reference(
                 len: integer(len, int_type()),
                 cap: integer(len, int_type()),
             };
-            builder.value(op, of, at)?
+            builder.register(op, of, at)?
         }
-        Elements::Entries(_) => builder.value(Op::MakeMap(of), of, at)?,
+        Elements::Entries(_) => builder.register(Op::MakeMap(of), of, at)?,
         Elements::Fields(_) => return Err(lost()),
     };
-    put_all(builder, &made, values, at)?;
+    put_all(builder, made, values, at)?;
     Ok(made)
 }
 
+/// The values are put into what the register holds.
 fn put_all(
     builder: &mut Builder<'_>,
-    made: &Operand,
+    made: u64,
     values: Vec<Element>,
     at: Pos,
 ) -> Result<(), NoMemory> {
@@ -193,24 +200,32 @@ fn put_all(
     Ok(())
 }
 
-fn put(
-    builder: &mut Builder<'_>,
-    made: &Operand,
-    element: Element,
-    at: Pos,
-) -> Result<(), NoMemory> {
-    let made = made.copy(builder.allocator())?;
-    let Element { slot, of, value } = element;
-    let place = match slot {
-        Slot::Entry(key) => {
-            let map = made;
-            return builder.effect(Op::Update { map, key, value }, at);
+fn put(builder: &mut Builder<'_>, made: u64, element: Element, at: Pos) -> Result<(), NoMemory> {
+    match element {
+        Element::Part { slot, of, value } => {
+            let address = slot_address(builder, made, slot, of, at);
+            builder.store(address, value, at)
         }
-        Slot::Field(field) => field_address(builder, made, field, of, at)?,
+        Element::Entry { key, value } => {
+            let map = Operand::Register(made);
+            builder.effect(Op::Update { map, key, value }, at)
+        }
+    }
+}
+
+fn slot_address(
+    builder: &mut Builder<'_>,
+    made: u64,
+    slot: Slot,
+    of: TypeId,
+    at: Pos,
+) -> Result<Operand, NoMemory> {
+    let made = Operand::Register(made);
+    match slot {
+        Slot::Field(field) => field_address(builder, made, field, of, at),
         Slot::Item(index) => {
             let index = integer(i128::from(index), int_type());
-            index_address(builder, made, index, of, at)?
+            index_address(builder, made, index, of, at)
         }
-    };
-    builder.effect(Op::Store { at: place, value }, at)
+    }
 }

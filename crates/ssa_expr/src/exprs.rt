@@ -5,8 +5,9 @@ use crate::built_ins::lower_builtin;
 use crate::calls::lower_call;
 use crate::composites::{composite_address, composite_value};
 use crate::error::lost;
-use crate::places::{address, read_place};
-use go_base::{BlockId, Bytes, FuncId, NameId, NoMemory, Pos, TypeId};
+use crate::joining::{beside, discard, kept};
+use crate::places::{address, check_pointer, read_place};
+use go_base::{BlockId, Bytes, FuncId, NameId, NoMemory, Pos, TypeId, VarId};
 use go_tree::{ExprKind, IndexBase, Method, TypedExpr};
 use go_type::{
     Basic, BinaryOp, CompareOp, Const, SelectionKind, TypeTerm, UnaryOp, basic, int_kind,
@@ -113,12 +114,12 @@ fn lower_binary(builder: &mut Builder<'_>, expr: &TypedExpr) -> Result<Operand, 
     match &expr.kind {
         ExprKind::BinaryOf { op, left, right } => {
             let left = lower_expr(builder, left)?;
-            let right = lower_expr(builder, right)?;
+            let (right, left) = beside(lower_expr(builder, right), left)?;
             binary(builder, *op, left, right, expr)
         }
         ExprKind::CompareOf { op, left, right } => {
             let left = lower_expr(builder, left)?;
-            let right = lower_expr(builder, right)?;
+            let (right, left) = beside(lower_expr(builder, right), left)?;
             compare(builder, *op, left, right, expr)
         }
         ExprKind::AndAlso { left, right } => {
@@ -131,12 +132,12 @@ fn lower_binary(builder: &mut Builder<'_>, expr: &TypedExpr) -> Result<Operand, 
         }
         ExprKind::MapIndex { map, key, comma_ok } => {
             let map = lower_expr(builder, map)?;
-            let key = lower_expr(builder, key)?;
+            let (key, map) = beside(lower_expr(builder, key), map)?;
             lookup(builder, map, key, *comma_ok, expr)
         }
         ExprKind::IndexOf { operand, index, .. } => {
             let operand = lower_expr(builder, operand)?;
-            let index = lower_expr(builder, index)?;
+            let (index, operand) = beside(lower_expr(builder, index), operand)?;
             builder.value(Op::Index { operand, index }, expr.of, expr.at)
         }
         _ => Err(lost()),
@@ -156,9 +157,9 @@ fn lower_slice(builder: &mut Builder<'_>, expr: &TypedExpr) -> Result<Operand, N
         return Err(lost());
     };
     let operand = lower_expr(builder, operand)?;
-    let low = lower_bound(builder, low)?;
-    let high = lower_bound(builder, high)?;
-    let max = lower_bound(builder, max)?;
+    let (low, operand) = beside(lower_bound(builder, low), operand)?;
+    let (high, (operand, low)) = beside(lower_bound(builder, high), (operand, low))?;
+    let (max, (operand, low, high)) = beside(lower_bound(builder, max), (operand, low, high))?;
     slice(builder, operand, low, high, max, expr)
 }
 
@@ -186,9 +187,8 @@ fn address_of(
         }
         ExprKind::Deref(pointer) => {
             let pointer = lower_expr(builder, pointer)?;
-            let checked = pointer.copy(builder.allocator())?;
-            builder.value(Op::Load(checked), place.of, place.at)?;
-            Ok(pointer)
+            let checked = check_pointer(builder, &pointer, place);
+            kept(pointer, checked)
         }
         _ => address(builder, place),
     }
@@ -208,20 +208,28 @@ fn lower_right(
     let join = branch_right(builder, both, test, at)?;
     let value = lower_expr(builder, right)?;
     let end = builder.current();
-    builder.jump(join, at)?;
-    builder.enter(join);
-    builder.seal(join)?;
+    let joined = go_on(builder, join, at);
+    let value = kept(value, joined)?;
     let decided = truth(!both, of);
     if is_truth(&value, !both) {
+        discard(value);
         return Ok(decided);
     }
     let mut edges = PhiEdges::new(builder.allocator());
-    edges.push(PhiEdge {
+    let pushed = edges.push(PhiEdge {
         from,
         value: decided,
-    })?;
+    });
+    let value = kept(value, pushed)?;
     edges.push(PhiEdge { from: end, value })?;
     builder.value(Op::Phi(edges), of, at)
+}
+
+/// The current block leads to another, which is then the current one and has all its predecessors.
+fn go_on(builder: &mut Builder<'_>, to: BlockId, at: Pos) -> Result<(), NoMemory> {
+    builder.jump(to, at)?;
+    builder.enter(to);
+    builder.seal(to)
 }
 
 /// The builder then stands where the right side is evaluated. The answer is the block behind it.
@@ -231,8 +239,7 @@ fn branch_right(
     test: Operand,
     at: Pos,
 ) -> Result<BlockId, NoMemory> {
-    let right_block = builder.add_block()?;
-    let join = builder.add_block()?;
+    let ((right_block, join), test) = beside(two_blocks(builder), test)?;
     let (then_to, else_to) = if both {
         (right_block, join)
     } else {
@@ -249,6 +256,12 @@ fn branch_right(
     builder.enter(right_block);
     builder.seal(right_block)?;
     Ok(join)
+}
+
+fn two_blocks(builder: &mut Builder<'_>) -> Result<(BlockId, BlockId), NoMemory> {
+    let first = builder.add_block()?;
+    let second = builder.add_block()?;
+    Ok((first, second))
 }
 
 /// Whether an operand is the constant of a truth.
@@ -278,14 +291,31 @@ pub(crate) fn nil(of: TypeId) -> Operand {
 }
 
 fn constant(alloc: Global, value: &Const, of: TypeId) -> Result<Operand, NoMemory> {
-    let value = match value {
-        Const::Int(number) | Const::Rune(number) => ConstValue::Int(*number),
-        Const::Text(bytes) => {
-            ConstValue::Text(Bytes::new(Vec::from_slice(alloc, bytes.as_slice())?))
-        }
-        Const::Truth(truth) => ConstValue::Truth(*truth),
-    };
+    let value = const_value(alloc, value)?;
     Ok(Operand::Constant { value, of })
+}
+
+fn const_value(alloc: Global, value: &Const) -> Result<ConstValue, NoMemory> {
+    match value {
+        Const::Int(number) | Const::Rune(number) => Ok(ConstValue::Int(*number)),
+        Const::Text(bytes) => {
+            let bytes = Vec::from_slice(alloc, bytes.as_slice())?;
+            Ok(ConstValue::Text(Bytes::new(bytes)))
+        }
+        Const::Truth(truth) => Ok(ConstValue::Truth(*truth)),
+    }
+}
+
+/// The variables that a function literal captures.
+pub(crate) fn captured_by<'a>(
+    builder: &Builder<'a>,
+    function: FuncId,
+) -> Result<&'a [VarId], NoMemory> {
+    let bodies = builder.program().bodies.as_slice();
+    match bodies.get(function.number as usize) {
+        Some(Some(body)) => Ok(body.captured.as_slice()),
+        _ => Err(lost()),
+    }
 }
 
 /// A function literal as a value.
@@ -295,15 +325,12 @@ pub(crate) fn literal(
     of: TypeId,
     at: Pos,
 ) -> Result<Operand, NoMemory> {
-    let bodies = builder.program().bodies.as_slice();
-    let Some(Some(body)) = bodies.get(function.number as usize) else {
-        return Err(lost());
-    };
-    if body.captured.is_empty() {
+    let variables = captured_by(builder, function)?;
+    if variables.is_empty() {
         return Ok(Operand::Function(function));
     }
     let mut captured = Operands::new(builder.allocator());
-    for var in body.captured.as_slice() {
+    for var in variables {
         match builder.cell(*var)? {
             Some(cell) => captured.push(cell)?,
             None => return Err(lost()),
@@ -320,18 +347,28 @@ fn bound_method(
     method: Method,
     expr: &TypedExpr,
 ) -> Result<Operand, NoMemory> {
+    let function = bound_function(builder, of, method);
+    let (function, operand) = beside(function, operand)?;
+    let mut captured = Operands::new(builder.allocator());
+    captured.push(operand)?;
+    builder.value(Op::MakeClosure { function, captured }, expr.of, expr.at)
+}
+
+/// The function of a method value.
+fn bound_function(
+    builder: &mut Builder<'_>,
+    receiver: TypeId,
+    method: Method,
+) -> Result<FuncId, NoMemory> {
     let need = match method {
         Method::Interface { name, package } => WrapNeed::Bound {
-            receiver: of,
+            receiver,
             name,
             package,
         },
         Method::Concrete(function) => concrete_need(builder, function)?,
     };
-    let function = builder.need(need)?;
-    let mut captured = Operands::new(builder.allocator());
-    captured.push(operand)?;
-    builder.value(Op::MakeClosure { function, captured }, expr.of, expr.at)
+    builder.need(need)
 }
 
 /// The need of a method value of a concrete method.
@@ -450,7 +487,8 @@ fn convert(
     expr: &TypedExpr,
 ) -> Result<Operand, NoMemory> {
     let to = expr.of;
-    let op = if changes_value(builder, from, to)? {
+    let (changes, operand) = beside(changes_value(builder, from, to), operand)?;
+    let op = if changes {
         Op::Convert { to, operand }
     } else {
         Op::ChangeType { to, operand }
@@ -481,12 +519,17 @@ fn to_interface(
     expr: &TypedExpr,
 ) -> Result<Operand, NoMemory> {
     let to = expr.of;
-    let op = if matches!(builder.under(from)?, TypeTerm::Interface(_)) {
+    let (changes, operand) = beside(is_interface(builder, from), operand)?;
+    let op = if changes {
         Op::ChangeInterface { to, operand }
     } else {
         Op::MakeInterface { to, operand }
     };
     builder.value(op, to, expr.at)
+}
+
+fn is_interface(builder: &Builder<'_>, of: TypeId) -> Result<bool, NoMemory> {
+    Ok(matches!(builder.under(of)?, TypeTerm::Interface(_)))
 }
 
 fn assert(

@@ -1,9 +1,11 @@
 //! A function when it is built.
 
 use crate::builder::{Builder, OpenBlock};
+use crate::joining::{beside, discard};
 use go_base::{BlockId, NoMemory, Text};
 use go_type::{TypeIds, Types};
 use ssa_ir::{Block, Blocks, Function, FunctionKind, Needs};
+use std::alloc::Global;
 
 /// What a function is but its blocks.
 #[derive(Drop)]
@@ -37,22 +39,31 @@ impl Builder<'_> {
             blocks,
             current: _,
             registers,
-            homes: _,
+            homes,
             needs,
             recover,
-            parts: _,
+            parts,
         } = self;
-        let mut built = Blocks::new(alloc);
-        for block in blocks {
-            let OpenBlock { preds, instrs, .. } = block;
-            built.push(Block { preds, instrs })?;
-        }
+        discard((homes, parts));
+        let others = (header, registers, needs, types);
+        let (blocks, others) = beside(closed(alloc, blocks), others)?;
+        let (header, registers, needs, types) = others;
         Ok(Built {
-            function: function_of(header, registers, built, recover),
+            function: function_of(header, registers, blocks, recover),
             needs,
             types,
         })
     }
+}
+
+/// The blocks, to which no code is added any more.
+fn closed(alloc: Global, blocks: Vec<OpenBlock>) -> Result<Blocks, NoMemory> {
+    let mut closed = Blocks::new(alloc);
+    for block in blocks {
+        let OpenBlock { preds, instrs, .. } = block;
+        closed.push(Block { preds, instrs })?;
+    }
+    Ok(closed)
 }
 
 fn function_of(

@@ -8,6 +8,7 @@ mod composites;
 mod error;
 mod exprs;
 mod finishing;
+mod joining;
 mod places;
 
 pub use builder::{Builder, Parts, integer, zero};

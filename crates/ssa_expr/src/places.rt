@@ -4,10 +4,12 @@
 use crate::builder::{Builder, integer};
 use crate::error::lost;
 use crate::exprs::{int_type, lower_expr};
+use crate::joining::{add, beside, discard, is_there, kept, refused};
 use go_base::{NoMemory, Pos, TypeId, VarId};
 use go_tree::{ExprKind, IndexBase, TypedExpr};
 use go_type::TypeTerm;
 use ssa_ir::{Op, Operand};
+use std::alloc::Global;
 use tree_facts::is_calm;
 
 /// Where a place begins.
@@ -62,7 +64,7 @@ pub(crate) fn address(builder: &mut Builder<'_>, place: &TypedExpr) -> Result<Op
             index,
         } => {
             let operand = lower_expr(builder, operand)?;
-            let index = lower_expr(builder, index)?;
+            let (index, operand) = beside(lower_expr(builder, index), operand)?;
             index_address(builder, operand, index, place.of, place.at)
         }
         ExprKind::IndexOf {
@@ -71,8 +73,9 @@ pub(crate) fn address(builder: &mut Builder<'_>, place: &TypedExpr) -> Result<Op
             index,
         } => {
             let array = address(builder, operand)?;
-            check_before_index(builder, operand, index, &array)?;
-            let index = lower_expr(builder, index)?;
+            let checked = check_before_index(builder, operand, index, &array);
+            let array = kept(array, checked)?;
+            let (index, array) = beside(lower_expr(builder, index), array)?;
             index_address(builder, array, index, place.of, place.at)
         }
         _ => Err(lost()),
@@ -97,7 +100,7 @@ pub(crate) fn read_place(
         }
         ExprKind::IndexOf { operand, index, .. } => {
             let operand = lower_expr(builder, operand)?;
-            let index = lower_expr(builder, index)?;
+            let (index, operand) = beside(lower_expr(builder, index), operand)?;
             builder.value(Op::Index { operand, index }, place.of, place.at)
         }
         _ => Err(lost()),
@@ -107,7 +110,7 @@ pub(crate) fn read_place(
 /// Whether a place is read through its address: nothing that is evaluated between can change it.
 fn is_near(builder: &Builder<'_>, place: &TypedExpr) -> bool {
     match &place.kind {
-        ExprKind::VarOf(var) => matches!(builder.cell(*var), Ok(Some(_))),
+        ExprKind::VarOf(var) => is_there(builder.cell(*var)),
         ExprKind::Deref(_) => true,
         ExprKind::IndexOf {
             base: IndexBase::Slice,
@@ -135,17 +138,30 @@ fn check_before_index(
     {
         return Ok(());
     }
-    let checked = pointer.copy(builder.allocator())?;
     let (len, elem) = match builder.under(array.of)? {
         TypeTerm::Array { len, elem } => (*len, *elem),
         _ => return Err(lost()),
     };
     if len == 0 {
-        builder.value(Op::Load(checked), array.of, array.at)?;
-        return Ok(());
+        return check_pointer(builder, pointer, array);
     }
-    let first = integer(0, int_type());
-    index_address(builder, checked, first, elem, array.at)?;
+    let of = builder.pointer_to(elem)?;
+    let op = Op::IndexAddress {
+        operand: pointer.copy(builder.allocator())?,
+        index: integer(0, int_type()),
+    };
+    builder.register(op, of, array.at)?;
+    Ok(())
+}
+
+/// A nil pointer is met: the place that it points to is read.
+pub(crate) fn check_pointer(
+    builder: &mut Builder<'_>,
+    pointer: &Operand,
+    place: &TypedExpr,
+) -> Result<(), NoMemory> {
+    let checked = pointer.copy(builder.allocator())?;
+    builder.register(Op::Load(checked), place.of, place.at)?;
     Ok(())
 }
 
@@ -156,7 +172,7 @@ pub(crate) fn field_address(
     of: TypeId,
     at: Pos,
 ) -> Result<Operand, NoMemory> {
-    let pointer = builder.pointer_to(of)?;
+    let (pointer, operand) = beside(builder.pointer_to(of), operand)?;
     builder.value(Op::FieldAddress { operand, field }, pointer, at)
 }
 
@@ -167,7 +183,7 @@ pub(crate) fn index_address(
     of: TypeId,
     at: Pos,
 ) -> Result<Operand, NoMemory> {
-    let pointer = builder.pointer_to(of)?;
+    let (pointer, (operand, index)) = beside(builder.pointer_to(of), (operand, index))?;
     builder.value(Op::IndexAddress { operand, index }, pointer, at)
 }
 
@@ -184,7 +200,7 @@ pub fn lower_place(builder: &mut Builder<'_>, place: &TypedExpr) -> Result<Place
             index,
         } => {
             let outer = lower_place(builder, operand)?;
-            let index = lower_expr(builder, index)?;
+            let (index, outer) = beside(lower_expr(builder, index), outer)?;
             deeper(outer, Part::Index(index), place)
         }
         _ => {
@@ -203,12 +219,13 @@ pub fn lower_place(builder: &mut Builder<'_>, place: &TypedExpr) -> Result<Place
 fn deeper(outer: PlaceOperand, part: Part, place: &TypedExpr) -> Result<PlaceOperand, NoMemory> {
     let mut deeper = outer;
     deeper.of = place.of;
-    deeper.steps.push(PlaceStep {
+    let step = PlaceStep {
         part,
         of: place.of,
         at: place.at,
-    })?;
-    Ok(deeper)
+    };
+    let added = add(&mut deeper.steps, step);
+    kept(deeper, added)
 }
 
 fn lower_root(builder: &mut Builder<'_>, place: &TypedExpr) -> Result<Root, NoMemory> {
@@ -217,12 +234,12 @@ fn lower_root(builder: &mut Builder<'_>, place: &TypedExpr) -> Result<Root, NoMe
         ExprKind::Deref(pointer) => Ok(Root::Pointer(lower_expr(builder, pointer)?)),
         ExprKind::IndexOf { operand, index, .. } => {
             let slice = lower_expr(builder, operand)?;
-            let index = lower_expr(builder, index)?;
+            let (index, slice) = beside(lower_expr(builder, index), slice)?;
             Ok(Root::Element { slice, index })
         }
         ExprKind::MapIndex { map, key, .. } => {
             let map = lower_expr(builder, map)?;
-            let key = lower_expr(builder, key)?;
+            let (key, map) = beside(lower_expr(builder, key), map)?;
             Ok(Root::Entry { map, key })
         }
         _ => Err(lost()),
@@ -237,10 +254,16 @@ pub fn store_place(
     at: Pos,
 ) -> Result<(), NoMemory> {
     if let Some(var) = whole_variable(&place) {
+        discard(place);
         return builder.write_var(var, value, at);
     }
-    match place_address(builder, &place)? {
-        Some(address) => builder.effect(Op::Store { at: address, value }, at),
+    let address = place_address(builder, &place);
+    let (address, (place, value)) = beside(address, (place, value))?;
+    match address {
+        Some(address) => {
+            discard(place);
+            builder.effect(Op::Store { at: address, value }, at)
+        }
         None => store_entry(builder, place, value, at),
     }
 }
@@ -263,7 +286,7 @@ fn store_entry(
     let PlaceOperand { root, .. } = place;
     match root {
         Root::Entry { map, key } => builder.effect(Op::Update { map, key, value }, at),
-        _ => Err(lost()),
+        other => refused((other, value)),
     }
 }
 
@@ -275,7 +298,7 @@ pub fn load_place(
 ) -> Result<Operand, NoMemory> {
     let alloc = builder.allocator();
     if let Root::Entry { map, key } = &place.root {
-        let (map, key) = (map.copy(alloc)?, key.copy(alloc)?);
+        let (map, key) = copies(alloc, map, key)?;
         let comma_ok = false;
         return builder.value(Op::Lookup { map, key, comma_ok }, place.of, at);
     }
@@ -307,7 +330,7 @@ fn part_address(
     match &step.part {
         Part::Field(field) => field_address(builder, address, *field, step.of, step.at),
         Part::Index(index) => {
-            let index = index.copy(builder.allocator())?;
+            let (index, address) = beside(index.copy(builder.allocator()), address)?;
             index_address(builder, address, index, step.of, step.at)
         }
     }
@@ -322,10 +345,21 @@ fn root_address(
         Root::Variable(var) => builder.cell(*var),
         Root::Pointer(pointer) => Ok(Some(pointer.copy(alloc)?)),
         Root::Element { slice, index } => {
-            let (slice, index) = (slice.copy(alloc)?, index.copy(alloc)?);
+            let (slice, index) = copies(alloc, slice, index)?;
             let address = index_address(builder, slice, index, place.root_of, place.root_at)?;
             Ok(Some(address))
         }
         Root::Entry { .. } => Ok(None),
     }
+}
+
+/// Two operands once more.
+fn copies(
+    alloc: Global,
+    first: &Operand,
+    second: &Operand,
+) -> Result<(Operand, Operand), NoMemory> {
+    let first = first.copy(alloc)?;
+    let (second, first) = beside(second.copy(alloc), first)?;
+    Ok((first, second))
 }
