@@ -30,6 +30,13 @@ impl Checked {
             None => Checked::Unsound,
         }
     }
+
+    fn of_given(given: Option<Given>) -> Checked {
+        match given {
+            Some(given) => Checked::Typed(given.expr),
+            None => Checked::Unsound,
+        }
+    }
 }
 
 fn entered<'a>(sources: &'a Sources, scope: &Scope) -> Result<&'a SourceFile, NoMemory> {
@@ -138,17 +145,14 @@ pub fn check_expr(
 ) -> Result<Checked, CheckError> {
     let before = scope.set_least(Least::new());
     let seen = see_expr(alloc, sources, scope, expr)?;
-    let typed = match want {
+    let checked = match want {
         Some(to) => {
             let given = typed_parts::one_value(&mut scope.ground, seen);
-            assigned(&mut scope.ground, given, Some(to))?
+            Checked::of(assigned(&mut scope.ground, given, Some(to))?)
         }
-        None => match value_of(&mut scope.ground, seen) {
-            Some(given) => Some(given.expr),
-            None => None,
-        },
+        None => Checked::of_given(value_of(&mut scope.ground, seen)),
     };
-    refused(scope, before, Checked::of(typed))
+    refused(scope, before, checked)
 }
 
 /// As `check_expr` without a wanted type, and then E7 at the expression where it is a call of no or several results.
@@ -160,11 +164,8 @@ pub fn check_one(
 ) -> Result<Checked, CheckError> {
     let before = scope.set_least(Least::new());
     let seen = see_expr(alloc, sources, scope, expr)?;
-    let typed = match typed_parts::one_value(&mut scope.ground, seen) {
-        Some(given) => Some(given.expr),
-        None => None,
-    };
-    refused(scope, before, Checked::of(typed))
+    let given = typed_parts::one_value(&mut scope.ground, seen);
+    refused(scope, before, Checked::of_given(given))
 }
 
 /// As `check_one`, and then the default type of an untyped value: E16, K1.
@@ -201,11 +202,8 @@ pub fn check_assigned(
 pub fn one_value(scope: &mut Scope, at: Pos, expr: TypedExpr) -> Result<Checked, CheckError> {
     let before = scope.set_least(Least::new());
     let seen = Seen::value(at, Some(expr));
-    let typed = match typed_parts::one_value(&mut scope.ground, seen) {
-        Some(given) => Some(given.expr),
-        None => None,
-    };
-    refused(scope, before, Checked::of(typed))
+    let given = typed_parts::one_value(&mut scope.ground, seen);
+    refused(scope, before, Checked::of_given(given))
 }
 
 /// An expression that `check_expr` gave without a wanted type, as a value of a type: E1, K1; or of its default type:

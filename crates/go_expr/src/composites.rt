@@ -9,7 +9,7 @@ use go_base::{NameId, NoMemory, Pos};
 use go_sources::SourceFile;
 use go_syntax::{Element, Expr, TypeExpr};
 use std::alloc::Global;
-use typed_parts::Seen;
+use typed_parts::{Seen, beside};
 use typed_primaries::{
     Entry, FieldEntry, Hint, Literal, LiteralKind, elided_literal, indexed_literal, map_literal,
     open_array_literal, struct_literal, written_literal,
@@ -106,7 +106,7 @@ fn see_values(
     elements: &[Element],
 ) -> Result<(), NoMemory> {
     for element in elements {
-        let _ = see_part(alloc, source, scope, &element.value, Hint::Unsound)?;
+        drop(see_part(alloc, source, scope, &element.value, Hint::Unsound)?);
     }
     Ok(())
 }
@@ -143,18 +143,28 @@ fn see_entries(
             Some(key) => { Some(see_part(alloc, source, scope, key, literal.key_hint())?) }
             None => None,
         };
-        let value = see_part(alloc, source, scope, &element.value, literal.value_hint())?;
-        entries.push(entry(key, value))?;
+        let value = see_part(alloc, source, scope, &element.value, literal.value_hint());
+        let (value, key) = beside(value, key)?;
+        let at = entry_at(&key, value.at);
+        entries.push(Entry { at, key, value })?;
     }
     Ok(entries)
 }
 
-fn entry(key: Option<Seen>, value: Seen) -> Entry {
-    let at = match &key {
+/// The first byte of an element whose value is at a place.
+fn entry_at(key: &Option<Seen>, value_at: Pos) -> Pos {
+    match key {
         Some(key) => key.at,
-        None => value.at,
-    };
-    Entry { at, key, value }
+        None => value_at,
+    }
+}
+
+/// The first byte of an element of a struct, the name of its key and the package of that.
+#[derive(Clone, Copy)]
+struct FieldKey {
+    at: Pos,
+    name: Option<NameId>,
+    package: u32,
 }
 
 impl Scope {
@@ -164,13 +174,29 @@ impl Scope {
         element: &Element,
         value: Seen,
     ) -> Result<FieldEntry, NoMemory> {
+        let key = self.field_key(source, element, value.at);
+        let (key, value) = beside(key, value)?;
+        Ok(FieldEntry {
+            at: key.at,
+            has_key: element.key.is_some(),
+            name: key.name,
+            package: key.package,
+            value,
+        })
+    }
+
+    /// The key of an element whose value is at a place.
+    fn field_key(
+        &mut self,
+        source: &SourceFile,
+        element: &Element,
+        value_at: Pos,
+    ) -> Result<FieldKey, NoMemory> {
         let Some(key) = &element.key else {
-            return Ok(FieldEntry {
-                at: value.at,
-                has_key: false,
+            return Ok(FieldKey {
+                at: value_at,
                 name: None,
                 package: self.package,
-                value,
             });
         };
         let at = self.pos(go_places::expr_start(key));
@@ -178,13 +204,7 @@ impl Scope {
             Expr::Name(token) => self.field_name(source, *token)?,
             _ => (None, self.package),
         };
-        Ok(FieldEntry {
-            at,
-            has_key: true,
-            name,
-            package,
-            value,
-        })
+        Ok(FieldKey { at, name, package })
     }
 
     /// The name of a key and its package; no name where it is `_`.

@@ -1,22 +1,22 @@
 //! Constants that are declared in bodies. Go specification, "Constant declarations", "Iota".
 
-use crate::error::lost;
 use crate::exprs::see;
+use crate::joining::given_up;
 use crate::own::Position;
 use crate::scope::Scope;
-use crate::text::text_of;
 use crate::types::see_type;
 use go_base::{NoMemory, Pos, Rule, TypeId};
 use go_names::{Constant, Entity};
 use go_sources::SourceFile;
 use go_syntax::{Expr, ListedExpr, ListedName, ValueSpec};
 use go_tree::{ExprKind, TypedExpr};
+use go_type::Const;
 use std::alloc::Global;
 use typed_operators::constant_value;
-use typed_parts::{Seen, one_value};
+use typed_parts::{Seen, beside, one_value, only};
 
 /// The type that is written for the values of a specification.
-#[derive(Clone, Copy, PartialEq, Eq)]
+#[derive(Clone, Copy)]
 enum Written {
     Nothing,
     Unsound,
@@ -60,10 +60,8 @@ fn see_given(
     for (index, listed) in spec.values.as_slice().iter().enumerate() {
         let value = see_value(alloc, source, scope, &listed.expr, written)?;
         are_sound = are_sound && value.is_one;
-        let entity = match spec.names.as_slice().get(index) {
-            Some(name) => entity_of(source, scope, *name, value.value)?,
-            None => Entity::Unsound,
-        };
+        let name = spec.names.as_slice().get(index).copied();
+        let entity = entity_of(source, scope, name, value.held)?;
         entities.push(entity)?;
     }
     if are_sound && spec.values.len() != spec.names.len() {
@@ -101,7 +99,7 @@ fn see_repeated(
     {
         let value = see_again(alloc, source, scope, given, listed, *name)?;
         are_sound = are_sound && value.is_one;
-        let entity = entity_of(source, scope, *name, value.value)?;
+        let entity = entity_of(source, scope, Some(*name), value.held)?;
         entities.push(entity)?;
     }
     if are_sound && given.values.len() != spec.names.len() {
@@ -141,12 +139,19 @@ fn see_written(
     }
 }
 
+/// The type and the value of a constant.
+#[derive(Drop)]
+struct Held {
+    of: TypeId,
+    value: Const,
+}
+
 /// A value of a constant, as it is written and as it is held.
 #[derive(Drop)]
 struct Valued {
     /// Whether it is one value and sound, constant or not.
     is_one: bool,
-    value: Option<TypedExpr>,
+    held: Option<Held>,
 }
 
 fn see_value(
@@ -160,7 +165,7 @@ fn see_value(
     let Some(given) = one_value(&mut scope.ground, seen) else {
         return Ok(Valued {
             is_one: false,
-            value: None,
+            held: None,
         });
     };
     let to = match written {
@@ -169,36 +174,42 @@ fn see_value(
     };
     let seen = Seen::value(given.at, Some(given.expr));
     let value = constant_value(&mut scope.ground, seen, to)?;
-    Ok(Valued {
-        is_one: true,
-        value: match written {
-            Written::Unsound => None,
-            _ => value,
-        },
-    })
+    let is_sound = !matches!(written, Written::Unsound);
+    let held = match only(value, is_sound) {
+        Some(expr) => Some(held_of(expr)?),
+        None => None,
+    };
+    Ok(Valued { is_one: true, held })
+}
+
+/// The type and the value of an expression that is constant.
+fn held_of(expr: TypedExpr) -> Result<Held, NoMemory> {
+    let of = expr.of;
+    match expr.kind {
+        ExprKind::ConstOf(value) => Ok(Held { of, value }),
+        kind => given_up(kind),
+    }
 }
 
 /// What a name of a constant stands for.
 fn entity_of(
     source: &SourceFile,
     scope: &mut Scope,
-    name: ListedName,
-    value: Option<TypedExpr>,
+    name: Option<ListedName>,
+    held: Option<Held>,
 ) -> Result<Entity, NoMemory> {
-    let Some(TypedExpr { at: _, of, kind }) = value else {
+    let Some((name, held)) = name.zip(held) else {
         return Ok(Entity::Unsound);
-    };
-    let ExprKind::ConstOf(value) = kind else {
-        return Err(lost());
     };
     let number = scope.constants.len() as u64;
     let at = scope.pos(name.name.start);
-    let name = scope.names.intern(text_of(source, name.name)?)?;
+    let name = scope.interned(source, name.name);
+    let (name, held) = beside(name, held)?;
     scope.constants.push(Constant {
         name,
         at,
-        of,
-        value,
+        of: held.of,
+        value: held.value,
     })?;
     Ok(Entity::Constant(number))
 }
@@ -212,7 +223,7 @@ fn bind_all(
 ) -> Result<(), NoMemory> {
     for (index, listed) in names.iter().enumerate() {
         let at: Pos = scope.pos(listed.name.start);
-        let name = scope.names.intern(text_of(source, listed.name)?)?;
+        let name = scope.interned(source, listed.name)?;
         if scope.is_taken(name) {
             scope.report(at, Rule::RedeclaredInThisBlock);
         }

@@ -4,7 +4,6 @@ use crate::constants::see_specs;
 use crate::error::lost;
 use crate::own::{Own, Position};
 use crate::scope::Scope;
-use crate::text::text_of;
 use crate::types::see_type;
 use go_base::{NameId, NoMemory, Pos, Rule, TypeId};
 use go_faults::Least;
@@ -42,7 +41,7 @@ fn see_type_spec(
     spec: &TypeSpec,
 ) -> Result<(), NoMemory> {
     let at = scope.pos(spec.name.start);
-    let name = scope.names.intern(text_of(source, spec.name)?)?;
+    let name = scope.interned(source, spec.name)?;
     let is_taken = scope.is_taken(name);
     if is_taken {
         scope.report(at, Rule::RedeclaredInThisBlock);
@@ -55,12 +54,15 @@ fn see_type_spec(
     if is_named {
         // what its own name stands for while its type is read is asked of `own`
         scope.bind(name, Entity::Unsound)?;
-        scope.own = Some(Own::new(alloc, name, id));
+        let own = Some(Own::new(alloc, name, id));
+        drop(std::mem::replace(&mut scope.own, own));
     }
     let before = scope.set_least(Least::new());
     let of = see_type(alloc, source, scope, &spec.form, Position::Whole)?;
     let own = scope.own.take();
-    let declared = scope.settle_type(at, id, of, own)?;
+    let declared = scope.settle_type(at, id, of, &own);
+    drop(own);
+    let declared = declared?;
     let found = scope.set_least(before);
     if let Some(fault) = found.fault {
         scope.ground.least.report(fault);
@@ -97,12 +99,12 @@ impl Scope {
         at: Pos,
         id: Option<TypeId>,
         of: Option<TypeId>,
-        own: Option<Own>,
+        own: &Option<Own>,
     ) -> Result<Option<TypeId>, NoMemory> {
         if self.ground.least.fault.is_some() {
             return Ok(None);
         }
-        if let Some(own) = &own {
+        if let Some(own) = own {
             if self.is_cyclic(at, own) {
                 return Ok(None);
             }
@@ -114,7 +116,7 @@ impl Scope {
             return Ok(Some(of));
         };
         self.define(id, of)?;
-        let is_sound = match &own {
+        let is_sound = match own {
             Some(own) => self.ask_all(own.later.as_slice())?,
             None => true,
         };

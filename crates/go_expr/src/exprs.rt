@@ -2,20 +2,21 @@
 
 use crate::composites::{see_elements, see_form};
 use crate::error::lost;
+use crate::joining::kept;
 use crate::literals::literal_of_token;
 use crate::own::Position;
 use crate::scope::Scope;
 use crate::types::{see_signature, see_type};
 use go_ast::Token;
 use go_base::{FuncId, NameId, NoMemory, Pos, TypeId};
-use go_names::Mentioned;
+use go_names::{ImportOf, Mentioned};
 use go_sources::SourceFile;
 use go_syntax::{Expr, ListedExpr};
 use go_tree::{ExprKind, Method, TypedExpr};
 use go_type::{SelectError, SelectionKind, find_selector};
 use std::alloc::Global;
 use typed_calls::call;
-use typed_parts::{Seen, parenthesized};
+use typed_parts::{Seen, beside, parenthesized, sound};
 use typed_primaries::{index_expression, selector, slice_expression, type_assertion};
 
 /// What an expression is seen to be. Each row that is broken in it is reported. Each form with operands has a function of its
@@ -121,8 +122,8 @@ fn see_selector(
     let Expr::Selector { operand, name, .. } = expr else {
         return Err(lost());
     };
-    if let Some(qualified) = scope.see_import(source, operand, *name)? {
-        return Ok(qualified);
+    if let Some((at, import)) = scope.operand_import(source, operand)? {
+        return scope.see_qualified(source, at, import, *name);
     }
     let x = see(alloc, source, scope, operand)?;
     scope.select(source, x, *name)
@@ -141,7 +142,8 @@ fn see_assertion(
         return Err(lost());
     };
     let x = see(alloc, source, scope, operand)?;
-    let to = see_type(alloc, source, scope, form, Position::Apart)?;
+    let to = see_type(alloc, source, scope, form, Position::Apart);
+    let (to, x) = beside(to, x)?;
     let (at, to_at) = (x.at, scope.type_place(form));
     let expr = type_assertion(&mut scope.ground, x, to, to_at)?;
     Ok(Seen::value(at, expr))
@@ -160,7 +162,8 @@ fn see_index(
         return Err(lost());
     };
     let x = see(alloc, source, scope, operand)?;
-    let index = see(alloc, source, scope, index)?;
+    let index = see(alloc, source, scope, index);
+    let (index, x) = beside(index, x)?;
     let at = x.at;
     let expr = index_expression(&mut scope.ground, x, index)?;
     Ok(Seen::value(at, expr))
@@ -185,8 +188,10 @@ fn see_slice(
         return Err(lost());
     };
     let x = see(alloc, source, scope, operand)?;
-    let low = see_bound(alloc, source, scope, low)?;
-    let high = see_bound(alloc, source, scope, high)?;
+    let low = see_bound(alloc, source, scope, low);
+    let (low, x) = beside(low, x)?;
+    let high = see_bound(alloc, source, scope, high);
+    let (high, (low, x)) = beside(high, (low, x))?;
     let at = x.at;
     let expr = slice_expression(&mut scope.ground, x, low, high, None)?;
     Ok(Seen::value(at, expr))
@@ -212,9 +217,12 @@ fn see_full_slice(
         return Err(lost());
     };
     let x = see(alloc, source, scope, operand)?;
-    let low = see_bound(alloc, source, scope, low)?;
-    let high = see(alloc, source, scope, high)?;
-    let max = see(alloc, source, scope, max)?;
+    let low = see_bound(alloc, source, scope, low);
+    let (low, x) = beside(low, x)?;
+    let high = see(alloc, source, scope, high);
+    let (high, (low, x)) = beside(high, (low, x))?;
+    let max = see(alloc, source, scope, max);
+    let (max, (high, (low, x))) = beside(max, (high, (low, x)))?;
     let at = x.at;
     let expr = slice_expression(&mut scope.ground, x, low, Some(high), Some(max))?;
     Ok(Seen::value(at, expr))
@@ -240,7 +248,8 @@ fn see_call(
         return Err(lost());
     };
     let callee = see(alloc, source, scope, callee)?;
-    let arguments = see_all(alloc, source, scope, arguments.as_slice())?;
+    let arguments = see_all(alloc, source, scope, arguments.as_slice());
+    let (arguments, callee) = beside(arguments, callee)?;
     scope.call(callee, *open, arguments, *ellipsis)
 }
 
@@ -278,7 +287,8 @@ fn see_binary(
         return Err(lost());
     };
     let left = see(alloc, source, scope, left)?;
-    let right = see(alloc, source, scope, right)?;
+    let right = see(alloc, source, scope, right);
+    let (right, left) = beside(right, left)?;
     scope.binary(*operator, left, right)
 }
 
@@ -291,10 +301,7 @@ fn see_bound(
     bound: &Option<Box<Expr>>,
 ) -> Result<Option<Seen>, NoMemory> {
     match bound {
-        Some(bound) => {
-            let seen = see(alloc, source, scope, bound)?;
-            Ok(Some(seen))
-        }
+        Some(bound) => sound(see(alloc, source, scope, bound)),
         None => Ok(None),
     }
 }
@@ -316,38 +323,38 @@ pub(crate) fn see_all(
 }
 
 impl Scope {
-    /// `p.name`, where the operand is the name of an import.
-    fn see_import(
-        &mut self,
+    /// The import that an operand names, and where it stands.
+    fn operand_import(
+        &self,
         source: &SourceFile,
         operand: &Expr,
-        name: Token,
-    ) -> Result<Option<Seen>, NoMemory> {
+    ) -> Result<Option<(Pos, ImportOf)>, NoMemory> {
         let Expr::Name(package) = operand else {
             return Ok(None);
         };
-        let Some(import) = self.import_named(source, *package)? else {
-            return Ok(None);
-        };
-        let at = self.pos(package.start);
-        let seen = self.see_qualified(source, at, import, name)?;
-        Ok(Some(seen))
+        match self.import_named(source, *package)? {
+            Some(import) => Ok(Some((self.pos(package.start), import))),
+            None => Ok(None),
+        }
     }
 
     /// `x.name`, where `x` is no import.
     fn select(&mut self, source: &SourceFile, x: Seen, token: Token) -> Result<Seen, NoMemory> {
         let at = x.at;
         let name_at = self.pos(token.start);
-        let (name, package) = self.named_in_package(source, token)?;
+        let named = self.named_in_package(source, token);
+        let ((name, package), x) = beside(named, x)?;
         let expr = selector(&mut self.ground, x, name_at, name, package)?;
-        if let Some(expr) = &expr {
-            self.mention_method(name_at, expr)?;
-        }
+        let noted = self.mention_method(name_at, &expr);
+        let expr = kept(expr, noted)?;
         Ok(Seen::value(at, expr))
     }
 
     /// Notes that the concrete method is read that a selector selects.
-    fn mention_method(&mut self, at: Pos, expr: &TypedExpr) -> Result<(), NoMemory> {
+    fn mention_method(&mut self, at: Pos, expr: &Option<TypedExpr>) -> Result<(), NoMemory> {
+        let Some(expr) = expr else {
+            return Ok(());
+        };
         match self.method_of(expr)? {
             Some(function) => self.mention_of(at, Mentioned::Function(function)),
             None => Ok(()),
@@ -375,14 +382,14 @@ impl Scope {
         name: NameId,
         package: u32,
     ) -> Result<Option<FuncId>, NoMemory> {
-        match find_selector(self.alloc, &self.ground.types, of, name, package) {
-            Ok(selection) => match selection.kind {
-                SelectionKind::Method(function) => Ok(Some(function)),
-                _ => Ok(None),
-            },
+        let found = find_selector(self.alloc, &self.ground.types, of, name, package);
+        let method = match &found {
+            Ok(selection) => Ok(selected_method(selection.kind)),
             Err(SelectError::OutOfMemory) => Err(NoMemory),
             Err(_) => Ok(None),
-        }
+        };
+        drop(found);
+        method
     }
 
     fn call(
@@ -400,5 +407,12 @@ impl Scope {
         };
         let expr = call(&mut self.ground, callee, parenthesis, arguments, dots)?;
         Ok(Seen::value(at, expr))
+    }
+}
+
+fn selected_method(kind: SelectionKind) -> Option<FuncId> {
+    match kind {
+        SelectionKind::Method(function) => Some(function),
+        _ => None,
     }
 }

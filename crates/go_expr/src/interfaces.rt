@@ -20,7 +20,7 @@ struct MethodName {
 }
 
 /// What brings a method.
-#[derive(Clone, Copy, PartialEq, Eq)]
+#[derive(Clone, Copy)]
 struct Brought {
     /// Its type, where that is sound.
     of: Option<TypeId>,
@@ -183,17 +183,19 @@ impl Elements {
 
     /// The type of the interface, where it is sound.
     pub(crate) fn finish(self, scope: &mut Scope) -> Result<Option<TypeId>, NoMemory> {
-        let Elements {
-            methods,
-            is_unsound,
-            alloc,
-            ..
-        } = self;
-        if is_unsound {
+        if self.is_unsound {
+            drop(self);
             return Ok(None);
         }
-        let mut list = MethodTypes::new(alloc);
-        for (key, brought) in methods.iter() {
+        let list = self.listed();
+        drop(self);
+        scope.held_term(Some(TypeTerm::Interface(list?)))
+    }
+
+    /// The methods, in order.
+    fn listed(&self) -> Result<MethodTypes, NoMemory> {
+        let mut list = MethodTypes::new(self.alloc);
+        for (key, brought) in self.methods.iter() {
             if let Some(of) = brought.of {
                 list.push(MethodType {
                     name: key.name,
@@ -202,8 +204,7 @@ impl Elements {
                 })?;
             }
         }
-        let of = scope.hold(TypeTerm::Interface(list))?;
-        Ok(Some(of))
+        Ok(list)
     }
 }
 

@@ -14,6 +14,7 @@ mod decls;
 mod error;
 mod exprs;
 mod interfaces;
+mod joining;
 mod literals;
 mod naming;
 mod operators;

@@ -70,8 +70,10 @@ impl Scope {
 
     fn meaning_of_truth(&self, at: Pos, truth: bool) -> Result<Option<Meaning>, NoMemory> {
         let of = basic(Basic::UntypedBool);
-        let expr = constant(self.alloc, at, of, &Const::Truth(truth))?;
-        Ok(Some(Meaning::Value(expr)))
+        let value = Const::Truth(truth);
+        let expr = constant(self.alloc, at, of, &value);
+        drop(value);
+        Ok(Some(Meaning::Value(expr?)))
     }
 
     fn meaning_of_variable(&mut self, at: Pos, var: VarId) -> Result<Option<Meaning>, NoMemory> {
@@ -272,6 +274,16 @@ impl Scope {
             Some(_) => self.report(at, Rule::WrongKindOfName),
         }
         Ok(None)
+    }
+
+    /// A name that is declared.
+    pub(crate) fn interned(
+        &mut self,
+        source: &SourceFile,
+        token: Token,
+    ) -> Result<NameId, NoMemory> {
+        let name = self.names.intern(text_of(source, token)?)?;
+        Ok(name)
     }
 
     /// A name that is declared, and the package that it is of: `EXPORTED` where every package means the same by it.

@@ -1,6 +1,6 @@
 //! Operators as they are written.
 
-use crate::error::lost;
+use crate::joining::given_up;
 use crate::scope::Scope;
 use go_ast::{Kind, Token};
 use go_base::NoMemory;
@@ -13,7 +13,7 @@ use typed_operators::{
 use typed_parts::Seen;
 
 /// An operator on two operands.
-#[derive(Clone, Copy, PartialEq, Eq)]
+#[derive(Clone, Copy)]
 enum Infix {
     Binary(BinaryOp),
     Logic(LogicOp),
@@ -70,12 +70,12 @@ impl Scope {
         let at = x.at;
         let ground = &mut self.ground;
         let expr = match infix_of(operator.kind) {
-            Some(Infix::Binary(op)) => binary_expression(ground, op, x, y)?,
-            Some(Infix::Logic(op)) => logical(ground, op, x, y)?,
-            Some(Infix::Compare(op)) => comparison(ground, op, x, y)?,
-            None => return Err(lost()),
+            Some(Infix::Binary(op)) => binary_expression(ground, op, x, y),
+            Some(Infix::Logic(op)) => logical(ground, op, x, y),
+            Some(Infix::Compare(op)) => comparison(ground, op, x, y),
+            None => given_up((x, y)),
         };
-        Ok(Seen::value(at, expr))
+        Ok(Seen::value(at, expr?))
     }
 
     /// An operator before an operand.
@@ -83,15 +83,15 @@ impl Scope {
         let at = self.pos(operator.start);
         let ground = &mut self.ground;
         let expr = match operator.kind {
-            Kind::Plus => sign(ground, at, SignOp::Plus, x)?,
-            Kind::Minus => sign(ground, at, SignOp::Minus, x)?,
-            Kind::Caret => sign(ground, at, SignOp::Complement, x)?,
-            Kind::Not => negation(ground, at, x)?,
+            Kind::Plus => sign(ground, at, SignOp::Plus, x),
+            Kind::Minus => sign(ground, at, SignOp::Minus, x),
+            Kind::Caret => sign(ground, at, SignOp::Complement, x),
+            Kind::Not => negation(ground, at, x),
             Kind::Star => return indirection(ground, at, x),
-            Kind::Ampersand => address_of(ground, at, x)?,
-            Kind::Arrow => receive(ground, at, x)?,
-            _ => return Err(lost()),
+            Kind::Ampersand => address_of(ground, at, x),
+            Kind::Arrow => receive(ground, at, x),
+            _ => given_up(x),
         };
-        Ok(Seen::value(at, expr))
+        Ok(Seen::value(at, expr?))
     }
 }

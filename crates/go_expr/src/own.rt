@@ -26,7 +26,7 @@ impl Position {
 }
 
 /// What is asked of a part once the type is defined.
-#[derive(Clone, Copy, PartialEq, Eq)]
+#[derive(Clone, Copy)]
 pub(crate) enum Asking {
     /// That it is comparable.
     Key,
@@ -41,7 +41,7 @@ pub(crate) enum Asking {
 }
 
 /// What is asked of a part in which the name of the type stands.
-#[derive(Clone, Copy, PartialEq, Eq)]
+#[derive(Clone, Copy)]
 pub(crate) struct Later {
     pub(crate) at: Pos,
     pub(crate) asking: Asking,

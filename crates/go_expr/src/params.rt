@@ -1,13 +1,13 @@
 //! Parameters and results. Go specification, "Function types".
 
 use crate::scope::Scope;
-use crate::text::text_of;
 use go_base::{NameId, NoMemory, Rule, TypeId};
 use go_sources::SourceFile;
 use go_syntax::Param;
 use go_type::{Signature, TypeIds, TypeTerm};
 use indexmap::IndexSet;
 use std::alloc::Global;
+use typed_parts::only;
 
 /// The parameters and results of a function that were seen so far.
 #[derive(Drop)]
@@ -59,7 +59,7 @@ impl ParamTypes {
             return self.add_unnamed(of);
         }
         for listed in param.names.as_slice() {
-            let name = scope.names.intern(text_of(source, listed.name)?)?;
+            let name = scope.interned(source, listed.name)?;
             if name != scope.blank() && self.names.contains(&name) {
                 let at = scope.pos(listed.name.start);
                 scope.report(at, Rule::RedeclaredInThisBlock);
@@ -87,20 +87,19 @@ impl ParamTypes {
     /// The type of the function, where it is sound.
     pub(crate) fn finish(self, scope: &mut Scope) -> Result<Option<TypeId>, NoMemory> {
         let ParamTypes {
+            names,
             params,
             results,
             variadic,
+            in_results: _,
             is_unsound,
-            ..
         } = self;
-        if is_unsound {
-            return Ok(None);
-        }
-        let of = scope.hold(TypeTerm::Func(Signature {
+        drop(names);
+        let term = TypeTerm::Func(Signature {
             params,
             results,
             variadic,
-        }))?;
-        Ok(Some(of))
+        });
+        scope.held_term(only(Some(term), !is_unsound))
     }
 }

@@ -20,7 +20,7 @@ use std::alloc::Global;
 use std::collections::BTreeMap;
 use type_bare::Bare;
 use type_sizes::Sizes;
-use typed_parts::Ground;
+use typed_parts::{Ground, beside};
 
 /// The phase in which initialisers and bodies are asked.
 const PHASE: u8 = 3;
@@ -66,57 +66,9 @@ pub struct Scope {
 impl Scope {
     /// The scope of the first file, with no block open. After `NoMemory` the declarations are dropped.
     pub fn new(alloc: Global, declared: Declared) -> Result<Scope, NoMemory> {
-        let Declared {
-            names,
-            types,
-            packages,
-            functions,
-            variables,
-            declared,
-            constants,
-            blocks,
-            files,
-            extents,
-            mentions,
-            sizes,
-            bare,
-            universe,
-            local_types,
-            error_string,
-        } = declared;
-        let package = match files.file(0) {
-            Some(file) => file.package,
-            None => 0,
-        };
-        let inits = initialisers(alloc, functions.as_slice())?;
-        let variables = Vec::from_slice(alloc, variables.as_slice())?;
-        Ok(Scope {
-            alloc,
-            names,
-            ground: Ground::new(alloc, types, PHASE, package),
-            packages,
-            functions,
-            variables,
-            declared,
-            constants,
-            package_blocks: blocks,
-            files,
-            extents,
-            mentions,
-            sizes,
-            bare,
-            universe,
-            local_types,
-            error_string,
-            blocks: Blocks::new(alloc),
-            file: 0,
-            package,
-            inits,
-            literals: BTreeMap::new(alloc),
-            iota: None,
-            repeated_at: None,
-            own: None,
-        })
+        let begun = begun(alloc, &declared);
+        let ((variables, inits), declared) = beside(begun, declared)?;
+        Ok(scope_of(alloc, declared, variables, inits))
     }
 
     /// Goes to a file of the sources. No block is open then.
@@ -231,45 +183,9 @@ impl Scope {
 
     /// The declarations with all that was met.
     pub fn finish(self) -> Result<Declared, NoMemory> {
-        let Scope {
-            alloc,
-            names,
-            ground,
-            packages,
-            functions,
-            variables,
-            declared,
-            constants,
-            package_blocks,
-            files,
-            extents,
-            mentions,
-            sizes,
-            bare,
-            universe,
-            local_types,
-            error_string,
-            ..
-        } = self;
-        let (types, _) = ground.into_parts();
-        Ok(Declared {
-            names,
-            types,
-            packages,
-            functions,
-            variables: listed(alloc, variables.as_slice())?,
-            declared,
-            constants,
-            blocks: package_blocks,
-            files,
-            extents,
-            mentions,
-            sizes,
-            bare,
-            universe,
-            local_types,
-            error_string,
-        })
+        let listed = listed(self.alloc, self.variables.as_slice());
+        let (listed, scope) = beside(listed, self)?;
+        Ok(declared_of(scope, listed))
     }
 
     // ---- what is held
@@ -467,6 +383,82 @@ impl Scope {
         let before = self.ground.least;
         self.ground.least = least;
         before
+    }
+}
+
+/// The variables that are declared, as they are held, and what initialises each package.
+fn begun(
+    alloc: Global,
+    declared: &Declared,
+) -> Result<(Vec<Variable>, IndexMap<u32, FuncId>), NoMemory> {
+    let variables = Vec::from_slice(alloc, declared.variables.as_slice())?;
+    let inits = initialisers(alloc, declared.functions.as_slice())?;
+    Ok((variables, inits))
+}
+
+/// The scope of the first file, with these variables and initialisers.
+fn scope_of(
+    alloc: Global,
+    declared: Declared,
+    variables: Vec<Variable>,
+    inits: IndexMap<u32, FuncId>,
+) -> Scope {
+    let package = match declared.files.file(0) {
+        Some(file) => file.package,
+        None => 0,
+    };
+    drop(declared.variables);
+    Scope {
+        alloc,
+        names: declared.names,
+        ground: Ground::new(alloc, declared.types, PHASE, package),
+        packages: declared.packages,
+        functions: declared.functions,
+        variables,
+        declared: declared.declared,
+        constants: declared.constants,
+        package_blocks: declared.blocks,
+        files: declared.files,
+        extents: declared.extents,
+        mentions: declared.mentions,
+        sizes: declared.sizes,
+        bare: declared.bare,
+        universe: declared.universe,
+        local_types: declared.local_types,
+        error_string: declared.error_string,
+        blocks: Blocks::new(alloc),
+        file: 0,
+        package,
+        inits,
+        literals: BTreeMap::new(alloc),
+        iota: None,
+        repeated_at: None,
+        own: None,
+    }
+}
+
+/// The declarations of a scope, with these variables. What was only asked for while expressions were seen is left out.
+fn declared_of(scope: Scope, variables: Variables) -> Declared {
+    let (types, _) = scope.ground.into_parts();
+    drop((scope.variables, (scope.blocks, scope.inits)));
+    drop((scope.literals, scope.own));
+    Declared {
+        names: scope.names,
+        types,
+        packages: scope.packages,
+        functions: scope.functions,
+        variables,
+        declared: scope.declared,
+        constants: scope.constants,
+        blocks: scope.package_blocks,
+        files: scope.files,
+        extents: scope.extents,
+        mentions: scope.mentions,
+        sizes: scope.sizes,
+        bare: scope.bare,
+        universe: scope.universe,
+        local_types: scope.local_types,
+        error_string: scope.error_string,
     }
 }
 

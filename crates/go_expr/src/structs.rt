@@ -10,6 +10,7 @@ use go_syntax::{ListedName, NamedType};
 use go_type::{Field, Fields, TypeTerm};
 use indexmap::IndexSet;
 use std::alloc::Global;
+use typed_parts::only;
 
 /// The fields of a struct that were seen so far.
 #[derive(Drop)]
@@ -114,15 +115,13 @@ impl FieldTypes {
     /// The type of the struct, where it is sound.
     pub(crate) fn finish(self, scope: &mut Scope) -> Result<Option<TypeId>, NoMemory> {
         let FieldTypes {
+            alloc: _,
+            names,
             fields,
             is_unsound,
-            ..
         } = self;
-        if is_unsound {
-            return Ok(None);
-        }
-        let of = scope.hold(TypeTerm::Struct(fields))?;
-        Ok(Some(of))
+        drop(names);
+        scope.held_term(only(Some(TypeTerm::Struct(fields)), !is_unsound))
     }
 }
 
