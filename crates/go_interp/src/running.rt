@@ -5,10 +5,10 @@ ghost use Rattle.go_base.specs.Devices.{HasFaulted};
 ghost use Rattle.go_interp.specs.Output.{HasWritten};
 
 use crate::error::{RunError, lost};
-use crate::frames::Goroutine;
-use crate::machine::{Machine, Turn};
+use crate::stepping::make_steps;
 use code_plan::{Plan, plan};
 use go_base::{Ending, NoMemory, Sink, SinkError};
+use go_machine::{Goroutine, Machine, Turn};
 use go_sched::Sched;
 use go_value::Store;
 use indexmap::IndexMap;
@@ -64,7 +64,7 @@ fn drive<O: Sink>(machine: Machine<'_>, out: &mut O) -> Result<Ending, RunError>
 {
     let mut machine = machine;
     for _ in 0..u64::MAX {
-        match machine.make_steps() {
+        match make_steps(&mut machine) {
             Turn::Goes => write_piece(&mut machine, out)?,
             Turn::Ends => return finish(machine, out),
             Turn::WantsMemory => {

@@ -8,7 +8,7 @@ use std::alloc::Global;
 
 /// What a panic carries.
 #[derive(Drop)]
-pub(crate) enum Thrown {
+pub enum Thrown {
     /// A value in an interface.
     Value(Value),
     /// The text of a fault, in a code that has no type for its value.
@@ -17,7 +17,8 @@ pub(crate) enum Thrown {
 
 /// What a frame is about.
 #[derive(Drop)]
-pub(crate) enum FrameState {
+pub enum FrameState {
+    /// It runs.
     Running,
     /// It makes its deferred calls, and then goes on at its place.
     Returning,
@@ -27,16 +28,21 @@ pub(crate) enum FrameState {
 
 /// What a function value has besides its function.
 #[derive(Drop)]
-pub(crate) enum Bound {
+pub enum Bound {
+    /// Nothing.
     Nothing,
+    /// The cells that a closure captures.
     Captured(Vec<Address>),
+    /// The receiver of a method.
     Receiver(Value),
 }
 
 /// What is to be called, once its operands are known.
 #[derive(Drop)]
-pub(crate) enum Ready<'a> {
+pub enum Ready<'a> {
+    /// A function, and what is bound to it.
     Function { function: u32, bound: Bound },
+    /// A built-in function.
     Builtin(&'a BuiltinForm),
     /// A nil function value.
     Nil,
@@ -44,8 +50,10 @@ pub(crate) enum Ready<'a> {
 
 /// A call that is made later.
 #[derive(Drop)]
-pub(crate) struct Later<'a> {
+pub struct Later<'a> {
+    /// What it calls.
     pub ready: Ready<'a>,
+    /// Its arguments.
     pub arguments: Vec<Value>,
     /// How many promotions through embedded interfaces led to it.
     pub chain: u64,
@@ -53,8 +61,10 @@ pub(crate) struct Later<'a> {
 
 /// A call of a function that has not returned.
 #[derive(Drop)]
-pub(crate) struct Frame<'a> {
+pub struct Frame<'a> {
+    /// Its function.
     pub function: &'a PlannedFunction,
+    /// The block where it stands.
     pub block: u32,
     /// The steps of the block.
     pub steps: &'a [Step],
@@ -62,10 +72,13 @@ pub(crate) struct Frame<'a> {
     pub step: u32,
     /// Whether it was started as a deferred call.
     pub deferred: bool,
+    /// What it is about.
     pub state: FrameState,
+    /// Its deferred calls, the first of them first.
     pub defers: Vec<Later<'a>>,
     /// The slot of the frame below that gets the results.
     pub to: Option<u32>,
+    /// How many embedded interfaces the selection has passed that led to it.
     pub chain: u64,
 }
 
@@ -78,11 +91,14 @@ impl<'a> Frame<'a> {
     }
 }
 
+/// A goroutine: its frames, and what it is about to do.
 #[derive(Drop)]
-pub(crate) struct Goroutine<'a> {
+pub struct Goroutine<'a> {
     /// The frames below the top one.
     pub below: Vec<Frame<'a>>,
+    /// The top frame.
     pub top: Option<Frame<'a>>,
+    /// The slots of the frames.
     pub stack: RegStack,
     /// How many frames of source functions there are.
     pub sources: u32,

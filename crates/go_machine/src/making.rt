@@ -1,38 +1,33 @@
 //! Maps, slices, conversions, interfaces and function values.
 
-use crate::frames::Bound;
+use crate::error::lost;
 use crate::machine::{Machine, Met, Turn};
 use code_plan::{Arg, Bounds, ConvertForm, CutForm, Step};
 use go_base::{ChanId, FuncId, MapId, NoMemory, TypeId};
+use go_type::TypeTerm;
 use go_value::{
-    Address, BoundTarget, Fault, FuncValue, MAX_SLICE_LEAVES, Part, SliceValue, Value, array_slice,
+    BoundTarget, Fault, FuncValue, MAX_SLICE_LEAVES, Part, SliceValue, Value, array_slice,
     assertion_fault, bytes_of_text, convert_int, runes_of_text, slice_of, text_of_bytes,
     text_of_int, text_of_runes, text_slice, to_interface,
 };
 
-/// The number of a function, as a plan has it.
-fn function_number(function: FuncId) -> Result<u32, NoMemory> {
-    match u32::try_from(function.number) {
-        Ok(number) => Ok(number),
-        Err(_) => Err(crate::error::lost()),
-    }
-}
-
 impl<'a> Machine<'a> {
-    pub fn map(&self, arg: &Arg) -> Result<Option<MapId>, NoMemory> {
+    pub(crate) fn map(&self, arg: &Arg) -> Result<Option<MapId>, NoMemory> {
         match self.look(arg)? {
             Value::Map(map) => Ok(*map),
-            _ => Err(crate::error::lost()),
+            _ => Err(lost()),
         }
     }
 
+    /// The channel of an operand. None where it is nil.
     pub fn chan(&self, arg: &Arg) -> Result<Option<ChanId>, NoMemory> {
         match self.look(arg)? {
             Value::Chan(chan) => Ok(*chan),
-            _ => Err(crate::error::lost()),
+            _ => Err(lost()),
         }
     }
 
+    /// What is looked up in a map, or put there.
     #[inline(never)]
     pub fn act_on_map(&mut self, step: &'a Step) -> Turn {
         match step {
@@ -84,6 +79,7 @@ impl<'a> Machine<'a> {
         Ok(self.store.map_put(&self.code.types, map, key, value)?)
     }
 
+    /// A new map.
     pub fn make_map(&mut self, to: u32) -> Turn {
         let made = self.made_map();
         self.give(to, made)
@@ -93,6 +89,7 @@ impl<'a> Machine<'a> {
         Ok(Value::Map(Some(self.store.make_map()?)))
     }
 
+    /// A new channel.
     pub fn make_chan(&mut self, leaves: u32, size: &Arg, to: u32) -> Turn {
         let made = self.made_chan(leaves, size);
         self.give(to, made)
@@ -107,6 +104,7 @@ impl<'a> Machine<'a> {
         }
     }
 
+    /// A new slice.
     pub fn make_slice(&mut self, zero: &Value, leaves: u32, len: &Arg, cap: &Arg, to: u32) -> Turn {
         let made = self.made_slice(zero, leaves, len, cap);
         self.give(to, made)
@@ -125,6 +123,7 @@ impl<'a> Machine<'a> {
         Ok(Value::slice(self.alloc, slice)?)
     }
 
+    /// A part of a slice, an array or a text.
     #[inline(never)]
     pub fn cut(&mut self, step: &'a Step) -> Turn {
         let Step::Cut {
@@ -179,6 +178,7 @@ impl<'a> Machine<'a> {
         }
     }
 
+    /// A conversion of a value.
     #[inline(never)]
     pub fn convert(&mut self, form: ConvertForm, operand: &Arg, to: u32) -> Turn {
         let converted = self.converted(form, operand);
@@ -220,6 +220,7 @@ impl<'a> Machine<'a> {
         Ok(Value::slice(self.alloc, slice)?)
     }
 
+    /// A value in an interface.
     #[inline(never)]
     pub fn make_interface(&mut self, of: TypeId, operand: &Arg, to: u32) -> Turn {
         let made = self.made_interface(of, operand);
@@ -231,6 +232,7 @@ impl<'a> Machine<'a> {
         Ok(to_interface(self.alloc, &self.code.types, of, value)?)
     }
 
+    /// A function value with what it captures.
     #[inline(never)]
     pub fn closure(&mut self, function: FuncId, captured: &'a [Arg], to: u32) -> Turn {
         let made = self.made_closure(function, captured);
@@ -246,6 +248,7 @@ impl<'a> Machine<'a> {
         Ok(Value::function(self.alloc, closure)?)
     }
 
+    /// A method as a function value, bound to its receiver.
     #[inline(never)]
     pub fn bind(
         &mut self,
@@ -271,6 +274,7 @@ impl<'a> Machine<'a> {
         Ok(go_value::bind(self.alloc, target, receiver)?)
     }
 
+    /// An assertion of a type.
     #[inline(never)]
     pub fn assert(&mut self, step: &'a Step) -> Turn {
         let Step::Assert {
@@ -321,40 +325,7 @@ impl<'a> Machine<'a> {
     fn is_interface(&self, of: TypeId) -> bool {
         matches!(
             self.code.types.underlying_term(of),
-            Some(go_type::TypeTerm::Interface(_))
+            Some(TypeTerm::Interface(_))
         )
-    }
-
-    /// The function and what is bound to it of a function value. None where it is nil.
-    pub fn callee(&self, value: &Value) -> Result<Option<(u32, Bound)>, NoMemory> {
-        let Value::Func(function) = value else {
-            return Err(crate::error::lost());
-        };
-        match &**function {
-            FuncValue::Nil => Ok(None),
-            FuncValue::Closure { function, captured } => {
-                let bound = self.captured(captured.as_slice())?;
-                Ok(Some((function_number(*function)?, bound)))
-            }
-            FuncValue::Bound {
-                target: BoundTarget::Function(function),
-                receiver,
-            } => {
-                let bound = Bound::Receiver(receiver.copy(self.alloc)?);
-                Ok(Some((function_number(*function)?, bound)))
-            }
-            _ => Err(crate::error::lost()),
-        }
-    }
-
-    fn captured(&self, captured: &[Address]) -> Result<Bound, NoMemory> {
-        if captured.is_empty() {
-            return Ok(Bound::Nothing);
-        }
-        let mut copies = Vec::new(self.alloc);
-        for address in captured {
-            copies.push(address.copy()?)?;
-        }
-        Ok(Bound::Captured(copies))
     }
 }

@@ -36,6 +36,7 @@ fn taken_entries(
 }
 
 impl<'a> Machine<'a> {
+    /// A range over a text or a map begins.
     pub fn range(&mut self, operand: &Arg, to: u32) -> Turn {
         let state = self.range_state(operand);
         self.give(to, state)
@@ -65,6 +66,7 @@ impl<'a> Machine<'a> {
         Value::parts(self.alloc, parts)
     }
 
+    /// The next turn of a range over a text.
     pub fn next_text(&mut self, range: u32, to: u32) -> Turn {
         let turn = self.text_turn(range);
         self.give(to, turn)
@@ -87,6 +89,7 @@ impl<'a> Machine<'a> {
         }
     }
 
+    /// The next turn of a range over a map.
     pub fn next_map(&mut self, range: u32, key: &Value, value: &Value, to: u32) -> Turn {
         let turn = self.map_turn(range, key, value);
         self.give(to, turn)

@@ -55,6 +55,7 @@ impl<'a> Machine<'a> {
         Ok((self.int(left)?, self.int(right)?))
     }
 
+    /// An operation on integers.
     pub fn arithmetic(
         &mut self,
         op: ConstOp,
@@ -72,6 +73,7 @@ impl<'a> Machine<'a> {
         }
     }
 
+    /// A comparison of integers.
     pub fn compare_ints(&mut self, op: CompareOp, left: &Arg, right: &Arg, to: u32) -> Turn {
         match self.ints(left, right) {
             Ok((a, b)) => self.set_truth(to, compare(op, a, b)),
@@ -79,6 +81,7 @@ impl<'a> Machine<'a> {
         }
     }
 
+    /// A shift of an integer, to the left or the right.
     pub fn shift(&mut self, left: bool, kind: IntKind, value: &Arg, count: &Arg, to: u32) -> Turn {
         let Ok((a, count)) = self.ints(value, count) else {
             return Turn::WantsMemory;
@@ -89,6 +92,7 @@ impl<'a> Machine<'a> {
         }
     }
 
+    /// Two texts, one behind the other.
     pub fn join(&mut self, left: &Arg, right: &Arg, to: u32) -> Turn {
         let joined = self.joined(left, right);
         self.give(to, joined)
@@ -104,6 +108,7 @@ impl<'a> Machine<'a> {
         }
     }
 
+    /// A comparison of texts.
     pub fn compare_texts(&mut self, op: CompareOp, left: &Arg, right: &Arg, to: u32) -> Turn {
         match self.text_order(left, right) {
             Ok(order) => self.set_truth(to, holds(op, order)),
@@ -128,6 +133,7 @@ impl<'a> Machine<'a> {
         Ok(go_value::equal(self.alloc, &self.code.types, a, b)?)
     }
 
+    /// The negative of an integer.
     pub fn negate(&mut self, kind: IntKind, operand: &Arg, to: u32) -> Turn {
         match self.int(operand) {
             Ok(number) => self.set_int(to, convert_int(kind, number.wrapping_neg())),
@@ -135,6 +141,7 @@ impl<'a> Machine<'a> {
         }
     }
 
+    /// The complement of an integer.
     pub fn complement(&mut self, kind: IntKind, operand: &Arg, to: u32) -> Turn {
         match self.int(operand) {
             Ok(number) => self.set_int(to, convert_int(kind, !number)),
@@ -142,6 +149,7 @@ impl<'a> Machine<'a> {
         }
     }
 
+    /// The other truth.
     pub fn not(&mut self, operand: &Arg, to: u32) -> Turn {
         match self.truth(operand) {
             Ok(truth) => self.set_truth(to, !truth),

@@ -6,6 +6,7 @@ use go_base::NoMemory;
 use go_value::{Address, Fault, Value, check_index, element};
 
 impl<'a> Machine<'a> {
+    /// A new cell, with a zero value.
     #[inline(never)]
     pub fn make_cell(&mut self, zero: &Value, to: u32) -> Turn {
         let made = self.made_cell(zero);
@@ -18,6 +19,7 @@ impl<'a> Machine<'a> {
         Ok(Value::Pointer(Address::whole(cell)))
     }
 
+    /// The value at an address.
     pub fn load(&mut self, at: &Arg, to: u32) -> Turn {
         match self.loaded_int(at) {
             Ok(Some(number)) => self.set_int(to, number),
@@ -41,6 +43,7 @@ impl<'a> Machine<'a> {
         Ok(self.store.load_at(self.alloc, self.address(at)?)?)
     }
 
+    /// Puts a value at an address.
     pub fn store(&mut self, at: &Arg, value: &Arg) -> Turn {
         let stored = self.stored(at, value);
         self.done(stored)
@@ -56,6 +59,7 @@ impl<'a> Machine<'a> {
         Ok(self.store.put_at(&address, value)?)
     }
 
+    /// The address of a field.
     pub fn field_address(&mut self, operand: &Arg, field: u32, to: u32) -> Turn {
         let part = self.part_of(operand, field);
         self.give(to, part)
@@ -66,6 +70,7 @@ impl<'a> Machine<'a> {
         Ok(Value::Pointer(part))
     }
 
+    /// The address of an element of a slice.
     pub fn slice_element(&mut self, operand: &Arg, index: &Arg, to: u32) -> Turn {
         let element = self.element_of(operand, index);
         self.give(to, element)
@@ -79,6 +84,7 @@ impl<'a> Machine<'a> {
         }
     }
 
+    /// The address of an element of an array.
     pub fn array_element(&mut self, operand: &Arg, index: &Arg, len: u64, to: u32) -> Turn {
         let element = self.array_part(operand, index, len);
         self.give(to, element)
@@ -98,6 +104,7 @@ impl<'a> Machine<'a> {
         }
     }
 
+    /// A field of a value.
     pub fn field(&mut self, operand: &Arg, field: u32, to: u32) -> Turn {
         let part = self.part_value(operand, field as usize);
         self.give(to, part)
@@ -114,11 +121,13 @@ impl<'a> Machine<'a> {
         }
     }
 
+    /// A part of a tuple.
     pub fn extract(&mut self, operand: &Arg, part: u32, to: u32) -> Turn {
         let part = self.part_value(operand, part as usize);
         self.give(to, part)
     }
 
+    /// An element of a value that is an array.
     pub fn element(&mut self, operand: &Arg, index: &Arg, to: u32) -> Turn {
         let part = self.array_value(operand, index);
         self.give(to, part)
@@ -134,6 +143,7 @@ impl<'a> Machine<'a> {
         self.part_value(operand, place as usize)
     }
 
+    /// A byte of a text.
     pub fn byte(&mut self, operand: &Arg, index: &Arg, to: u32) -> Turn {
         match self.byte_of(operand, index) {
             Ok(byte) => self.set_int(to, byte),
@@ -151,6 +161,7 @@ impl<'a> Machine<'a> {
         }
     }
 
+    /// The value of an operand, in another register.
     pub fn keep(&mut self, operand: &Arg, to: u32) -> Turn {
         match self.read(operand) {
             Ok(value) => {
