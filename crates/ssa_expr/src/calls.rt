@@ -4,7 +4,7 @@ use crate::builder::{Builder, Parts, zero};
 use crate::built_ins::builtin_call;
 use crate::error::lost;
 use crate::exprs::{captured_by, literal, lower_expr};
-use crate::joining::{discard, kept};
+use crate::joining::kept;
 use go_base::{FuncId, NameId, NoMemory, Pos, TypeId};
 use go_tree::{Callee, ExprKind, TypedExpr, Values};
 use go_type::{Builtin, TypeTerm};
@@ -94,7 +94,7 @@ pub fn lower_values(builder: &mut Builder<'_>, values: &Values) -> Result<Vec<Op
             let tuple = lower_expr(builder, tuple)?;
             let outer = builder.set_parts(Parts::Tuple(tuple));
             let values = lower_list(builder, parts.as_slice());
-            discard(builder.set_parts(outer));
+            drop(builder.set_parts(outer));
             values
         }
     }

@@ -5,7 +5,7 @@ use crate::built_ins::lower_builtin;
 use crate::calls::lower_call;
 use crate::composites::{composite_address, composite_value};
 use crate::error::lost;
-use crate::joining::{beside, discard, kept};
+use crate::joining::{beside, kept};
 use crate::places::{address, check_pointer, read_place};
 use go_base::{BlockId, Bytes, FuncId, NameId, NoMemory, Pos, TypeId, VarId};
 use go_tree::{ExprKind, IndexBase, Method, TypedExpr};
@@ -212,7 +212,7 @@ fn lower_right(
     let value = kept(value, joined)?;
     let decided = truth(!both, of);
     if is_truth(&value, !both) {
-        discard(value);
+        drop(value);
         return Ok(decided);
     }
     let mut edges = PhiEdges::new(builder.allocator());

@@ -1,7 +1,7 @@
 //! A function when it is built.
 
 use crate::builder::{Builder, OpenBlock};
-use crate::joining::{beside, discard};
+use crate::joining::beside;
 use go_base::{BlockId, NoMemory, Text};
 use go_type::{TypeIds, Types};
 use ssa_ir::{Block, Blocks, Function, FunctionKind, Needs};
@@ -44,7 +44,7 @@ impl Builder<'_> {
             recover,
             parts,
         } = self;
-        discard((homes, parts));
+        drop((homes, parts));
         let others = (header, registers, needs, types);
         let (blocks, others) = beside(closed(alloc, blocks), others)?;
         let (header, registers, needs, types) = others;

@@ -34,11 +34,6 @@ pub(crate) fn kept<T: Drop>(value: T, done: Result<(), NoMemory>) -> Result<T, N
     }
 }
 
-/// The value is not used any more.
-pub(crate) fn discard<T: Drop>(value: T) {
-    drop(value);
-}
-
 /// What a case answers that cannot come, in place of a value.
 pub(crate) fn refused<T: Drop, U: Drop>(value: T) -> Result<U, NoMemory> {
     drop(value);

@@ -4,7 +4,7 @@
 use crate::builder::{Builder, integer};
 use crate::error::lost;
 use crate::exprs::{int_type, lower_expr};
-use crate::joining::{add, beside, discard, is_there, kept, refused};
+use crate::joining::{add, beside, is_there, kept, refused};
 use go_base::{NoMemory, Pos, TypeId, VarId};
 use go_tree::{ExprKind, IndexBase, TypedExpr};
 use go_type::TypeTerm;
@@ -254,14 +254,14 @@ pub fn store_place(
     at: Pos,
 ) -> Result<(), NoMemory> {
     if let Some(var) = whole_variable(&place) {
-        discard(place);
+        drop(place);
         return builder.write_var(var, value, at);
     }
     let address = place_address(builder, &place);
     let (address, (place, value)) = beside(address, (place, value))?;
     match address {
         Some(address) => {
-            discard(place);
+            drop(place);
             builder.effect(Op::Store { at: address, value }, at)
         }
         None => store_entry(builder, place, value, at),
