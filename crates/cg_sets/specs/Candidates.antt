@@ -18,18 +18,18 @@ use Rattle.go_type.specs.declared.term.TypeTerm.{TypeTerm}
 use Rattle.go_type.specs.declared.term.TypeTerm.TheVariants.{Pointer, Struct, Interface}
 use Rattle.tree_facts.specs.FunctionNames.{is_part_to}
 use Rattle.cg_uses.specs.Bodies.{uses}
-use Rattle.cg_uses.specs.Kinds.{is_interface, is_function}
-use Rattle.cg_uses.specs.declared.nodes.Group.{Group}
-use Rattle.cg_uses.specs.declared.nodes.Group.TheVariants as group_of
-use Rattle.cg_uses.specs.declared.nodes.Mention.{Mention}
-use Rattle.cg_uses.specs.declared.nodes.Mention.TheVariants as mention
-use Rattle.cg_uses.specs.declared.nodes.Node.{Node}
-use Rattle.cg_uses.specs.declared.nodes.Node.TheVariants as node_of
-use Rattle.cg_uses.specs.declared.nodes.Selector.{Selector}
-use Rattle.cg_uses.specs.declared.nodes.Spot.{Spot}
-use Rattle.cg_uses.specs.declared.nodes.Value.{Value}
-use Rattle.cg_uses.specs.declared.nodes.Value.TheVariants as value_of
-use Rattle.cg_sets.specs.Alike.{bare, like_group, like_value}
+use Rattle.cg_nodes.specs.Kinds.{is_interface, is_function}
+use Rattle.cg_nodes.specs.declared.nodes.Group.{Group}
+use Rattle.cg_nodes.specs.declared.nodes.Group.TheVariants as group_of
+use Rattle.cg_nodes.specs.declared.nodes.Mention.{Mention}
+use Rattle.cg_nodes.specs.declared.nodes.Mention.TheVariants as mention
+use Rattle.cg_nodes.specs.declared.nodes.Node.{Node}
+use Rattle.cg_nodes.specs.declared.nodes.Node.TheVariants as node_of
+use Rattle.cg_nodes.specs.declared.nodes.Selector.{Selector}
+use Rattle.cg_nodes.specs.declared.nodes.Spot.{Spot}
+use Rattle.cg_nodes.specs.declared.nodes.Value.{Value}
+use Rattle.cg_nodes.specs.declared.nodes.Value.TheVariants as value_of
+use Rattle.cg_numbers.specs.Alike.{bare, like_group, like_value}
 
 -- what is called in place of a value: a function, or what the values of a node stand for in a group; of the node of the call's
 -- first argument where that is None

@@ -6,16 +6,16 @@ use Rattle.go_tree.specs.declared.functions.FunctionDecl.{FunctionDecl}
 use Rattle.go_tree.specs.declared.functions.FunctionForm.TheVariants as form_of
 use Rattle.go_tree.specs.declared.program.Program.{Program}
 use Rattle.go_type.specs.Table.{Table}
-use Rattle.cg_uses.specs.declared.nodes.Called.{Called}
-use Rattle.cg_uses.specs.declared.nodes.Called.TheVariants as called
-use Rattle.cg_uses.specs.declared.nodes.Group.{Group}
-use Rattle.cg_uses.specs.declared.nodes.Mention.TheVariants as mention
-use Rattle.cg_uses.specs.declared.nodes.Node.{Node}
-use Rattle.cg_uses.specs.declared.nodes.Node.TheVariants as node_of
-use Rattle.cg_uses.specs.declared.nodes.Value.{Value}
-use Rattle.cg_uses.specs.declared.nodes.Value.TheVariants as value_of
+use Rattle.cg_nodes.specs.declared.nodes.Called.{Called}
+use Rattle.cg_nodes.specs.declared.nodes.Called.TheVariants as called
+use Rattle.cg_nodes.specs.declared.nodes.Group.{Group}
+use Rattle.cg_nodes.specs.declared.nodes.Mention.TheVariants as mention
+use Rattle.cg_nodes.specs.declared.nodes.Node.{Node}
+use Rattle.cg_nodes.specs.declared.nodes.Node.TheVariants as node_of
+use Rattle.cg_nodes.specs.declared.nodes.Value.{Value}
+use Rattle.cg_nodes.specs.declared.nodes.Value.TheVariants as value_of
 use Rattle.cg_sets.specs.declared.edges.Edge.{Edge}
-use Rattle.cg_sets.specs.Alike.{like_group, like_node, like_value}
+use Rattle.cg_numbers.specs.Alike.{like_group, like_node, like_value}
 use Rattle.cg_sets.specs.Candidates.{Calls, Asks, Standing, Stands, Answers}
 
 module _ (p : Program) (types : Table) (bares : List TypeId) where

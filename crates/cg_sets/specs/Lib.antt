@@ -1,4 +1,3 @@
-pub mod Alike
 pub mod Asking
 pub mod Candidates
 pub mod Graphs

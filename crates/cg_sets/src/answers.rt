@@ -3,9 +3,9 @@
 use crate::candidates::{Candidate, Goal};
 use crate::classes::{ClassMethod, Classes, classes_of};
 use crate::implementing::Implementing;
-use crate::numbers::Numbers;
+use cg_nodes::{Group, Node, Selector, Value, is_interface};
+use cg_numbers::Numbers;
 use cg_solve::Table;
-use cg_uses::{Group, Node, Selector, Value, is_interface};
 use go_base::{FuncId, NoMemory, TypeId};
 use go_tree::{FunctionForm, Program};
 use std::alloc::Global;
@@ -137,7 +137,7 @@ impl Answers {
         let mut implementing = Implementing::new(alloc);
         for number in 0..numbers.groups().len() {
             if let Some(Group::Selected(selector)) = numbers.groups().get(number).copied() {
-                let place = implementing.find(alloc, &mut numbers.likeness, classes, selector.of)?;
+                let place = implementing.find(alloc, &numbers.likeness, classes, selector.of)?;
                 let list = implementing.list(place);
                 self.add_classes(alloc, classes, number, selector, list)?;
             }
@@ -238,7 +238,7 @@ fn unbound(
             receiver: method.receiver,
         }));
     };
-    let receiver = if takes(program, numbers, function, selector.of)? {
+    let receiver = if takes(program, numbers, function, selector.of) {
         numbers.node(Node::Argument(Group::Signed(signature), 0))?
     } else {
         method.receiver
@@ -260,19 +260,13 @@ fn method_of(classes: &Classes, selector: Selector) -> Option<ClassMethod> {
 }
 
 /// Whether a method's receiver has a type.
-fn takes(
-    program: &Program,
-    numbers: &mut Numbers,
-    function: FuncId,
-    of: TypeId,
-) -> Result<bool, NoMemory> {
+fn takes(program: &Program, numbers: &Numbers, function: FuncId, of: TypeId) -> bool {
     let functions = program.functions.as_slice();
     let Some(decl) = functions.get(function.number as usize) else {
-        return Ok(false);
+        return false;
     };
-    let Some(receiver) = decl.receiver else {
-        return Ok(false);
-    };
-    let bare = numbers.likeness.bare(receiver)?;
-    Ok(bare == of)
+    match decl.receiver {
+        Some(receiver) => numbers.likeness.bare(receiver) == of,
+        None => false,
+    }
 }

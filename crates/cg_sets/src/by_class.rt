@@ -4,7 +4,7 @@ use crate::answers::{Answers, answers_of};
 use crate::asking::{Asked, Question, edges_of, put_answer, target_number};
 use crate::candidates::{Candidate, Goal};
 use crate::edges::Edges;
-use crate::sites::{Call, Site, sites_of};
+use cg_numbers::{Call, Site, sites_of};
 use cg_solve::Rule;
 use go_base::NoMemory;
 use go_tree::Program;

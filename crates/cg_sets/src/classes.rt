@@ -3,9 +3,9 @@
 
 use crate::candidates::Goal;
 use crate::embedding::{function_receiver, last_embedded, receiver_node};
-use crate::numbers::Numbers;
+use cg_nodes::{Group, Node, Selector, Value, is_interface};
+use cg_numbers::Numbers;
 use cg_solve::Table;
-use cg_uses::{Group, Node, Selector, Value, is_interface};
 use go_base::{NameId, NoMemory, TypeId};
 use go_tree::{DeclaredType, Program};
 use go_type::{MethodEntry, SelectionKind, TypeTerm, method_set};
@@ -93,7 +93,7 @@ impl Classes {
 
     /// A type, and pointers to it.
     fn add_class(&mut self, numbers: &mut Numbers, of: TypeId) -> Result<(), NoMemory> {
-        let bare = numbers.likeness.bare(of)?;
+        let bare = numbers.likeness.bare(of);
         let pointer = numbers.likeness.pointer_to(bare)?;
         self.add_type(numbers, bare)?;
         self.add_type(numbers, pointer)
@@ -150,7 +150,7 @@ impl Classes {
         };
         let receiver = receiver_of(program, numbers, of, entry)?;
         let method = ClassMethod {
-            of: numbers.likeness.bare(entry.of)?,
+            of: numbers.likeness.bare(entry.of),
             goal,
             receiver: numbers.node(receiver)?,
         };

@@ -1,7 +1,7 @@
 //! The way from a value to a method of it, through embedded fields. Go specification, "Struct types" and "Selectors".
 
-use crate::likeness::Likeness;
-use cg_uses::{Node, is_function};
+use cg_nodes::{Node, is_function};
+use cg_numbers::Likeness;
 use go_base::{FuncId, TypeId};
 use go_tree::FunctionDecl;
 use go_type::{TypeTerm, Types};

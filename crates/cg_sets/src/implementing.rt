@@ -1,7 +1,7 @@
 //! Which classes implement an interface, found once an interface. Go specification, "Implementing an interface".
 
 use crate::classes::Classes;
-use crate::likeness::Likeness;
+use cg_numbers::Likeness;
 use go_base::{NoMemory, TypeId};
 use go_type::{MethodType, TypeTerm, Types};
 use indexmap::IndexMap;
@@ -35,7 +35,7 @@ impl Implementing {
     pub fn find(
         &mut self,
         alloc: Global,
-        likeness: &mut Likeness,
+        likeness: &Likeness,
         classes: &Classes,
         interface: TypeId,
     ) -> Result<usize, NoMemory> {
@@ -61,7 +61,7 @@ impl Implementing {
 /// The classes that implement an interface with methods.
 fn implementers(
     alloc: Global,
-    likeness: &mut Likeness,
+    likeness: &Likeness,
     classes: &Classes,
     interface: TypeId,
 ) -> Result<Vec<usize>, NoMemory> {
@@ -92,7 +92,7 @@ fn methods_of(
 /// The methods that are asked for. None where no class has a method of a name.
 fn required_of(
     alloc: Global,
-    likeness: &mut Likeness,
+    likeness: &Likeness,
     classes: &Classes,
     methods: &[MethodType],
 ) -> Result<Option<Vec<Required>>, NoMemory> {
@@ -101,7 +101,7 @@ fn required_of(
         let Some(name) = classes.name(method.name, method.package) else {
             return Ok(None);
         };
-        let of = likeness.bare(method.of)?;
+        let of = likeness.bare(method.of);
         required.push(Required { name, of })?;
     }
     Ok(Some(required))

@@ -14,9 +14,7 @@ mod edges;
 mod embedding;
 mod error;
 mod implementing;
-mod likeness;
-mod numbers;
-mod sites;
+mod laws;
 
 pub use answers::{Answers, answers_of};
 pub use asking::{Asked, Question, edges_of, put_answer, target_number};
@@ -24,6 +22,4 @@ pub use by_class::cha;
 pub use by_reach::rta;
 pub use candidates::{Candidate, Goal};
 pub use edges::{Edge, Edges};
-pub use likeness::Likeness;
-pub use numbers::Numbers;
-pub use sites::{Call, Flow, Seed, Site, Sites, sites_of};
+pub use laws::rta_within_cha;

@@ -1,5 +1,3 @@
 pub mod Bodies
-pub mod Kinds
-pub mod Places
+pub mod Settings
 pub mod Statements
-pub mod Uses

@@ -3,14 +3,9 @@
 #![tactic(auto)]
 
 mod bodies;
-mod expressions;
-mod kinds;
-mod nodes;
-mod places;
+mod clauses;
+mod settings;
 mod statements;
-mod walk;
+mod targets;
 
 pub use bodies::uses;
-pub use kinds::{carries, is_function, is_interface};
-pub use nodes::{Called, Group, Mention, Node, Parts, Selector, Spot, Value};
-pub use places::{node_of, part_node};

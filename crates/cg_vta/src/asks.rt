@@ -1,7 +1,8 @@
 //! What calls ask: what the values of a node stand for in a group.
 
 use crate::error::lost;
-use cg_sets::{Answers, Asked, Call, Candidate, Goal, Question, Site, put_answer, target_number};
+use cg_numbers::{Call, Site};
+use cg_sets::{Answers, Asked, Candidate, Goal, Question, put_answer, target_number};
 use cg_solve::{Rule, Table, is_marked};
 use go_base::NoMemory;
 use indexmap::{IndexMap, IndexSet};

@@ -1,8 +1,9 @@
 //! The groups that calls choose from, by classes and signatures alone.
 
-use cg_sets::{Answers, Call, Candidate, Goal, Numbers, Seed, Site, Sites};
+use cg_nodes::{Group, Selector, Value};
+use cg_numbers::{Call, Numbers, Seed, Site, Sites};
+use cg_sets::{Answers, Candidate, Goal};
 use cg_solve::{Rule, index, solve};
-use cg_uses::{Group, Selector, Value};
 use go_base::NoMemory;
 use std::alloc::Global;
 

@@ -3,9 +3,10 @@
 ghost use Rattle.std.specs.Prelude.{OnOk};
 ghost use Rattle.cg_solve.specs.LeastSets.{IsIndex, IsClear, search_of};
 
-use cg_sets::{Answers, Call, Candidate, Goal, Numbers, Seed, Site, Sites};
+use cg_nodes::{Node, Value};
+use cg_numbers::{Call, Numbers, Seed, Site, Sites};
+use cg_sets::{Answers, Candidate, Goal};
 use cg_solve::{Rule, Search, Table, index, is_marked};
-use cg_uses::{Node, Value};
 use go_base::{NoMemory, TypeId};
 use std::alloc::Global;
 

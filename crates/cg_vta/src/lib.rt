@@ -10,7 +10,9 @@ mod by_flow;
 mod called;
 mod error;
 mod facts;
+mod laws;
 mod passing;
 mod shapes;
 
 pub use by_flow::vta;
+pub use laws::vta_within_cha;

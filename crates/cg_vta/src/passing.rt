@@ -1,9 +1,10 @@
 //! How values flow: within bodies, and through calls by their candidates.
 
 use crate::shapes::{Shape, shape_of};
-use cg_sets::{Answers, Candidate, Flow, Goal, Numbers};
+use cg_nodes::{Group, Node};
+use cg_numbers::{Flow, Numbers};
+use cg_sets::{Answers, Candidate, Goal};
 use cg_solve::{Rule, is_marked};
-use cg_uses::{Group, Node};
 use go_base::NoMemory;
 use std::alloc::Global;
 

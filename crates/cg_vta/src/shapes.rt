@@ -1,7 +1,7 @@
 //! Which arguments and results of a group's calls flow.
 
-use cg_sets::Numbers;
-use cg_uses::{Group, Selector, carries};
+use cg_nodes::{Group, Selector, carries};
+use cg_numbers::Numbers;
 use go_base::{NoMemory, TypeId};
 use go_type::{Signature, TypeTerm, Types};
 use std::alloc::Global;

@@ -3,6 +3,7 @@
 #![tactic(auto)]
 
 mod error;
+mod late;
 mod operations;
 mod planning;
 mod steps;

@@ -32,7 +32,7 @@ pub(crate) fn plan_op(
         Op::Send { channel, value } => planner.send(function, channel, value),
         Op::Tick => Ok(Step::Tick),
         Op::Jump(to) => Ok(Step::Jump {
-            to: small(to.number)?,
+            to: planner.target(function, *to)?,
         }),
         Op::If {
             test,
@@ -182,8 +182,8 @@ impl Planner<'_> {
     ) -> Result<Step, NoMemory> {
         Ok(Step::If {
             test: self.arg(function, test)?,
-            then_to: small(then_to.number)?,
-            else_to: small(else_to.number)?,
+            then_to: self.target(function, then_to)?,
+            else_to: self.target(function, else_to)?,
         })
     }
 

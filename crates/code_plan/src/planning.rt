@@ -1,12 +1,13 @@
 //! A code to its plan.
 
 use crate::error::lost;
+use crate::late::late_reads;
 use crate::operations::plan_op;
 use crate::steps::{
     Arg, MethodName, MethodOf, Plan, PlannedBlock, PlannedEdge, PlannedFunction, PlannedPhi, Role,
     Step,
 };
-use go_base::{Bytes, CellId, FuncId, NameId, NoMemory, TypeId};
+use go_base::{BlockId, Bytes, CellId, FuncId, NameId, NoMemory, TypeId};
 use go_type::{TypeTerm, Types, leaves_up_to};
 use go_value::{Address, FuncValue, Value, zero_value};
 use indexmap::IndexMap;
@@ -22,12 +23,19 @@ pub(crate) struct Planner<'a> {
     pub code: &'a Code,
     /// The name `_`.
     pub blank: Option<NameId>,
+    /// Of each register of the function that is planned the register of the cell that is read in its place.
+    pub late: &'a [Option<u64>],
 }
 
 /// The plan of a code that is sane and typed.
 pub fn plan(alloc: Global, code: &Code) -> Result<Plan, NoMemory> {
     let blank = code.names.find("_");
-    let planner = Planner { alloc, code, blank };
+    let planner = Planner {
+        alloc,
+        code,
+        blank,
+        late: &[],
+    };
     Ok(Plan {
         functions: planner.functions()?,
         methods: planner.methods()?,
@@ -85,11 +93,16 @@ impl Planner<'_> {
             Some(block) => Some(small(block.number)?),
             None => None,
         };
+        let late = late_reads(self.alloc, self.types(), function)?;
+        let planner = Planner {
+            late: late.as_slice(),
+            ..*self
+        };
         Ok(PlannedFunction {
             role: role_of(function),
             params: small(params)?,
             slots: small(slots)?,
-            blocks: self.blocks(function)?,
+            blocks: planner.blocks(function)?,
             recover,
         })
     }
@@ -108,10 +121,38 @@ impl Planner<'_> {
         for instr in block.instrs.as_slice() {
             match &instr.op {
                 Op::Phi(edges) => phis.push(self.phi(function, instr, edges.as_slice())?)?,
+                _ if self.is_late(instr) => {}
                 _ => steps.push(self.step(function, instr)?)?,
             }
         }
         Ok(PlannedBlock { phis, steps })
+    }
+
+    /// Whether an instruction is a load that is made where its register is used.
+    fn is_late(&self, instr: &Instr) -> bool {
+        match instr.register {
+            Some(register) => self.late_cell(register).is_some(),
+            None => false,
+        }
+    }
+
+    /// The register of the cell that is read in the place of a register.
+    fn late_cell(&self, register: u64) -> Option<u64> {
+        self.late.get(register as usize).copied().flatten()
+    }
+
+    /// The block to which a jump leads in the end: one that does nothing but jump is passed over, where no phi asks from
+    /// where the block behind it is entered.
+    pub(crate) fn target(&self, function: &Function, block: BlockId) -> Result<u32, NoMemory> {
+        let blocks = function.blocks.as_slice();
+        let mut at = block;
+        for _ in 0..blocks.len() {
+            match blocks.get(at.number as usize).and_then(next_of) {
+                Some(next) if !has_phis(blocks, next) => at = next,
+                _ => break,
+            }
+        }
+        small(at.number)
     }
 
     fn step(&self, function: &Function, instr: &Instr) -> Result<Step, NoMemory> {
@@ -154,12 +195,19 @@ impl Planner<'_> {
         match operand {
             Operand::Param(number) => Ok(Arg::Slot(small(*number)?)),
             Operand::Free(number) => self.free_arg(function, *number),
-            Operand::Register(number) => Ok(Arg::Slot(self.register(function, *number)?)),
+            Operand::Register(number) => self.register_arg(function, *number),
             Operand::Function(function) => self.function_arg(*function),
             Operand::Variable(variable) => self.held(Value::Pointer(Address::whole(CellId {
                 number: variable.number,
             }))),
             Operand::Constant { value, of } => self.held(self.constant(value, *of)?),
+        }
+    }
+
+    fn register_arg(&self, function: &Function, register: u64) -> Result<Arg, NoMemory> {
+        match self.late_cell(register) {
+            Some(cell) => Ok(Arg::Cell(self.register(function, cell)?)),
+            None => Ok(Arg::Slot(self.register(function, register)?)),
         }
     }
 
@@ -265,6 +313,28 @@ impl Planner<'_> {
             .iter()
             .copied()
             .find(|id| is_error_string(self.code, *id))
+    }
+}
+
+/// Where a block jumps that does nothing else.
+fn next_of(block: &Block) -> Option<BlockId> {
+    match block.instrs.as_slice() {
+        [only] => match only.op {
+            Op::Jump(to) => Some(to),
+            _ => None,
+        },
+        _ => None,
+    }
+}
+
+/// Whether a block begins with a phi.
+fn has_phis(blocks: &[Block], block: BlockId) -> bool {
+    match blocks.get(block.number as usize) {
+        Some(block) => match block.instrs.as_slice().first() {
+            Some(first) => matches!(first.op, Op::Phi(_)),
+            None => false,
+        },
+        None => false,
     }
 }
 

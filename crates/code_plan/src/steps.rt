@@ -10,6 +10,8 @@ use indexmap::IndexMap;
 pub enum Arg {
     /// A slot of the frame: its parameters, then its free variables, then its registers.
     Slot(u32),
+    /// What the cell holds to which the pointer in a slot of the frame points.
+    Cell(u32),
     /// A value that is there already.
     Held(Box<Value>),
 }

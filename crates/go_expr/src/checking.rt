@@ -3,12 +3,11 @@
 use crate::decls::see_decl_in;
 use crate::error::lost;
 use crate::exprs::see;
-use crate::own::Position;
-use crate::scope::Scope;
 use crate::types::see_type as see_type_in;
 use go_base::{NoMemory, Pos, TypeId};
 use go_declared::CheckError;
 use go_faults::Least;
+use go_scope::{Position, Scope};
 use go_sources::{SourceFile, Sources};
 use go_syntax::{Decl, Expr, TypeExpr};
 use go_tree::TypedExpr;
@@ -40,7 +39,7 @@ impl Checked {
 }
 
 fn entered<'a>(sources: &'a Sources, scope: &Scope) -> Result<&'a SourceFile, NoMemory> {
-    match sources.file(scope.file) {
+    match sources.file(scope.file()) {
         Some(source) => Ok(source),
         None => Err(lost()),
     }
@@ -79,7 +78,7 @@ pub fn see_item(
     written: &Expr,
 ) -> Result<Option<TypeId>, NoMemory> {
     let seen = see_expr(alloc, sources, scope, written)?;
-    Ok(type_of(&mut scope.ground, seen))
+    Ok(type_of(scope.ground(), seen))
 }
 
 /// Holds the constants or types of a declaration in a body; each row that is broken in it is reported in the scope. Those of
@@ -147,10 +146,10 @@ pub fn check_expr(
     let seen = see_expr(alloc, sources, scope, expr)?;
     let checked = match want {
         Some(to) => {
-            let given = typed_parts::one_value(&mut scope.ground, seen);
-            Checked::of(assigned(&mut scope.ground, given, Some(to))?)
+            let given = typed_parts::one_value(scope.ground(), seen);
+            Checked::of(assigned(scope.ground(), given, Some(to))?)
         }
-        None => Checked::of_given(value_of(&mut scope.ground, seen)),
+        None => Checked::of_given(value_of(scope.ground(), seen)),
     };
     refused(scope, before, checked)
 }
@@ -164,7 +163,7 @@ pub fn check_one(
 ) -> Result<Checked, CheckError> {
     let before = scope.set_least(Least::new());
     let seen = see_expr(alloc, sources, scope, expr)?;
-    let given = typed_parts::one_value(&mut scope.ground, seen);
+    let given = typed_parts::one_value(scope.ground(), seen);
     refused(scope, before, Checked::of_given(given))
 }
 
@@ -177,8 +176,8 @@ pub fn check_default(
 ) -> Result<Checked, CheckError> {
     let before = scope.set_least(Least::new());
     let seen = see_expr(alloc, sources, scope, expr)?;
-    let given = typed_parts::one_value(&mut scope.ground, seen);
-    let typed = by_default(&mut scope.ground, given)?;
+    let given = typed_parts::one_value(scope.ground(), seen);
+    let typed = by_default(scope.ground(), given)?;
     refused(scope, before, Checked::of(typed))
 }
 
@@ -193,8 +192,8 @@ pub fn check_assigned(
 ) -> Result<Checked, CheckError> {
     let before = scope.set_least(Least::new());
     let seen = see_expr(alloc, sources, scope, expr)?;
-    let given = typed_parts::one_value(&mut scope.ground, seen);
-    let typed = assigned(&mut scope.ground, given, to)?;
+    let given = typed_parts::one_value(scope.ground(), seen);
+    let typed = assigned(scope.ground(), given, to)?;
     refused(scope, before, Checked::of(typed))
 }
 
@@ -202,7 +201,7 @@ pub fn check_assigned(
 pub fn one_value(scope: &mut Scope, at: Pos, expr: TypedExpr) -> Result<Checked, CheckError> {
     let before = scope.set_least(Least::new());
     let seen = Seen::value(at, Some(expr));
-    let given = typed_parts::one_value(&mut scope.ground, seen);
+    let given = typed_parts::one_value(scope.ground(), seen);
     refused(scope, before, Checked::of_given(given))
 }
 
@@ -216,16 +215,19 @@ pub fn settle(
     to: Option<TypeId>,
 ) -> Result<Checked, CheckError> {
     let before = scope.set_least(Least::new());
-    let typed = typed_parts::settle(&mut scope.ground, Some(Given { at, expr }), to)?;
+    let typed = typed_parts::settle(scope.ground(), Some(Given { at, expr }), to)?;
     refused(scope, before, Checked::of(typed))
 }
 
-impl Scope {
-    /// Holds the constants or types of a declaration in a body. `Refused` with the first broken row in it; those of its names
-    /// that the block does not have are held all the same.
-    pub fn add_decl(&mut self, sources: &Sources, declaration: &Decl) -> Result<(), CheckError> {
-        let before = self.set_least(Least::new());
-        see_decl(self.alloc, sources, self, declaration)?;
-        refused(self, before, ())
-    }
+/// Holds the constants or types of a declaration in a body. `Refused` with the first broken row in it; those of its names
+/// that the block does not have are held all the same.
+pub fn add_decl(
+    alloc: Global,
+    sources: &Sources,
+    scope: &mut Scope,
+    declaration: &Decl,
+) -> Result<(), CheckError> {
+    let before = scope.set_least(Least::new());
+    see_decl(alloc, sources, scope, declaration)?;
+    refused(scope, before, ())
 }

@@ -1,11 +1,10 @@
 //! Composite literals as they are written. Go specification, "Composite literals".
 
 use crate::exprs::see;
-use crate::own::Position;
-use crate::scope::Scope;
 use crate::types::see_type;
 use go_ast::Token;
 use go_base::{NameId, NoMemory, Pos};
+use go_scope::{Position, Scope};
 use go_sources::SourceFile;
 use go_syntax::{Element, Expr, TypeExpr};
 use std::alloc::Global;
@@ -32,7 +31,7 @@ fn see_part(
             ..
         } => {
             let brace = scope.pos(open.start);
-            let literal = elided_literal(&mut scope.ground, brace, hint);
+            let literal = elided_literal(scope.ground(), brace, hint);
             see_elements(alloc, source, scope, elements.as_slice(), brace, literal)
         }
         _ => see(alloc, source, scope, part),
@@ -51,10 +50,7 @@ pub(crate) fn see_form(
 ) -> Result<(Pos, Option<Literal>), NoMemory> {
     let brace = scope.pos(open.start);
     let Some(form) = form else {
-        return Ok((
-            brace,
-            elided_literal(&mut scope.ground, brace, Hint::Nothing),
-        ));
+        return Ok((brace, elided_literal(scope.ground(), brace, Hint::Nothing)));
     };
     let at = scope.type_place(form);
     if let TypeExpr::OpenArray { element, .. } = &**form {
@@ -62,7 +58,7 @@ pub(crate) fn see_form(
         return Ok((at, open_array_literal(at, brace, elem)));
     }
     let of = see_type(alloc, source, scope, form, Position::Apart)?;
-    Ok((at, written_literal(&mut scope.ground, at, brace, of)))
+    Ok((at, written_literal(scope.ground(), at, brace, of)))
 }
 
 /// The elements of a composite literal, and the literal that they make.
@@ -82,16 +78,16 @@ pub(crate) fn see_elements(
     let expr = match known.kind {
         LiteralKind::Struct => {
             let entries = see_fields(alloc, source, scope, elements)?;
-            let package = scope.package;
-            struct_literal(&mut scope.ground, package, literal, entries)?
+            let package = scope.package();
+            struct_literal(scope.ground(), package, literal, entries)?
         }
         LiteralKind::Map { .. } => {
             let entries = see_entries(alloc, source, scope, elements, known)?;
-            map_literal(&mut scope.ground, literal, entries)?
+            map_literal(scope.ground(), literal, entries)?
         }
         _ => {
             let entries = see_entries(alloc, source, scope, elements, known)?;
-            indexed_literal(&mut scope.ground, literal, entries)?
+            indexed_literal(scope.ground(), literal, entries)?
         }
     };
     Ok(Seen::value(at, expr))
@@ -122,7 +118,7 @@ fn see_fields(
     let mut entries = Vec::new(alloc);
     for element in elements {
         let value = see_part(alloc, source, scope, &element.value, Hint::Nothing)?;
-        let entry = scope.field_entry(source, element, value)?;
+        let entry = field_entry(source, scope, element, value)?;
         entries.push(entry)?;
     }
     Ok(entries)
@@ -167,56 +163,54 @@ struct FieldKey {
     package: u32,
 }
 
-impl Scope {
-    fn field_entry(
-        &mut self,
-        source: &SourceFile,
-        element: &Element,
-        value: Seen,
-    ) -> Result<FieldEntry, NoMemory> {
-        let key = self.field_key(source, element, value.at);
-        let (key, value) = beside(key, value)?;
-        Ok(FieldEntry {
-            at: key.at,
-            has_key: element.key.is_some(),
-            name: key.name,
-            package: key.package,
-            value,
-        })
-    }
+fn field_entry(
+    source: &SourceFile,
+    scope: &mut Scope,
+    element: &Element,
+    value: Seen,
+) -> Result<FieldEntry, NoMemory> {
+    let key = field_key(source, scope, element, value.at);
+    let (key, value) = beside(key, value)?;
+    Ok(FieldEntry {
+        at: key.at,
+        has_key: element.key.is_some(),
+        name: key.name,
+        package: key.package,
+        value,
+    })
+}
 
-    /// The key of an element whose value is at a place.
-    fn field_key(
-        &mut self,
-        source: &SourceFile,
-        element: &Element,
-        value_at: Pos,
-    ) -> Result<FieldKey, NoMemory> {
-        let Some(key) = &element.key else {
-            return Ok(FieldKey {
-                at: value_at,
-                name: None,
-                package: self.package,
-            });
-        };
-        let at = self.pos(go_places::expr_start(key));
-        let (name, package) = match &**key {
-            Expr::Name(token) => self.field_name(source, *token)?,
-            _ => (None, self.package),
-        };
-        Ok(FieldKey { at, name, package })
-    }
+/// The key of an element whose value is at a place.
+fn field_key(
+    source: &SourceFile,
+    scope: &mut Scope,
+    element: &Element,
+    value_at: Pos,
+) -> Result<FieldKey, NoMemory> {
+    let Some(key) = &element.key else {
+        return Ok(FieldKey {
+            at: value_at,
+            name: None,
+            package: scope.package(),
+        });
+    };
+    let at = scope.pos(go_places::expr_start(key));
+    let (name, package) = match &**key {
+        Expr::Name(token) => field_name(source, scope, *token)?,
+        _ => (None, scope.package()),
+    };
+    Ok(FieldKey { at, name, package })
+}
 
-    /// The name of a key and its package; no name where it is `_`.
-    fn field_name(
-        &mut self,
-        source: &SourceFile,
-        token: Token,
-    ) -> Result<(Option<NameId>, u32), NoMemory> {
-        let (name, package) = self.named_in_package(source, token)?;
-        if name == self.blank() {
-            return Ok((None, package));
-        }
-        Ok((Some(name), package))
+/// The name of a key and its package; no name where it is `_`.
+fn field_name(
+    source: &SourceFile,
+    scope: &mut Scope,
+    token: Token,
+) -> Result<(Option<NameId>, u32), NoMemory> {
+    let (name, package) = scope.named_in_package(source, token)?;
+    if name == scope.blank() {
+        return Ok((None, package));
     }
+    Ok((Some(name), package))
 }

@@ -2,11 +2,10 @@
 
 use crate::exprs::see;
 use crate::joining::given_up;
-use crate::own::Position;
-use crate::scope::Scope;
 use crate::types::see_type;
 use go_base::{NoMemory, Pos, Rule, TypeId};
 use go_names::{Constant, Entity};
+use go_scope::{Position, Scope};
 use go_sources::SourceFile;
 use go_syntax::{Expr, ListedExpr, ListedName, ValueSpec};
 use go_tree::{ExprKind, TypedExpr};
@@ -35,13 +34,13 @@ pub(crate) fn see_specs(
         if !spec.values.is_empty() {
             given = Some(spec);
         }
-        scope.iota = Some(index as i128);
+        scope.set_iota(Some(index as i128));
         let entities = if spec.values.is_empty() {
             see_repeated(alloc, source, scope, spec, given)?
         } else {
             see_given(alloc, source, scope, spec)?
         };
-        scope.iota = None;
+        scope.set_iota(None);
         bind_all(source, scope, spec.names.as_slice(), entities.as_slice())?;
     }
     Ok(())
@@ -117,10 +116,11 @@ fn see_again(
     value: &ListedExpr,
     name: ListedName,
 ) -> Result<Valued, NoMemory> {
-    scope.repeated_at = Some(scope.pos(name.name.start));
+    let at = scope.pos(name.name.start);
+    scope.set_repeated_at(Some(at));
     let written = see_written(alloc, source, scope, given)?;
     let value = see_value(alloc, source, scope, &value.expr, written)?;
-    scope.repeated_at = None;
+    scope.set_repeated_at(None);
     Ok(value)
 }
 
@@ -162,7 +162,7 @@ fn see_value(
     written: Written,
 ) -> Result<Valued, NoMemory> {
     let seen = see(alloc, source, scope, expr)?;
-    let Some(given) = one_value(&mut scope.ground, seen) else {
+    let Some(given) = one_value(scope.ground(), seen) else {
         return Ok(Valued {
             is_one: false,
             held: None,
@@ -173,7 +173,7 @@ fn see_value(
         Written::Nothing | Written::Unsound => None,
     };
     let seen = Seen::value(given.at, Some(given.expr));
-    let value = constant_value(&mut scope.ground, seen, to)?;
+    let value = constant_value(scope.ground(), seen, to)?;
     let is_sound = !matches!(written, Written::Unsound);
     let held = match only(value, is_sound) {
         Some(expr) => Some(held_of(expr)?),
@@ -201,11 +201,10 @@ fn entity_of(
     let Some((name, held)) = name.zip(held) else {
         return Ok(Entity::Unsound);
     };
-    let number = scope.constants.len() as u64;
     let at = scope.pos(name.name.start);
     let name = scope.interned(source, name.name);
     let (name, held) = beside(name, held)?;
-    scope.constants.push(Constant {
+    let number = scope.add_constant(Constant {
         name,
         at,
         of: held.of,

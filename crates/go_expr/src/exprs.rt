@@ -2,22 +2,17 @@
 
 use crate::composites::{see_elements, see_form};
 use crate::error::lost;
-use crate::joining::kept;
 use crate::literals::literal_of_token;
-use crate::own::Position;
-use crate::scope::Scope;
+use crate::operators::{binary, unary};
+use crate::selecting::{call_of, operand_import, select};
 use crate::types::{see_signature, see_type};
-use go_ast::Token;
-use go_base::{FuncId, NameId, NoMemory, Pos, TypeId};
-use go_names::{ImportOf, Mentioned};
+use go_base::NoMemory;
+use go_scope::{Position, Scope};
 use go_sources::SourceFile;
 use go_syntax::{Expr, ListedExpr};
-use go_tree::{ExprKind, Method, TypedExpr};
-use go_type::{SelectError, SelectionKind, find_selector};
 use std::alloc::Global;
-use typed_calls::call;
 use typed_parts::{Seen, beside, parenthesized, sound};
-use typed_primaries::{index_expression, selector, slice_expression, type_assertion};
+use typed_primaries::{index_expression, slice_expression, type_assertion};
 
 /// What an expression is seen to be. Each row that is broken in it is reported. Each form with operands has a function of its
 /// own, so that a level of nesting takes little of the host's stack.
@@ -64,7 +59,7 @@ fn see_paren(
         return Err(lost());
     };
     let inside = see(alloc, source, scope, inner)?;
-    Ok(parenthesized(&scope.ground.types, scope.pos(open.start), inside))
+    Ok(parenthesized(scope.types(), scope.pos(open.start), inside))
 }
 
 /// A function literal.
@@ -122,11 +117,11 @@ fn see_selector(
     let Expr::Selector { operand, name, .. } = expr else {
         return Err(lost());
     };
-    if let Some((at, import)) = scope.operand_import(source, operand)? {
+    if let Some((at, import)) = operand_import(source, scope, operand)? {
         return scope.see_qualified(source, at, import, *name);
     }
     let x = see(alloc, source, scope, operand)?;
-    scope.select(source, x, *name)
+    select(alloc, source, scope, x, *name)
 }
 
 /// A type assertion.
@@ -145,7 +140,7 @@ fn see_assertion(
     let to = see_type(alloc, source, scope, form, Position::Apart);
     let (to, x) = beside(to, x)?;
     let (at, to_at) = (x.at, scope.type_place(form));
-    let expr = type_assertion(&mut scope.ground, x, to, to_at)?;
+    let expr = type_assertion(scope.ground(), x, to, to_at)?;
     Ok(Seen::value(at, expr))
 }
 
@@ -165,7 +160,7 @@ fn see_index(
     let index = see(alloc, source, scope, index);
     let (index, x) = beside(index, x)?;
     let at = x.at;
-    let expr = index_expression(&mut scope.ground, x, index)?;
+    let expr = index_expression(scope.ground(), x, index)?;
     Ok(Seen::value(at, expr))
 }
 
@@ -193,7 +188,7 @@ fn see_slice(
     let high = see_bound(alloc, source, scope, high);
     let (high, (low, x)) = beside(high, (low, x))?;
     let at = x.at;
-    let expr = slice_expression(&mut scope.ground, x, low, high, None)?;
+    let expr = slice_expression(scope.ground(), x, low, high, None)?;
     Ok(Seen::value(at, expr))
 }
 
@@ -224,7 +219,7 @@ fn see_full_slice(
     let max = see(alloc, source, scope, max);
     let (max, (high, (low, x))) = beside(max, (high, (low, x)))?;
     let at = x.at;
-    let expr = slice_expression(&mut scope.ground, x, low, Some(high), Some(max))?;
+    let expr = slice_expression(scope.ground(), x, low, Some(high), Some(max))?;
     Ok(Seen::value(at, expr))
 }
 
@@ -250,7 +245,7 @@ fn see_call(
     let callee = see(alloc, source, scope, callee)?;
     let arguments = see_all(alloc, source, scope, arguments.as_slice());
     let (arguments, callee) = beside(arguments, callee)?;
-    scope.call(callee, *open, arguments, *ellipsis)
+    call_of(scope, callee, *open, arguments, *ellipsis)
 }
 
 /// An operator before an operand.
@@ -266,7 +261,7 @@ fn see_unary(
         return Err(lost());
     };
     let x = see(alloc, source, scope, operand)?;
-    scope.unary(*operator, x)
+    unary(scope, *operator, x)
 }
 
 /// An operator between two operands.
@@ -289,7 +284,7 @@ fn see_binary(
     let left = see(alloc, source, scope, left)?;
     let right = see(alloc, source, scope, right);
     let (right, left) = beside(right, left)?;
-    scope.binary(*operator, left, right)
+    binary(scope, *operator, left, right)
 }
 
 /// A bound of a slice expression, where it is written.
@@ -320,99 +315,4 @@ pub(crate) fn see_all(
         all.push(seen)?;
     }
     Ok(all)
-}
-
-impl Scope {
-    /// The import that an operand names, and where it stands.
-    fn operand_import(
-        &self,
-        source: &SourceFile,
-        operand: &Expr,
-    ) -> Result<Option<(Pos, ImportOf)>, NoMemory> {
-        let Expr::Name(package) = operand else {
-            return Ok(None);
-        };
-        match self.import_named(source, *package)? {
-            Some(import) => Ok(Some((self.pos(package.start), import))),
-            None => Ok(None),
-        }
-    }
-
-    /// `x.name`, where `x` is no import.
-    fn select(&mut self, source: &SourceFile, x: Seen, token: Token) -> Result<Seen, NoMemory> {
-        let at = x.at;
-        let name_at = self.pos(token.start);
-        let named = self.named_in_package(source, token);
-        let ((name, package), x) = beside(named, x)?;
-        let expr = selector(&mut self.ground, x, name_at, name, package)?;
-        let noted = self.mention_method(name_at, &expr);
-        let expr = kept(expr, noted)?;
-        Ok(Seen::value(at, expr))
-    }
-
-    /// Notes that the concrete method is read that a selector selects.
-    fn mention_method(&mut self, at: Pos, expr: &Option<TypedExpr>) -> Result<(), NoMemory> {
-        let Some(expr) = expr else {
-            return Ok(());
-        };
-        match self.method_of(expr)? {
-            Some(function) => self.mention_of(at, Mentioned::Function(function)),
-            None => Ok(()),
-        }
-    }
-
-    fn method_of(&self, expr: &TypedExpr) -> Result<Option<FuncId>, NoMemory> {
-        match &expr.kind {
-            ExprKind::MethodValue {
-                method: Method::Concrete(function),
-                ..
-            } => Ok(Some(*function)),
-            ExprKind::MethodExpr {
-                receiver,
-                name,
-                package,
-            } => self.method_of_type(*receiver, *name, *package),
-            _ => Ok(None),
-        }
-    }
-
-    fn method_of_type(
-        &self,
-        of: TypeId,
-        name: NameId,
-        package: u32,
-    ) -> Result<Option<FuncId>, NoMemory> {
-        let found = find_selector(self.alloc, &self.ground.types, of, name, package);
-        let method = match &found {
-            Ok(selection) => Ok(selected_method(selection.kind)),
-            Err(SelectError::OutOfMemory) => Err(NoMemory),
-            Err(_) => Ok(None),
-        };
-        drop(found);
-        method
-    }
-
-    fn call(
-        &mut self,
-        callee: Seen,
-        open: Token,
-        arguments: Vec<Seen>,
-        ellipsis: Option<Token>,
-    ) -> Result<Seen, NoMemory> {
-        let at = callee.at;
-        let parenthesis = self.pos(open.start);
-        let dots = match ellipsis {
-            Some(token) => Some(self.pos(token.start)),
-            None => None,
-        };
-        let expr = call(&mut self.ground, callee, parenthesis, arguments, dots)?;
-        Ok(Seen::value(at, expr))
-    }
-}
-
-fn selected_method(kind: SelectionKind) -> Option<FuncId> {
-    match kind {
-        SelectionKind::Method(function) => Some(function),
-        _ => None,
-    }
 }

@@ -1,10 +1,10 @@
 //! Operators as they are written.
 
 use crate::joining::given_up;
-use crate::scope::Scope;
 use go_ast::{Kind, Token};
 use go_base::NoMemory;
 use go_rules::LogicOp;
+use go_scope::Scope;
 use go_type::{BinaryOp, CompareOp};
 use typed_operators::{
     SignOp, address_of, binary_expression, comparison, indirection, logical, negation, receive,
@@ -64,34 +64,37 @@ fn compare_op(kind: Kind) -> Option<CompareOp> {
     }
 }
 
-impl Scope {
-    /// An operator between two operands.
-    pub(crate) fn binary(&mut self, operator: Token, x: Seen, y: Seen) -> Result<Seen, NoMemory> {
-        let at = x.at;
-        let ground = &mut self.ground;
-        let expr = match infix_of(operator.kind) {
-            Some(Infix::Binary(op)) => binary_expression(ground, op, x, y),
-            Some(Infix::Logic(op)) => logical(ground, op, x, y),
-            Some(Infix::Compare(op)) => comparison(ground, op, x, y),
-            None => given_up((x, y)),
-        };
-        Ok(Seen::value(at, expr?))
-    }
+/// An operator between two operands.
+pub(crate) fn binary(
+    scope: &mut Scope,
+    operator: Token,
+    x: Seen,
+    y: Seen,
+) -> Result<Seen, NoMemory> {
+    let at = x.at;
+    let ground = scope.ground();
+    let expr = match infix_of(operator.kind) {
+        Some(Infix::Binary(op)) => binary_expression(ground, op, x, y),
+        Some(Infix::Logic(op)) => logical(ground, op, x, y),
+        Some(Infix::Compare(op)) => comparison(ground, op, x, y),
+        None => given_up((x, y)),
+    };
+    Ok(Seen::value(at, expr?))
+}
 
-    /// An operator before an operand.
-    pub(crate) fn unary(&mut self, operator: Token, x: Seen) -> Result<Seen, NoMemory> {
-        let at = self.pos(operator.start);
-        let ground = &mut self.ground;
-        let expr = match operator.kind {
-            Kind::Plus => sign(ground, at, SignOp::Plus, x),
-            Kind::Minus => sign(ground, at, SignOp::Minus, x),
-            Kind::Caret => sign(ground, at, SignOp::Complement, x),
-            Kind::Not => negation(ground, at, x),
-            Kind::Star => return indirection(ground, at, x),
-            Kind::Ampersand => address_of(ground, at, x),
-            Kind::Arrow => receive(ground, at, x),
-            _ => given_up(x),
-        };
-        Ok(Seen::value(at, expr?))
-    }
+/// An operator before an operand.
+pub(crate) fn unary(scope: &mut Scope, operator: Token, x: Seen) -> Result<Seen, NoMemory> {
+    let at = scope.pos(operator.start);
+    let ground = scope.ground();
+    let expr = match operator.kind {
+        Kind::Plus => sign(ground, at, SignOp::Plus, x),
+        Kind::Minus => sign(ground, at, SignOp::Minus, x),
+        Kind::Caret => sign(ground, at, SignOp::Complement, x),
+        Kind::Not => negation(ground, at, x),
+        Kind::Star => return indirection(ground, at, x),
+        Kind::Ampersand => address_of(ground, at, x),
+        Kind::Arrow => receive(ground, at, x),
+        _ => given_up(x),
+    };
+    Ok(Seen::value(at, expr?))
 }

@@ -2,15 +2,10 @@
 
 use crate::error::lost;
 use crate::exprs::see;
-use crate::interfaces::Elements;
-use crate::own::{Asking, Position};
-use crate::params::ParamTypes;
-use crate::scope::Scope;
-use crate::structs::FieldTypes;
-use go_base::{NoMemory, Pos, TypeId};
-use go_places::type_start;
+use go_base::{NoMemory, TypeId};
+use go_scope::{Asking, Elements, FieldTypes, ParamTypes, Position, Scope};
 use go_sources::SourceFile;
-use go_syntax::{ElementLine, Expr, FieldLine, NamedType, Param, ResultForm, Signature, TypeExpr};
+use go_syntax::{ElementLine, Expr, FieldLine, Param, ResultForm, Signature, TypeExpr};
 use go_type::{Dir, TypeTerm};
 use std::alloc::Global;
 use typed_operators::array_length;
@@ -93,7 +88,7 @@ fn see_length(
     let was_in_length = scope.enter_length(true);
     let seen = see(alloc, source, scope, length)?;
     let _ = scope.enter_length(was_in_length);
-    Ok(array_length(&mut scope.ground, seen))
+    Ok(array_length(scope.ground(), seen))
 }
 
 /// The key of a map: N9.
@@ -255,42 +250,4 @@ fn chan_of(dir: Dir, element: Option<TypeId>) -> Option<TypeTerm> {
         dir,
         elem: element?,
     })
-}
-
-impl Scope {
-    /// The place of a type.
-    pub(crate) fn type_place(&self, form: &TypeExpr) -> Pos {
-        self.pos(type_start(form))
-    }
-
-    /// A name of a type, of this package or of an imported one.
-    pub(crate) fn named(
-        &mut self,
-        source: &SourceFile,
-        name: NamedType,
-        position: Position,
-    ) -> Result<Option<TypeId>, NoMemory> {
-        match name {
-            NamedType::Local(token) => self.type_named(source, token, position),
-            NamedType::Imported { package, name, .. } => self.type_imported(source, package, name),
-        }
-    }
-
-    /// The id of a type, where its parts are sound.
-    pub(crate) fn held_term(&mut self, term: Option<TypeTerm>) -> Result<Option<TypeId>, NoMemory> {
-        match term {
-            Some(term) => Ok(Some(self.ground.hold(term)?)),
-            None => Ok(None),
-        }
-    }
-
-    /// A type as it is written, which began when so many names of the local type that is declared were met: N11.
-    pub(crate) fn limited(
-        &mut self,
-        at: Pos,
-        of: Option<TypeId>,
-        before: u64,
-    ) -> Result<Option<TypeId>, NoMemory> {
-        self.asked(at, of, Asking::Size, before)
-    }
 }

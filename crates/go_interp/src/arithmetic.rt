@@ -125,7 +125,7 @@ impl<'a> Machine<'a> {
 
     fn are_equal(&self, left: &Arg, right: &Arg) -> Result<bool, Met> {
         let (a, b) = (self.look(left)?, self.look(right)?);
-        Ok(go_value::equal(self.alloc, &self.code.types, a, b)?)
+        Ok(go_maps::equal(self.alloc, &self.code.types, a, b)?)
     }
 
     pub fn negate(&mut self, kind: IntKind, operand: &Arg, to: u32) -> Turn {

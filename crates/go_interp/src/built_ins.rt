@@ -4,8 +4,9 @@ use crate::error::lost;
 use crate::machine::{Machine, Met, Turn};
 use code_plan::{Arg, BuiltinForm};
 use go_base::{Bytes, NoMemory};
-use go_value::{SliceValue, Value, push_printed};
+use go_value::{SliceValue, Value};
 use std::rc::Rc;
+use value_texts::push_printed;
 
 impl<'a> Machine<'a> {
     /// A call of a built-in function in an expression or a statement.
@@ -156,7 +157,7 @@ impl<'a> Machine<'a> {
     fn elements(&self, slice: &SliceValue) -> Result<Vec<Value>, Met> {
         let mut items = Vec::new(self.alloc);
         for index in 0..slice.len {
-            let address = go_value::element(self.alloc, slice, i128::from(index))?;
+            let address = go_store::element(self.alloc, slice, i128::from(index))?;
             items.push(self.store.load_at(self.alloc, &address)?)?;
         }
         Ok(items)
@@ -189,7 +190,7 @@ impl<'a> Machine<'a> {
             if index >= count {
                 break;
             }
-            let address = go_value::element(self.alloc, &to, i128::from(index))?;
+            let address = go_store::element(self.alloc, &to, i128::from(index))?;
             self.store.put_int_at(&address, i128::from(*byte))?;
             index = index.saturating_add(1);
         }
@@ -211,7 +212,7 @@ impl<'a> Machine<'a> {
             return Err(Met::Memory);
         };
         for index in 0..slice.len {
-            let address = go_value::element(self.alloc, &slice, i128::from(index))?;
+            let address = go_store::element(self.alloc, &slice, i128::from(index))?;
             let value = zero.copy(self.alloc)?;
             self.store.put_at(&address, value)?;
         }

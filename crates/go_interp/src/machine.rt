@@ -5,8 +5,9 @@ use crate::frames::Goroutine;
 use code_plan::{Arg, MethodName, MethodOf, Plan, PlannedFunction};
 use go_base::{Ending, NoMemory, TypeId};
 use go_sched::Sched;
+use go_store::Store;
 use go_type::implements;
-use go_value::{Address, Fault, SliceValue, Store, Value, ValueError};
+use go_value::{Address, Fault, SliceValue, Value, ValueError};
 use indexmap::IndexMap;
 use ssa_ir::Code;
 use std::alloc::{AllocError, AllocFailed, Global};
@@ -104,7 +105,19 @@ impl<'a> Machine<'a> {
                 Some(value) => Ok(value),
                 None => Err(lost()),
             },
+            Arg::Cell(slot) => self.look_in_cell(*slot),
             Arg::Held(value) => Ok(value),
+        }
+    }
+
+    /// What the cell holds to which the pointer in a slot points.
+    fn look_in_cell(&self, slot: u32) -> Result<&Value, NoMemory> {
+        match self.current.stack.get(slot) {
+            Some(Value::Pointer(address)) => match self.store.value_at(address) {
+                Some(value) => Ok(value),
+                None => Err(lost()),
+            },
+            _ => Err(lost()),
         }
     }
 

@@ -4,10 +4,13 @@ use crate::frames::Bound;
 use crate::machine::{Machine, Met, Turn};
 use code_plan::{Arg, Bounds, ConvertForm, CutForm, Step};
 use go_base::{ChanId, FuncId, MapId, NoMemory, TypeId};
+use go_store::{
+    MAX_SLICE_LEAVES, array_slice, bytes_of_text, runes_of_text, slice_of, text_of_bytes,
+    text_of_runes,
+};
 use go_value::{
-    Address, BoundTarget, Fault, FuncValue, MAX_SLICE_LEAVES, Part, SliceValue, Value, array_slice,
-    assertion_fault, bytes_of_text, convert_int, runes_of_text, slice_of, text_of_bytes,
-    text_of_int, text_of_runes, text_slice, to_interface,
+    Address, BoundTarget, Fault, FuncValue, Part, SliceValue, Value, assertion_fault, convert_int,
+    text_of_int, text_slice, to_interface,
 };
 
 /// The number of a function, as a plan has it.

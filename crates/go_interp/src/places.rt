@@ -3,7 +3,8 @@
 use crate::machine::{Machine, Met, Turn};
 use code_plan::Arg;
 use go_base::NoMemory;
-use go_value::{Address, Fault, Value, check_index, element};
+use go_store::element;
+use go_value::{Address, Fault, Value, check_index};
 
 impl<'a> Machine<'a> {
     #[inline(never)]

@@ -10,7 +10,7 @@ use crate::machine::{Machine, Turn};
 use code_plan::{Plan, plan};
 use go_base::{Ending, NoMemory, Sink, SinkError};
 use go_sched::Sched;
-use go_value::Store;
+use go_store::Store;
 use indexmap::IndexMap;
 use ssa_ir::Code;
 use std::alloc::Global;

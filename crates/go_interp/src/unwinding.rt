@@ -5,8 +5,9 @@ use crate::frames::{FrameState, Thrown};
 use crate::machine::{Machine, Met, Turn};
 use code_plan::{Arg, PlannedFunction, Role};
 use go_base::{Ending, NoMemory, Text};
-use go_value::{Dynamic, Fault, Value, fault_text, panic_text};
+use go_value::{Dynamic, Fault, Value};
 use std::rc::Rc;
+use value_texts::{fault_text, panic_text};
 
 impl<'a> Machine<'a> {
     /// Meets a fault, or want of memory.

@@ -1,8 +1,8 @@
 //! The initialisers of package variables. Go specification, "Variable declarations", "Package initialization".
 
 use crate::error::lost;
-use crate::literals::{bodies_of_expr, bodies_of_list};
 use go_base::{NoMemory, Pos, Rule, TypeId, VarId};
+use go_bodies::{bodies_of_expr, bodies_of_list};
 use go_faults::Least;
 use go_graph::{Components, components_of, is_graph, on_themselves};
 use go_names::Mentioned;

@@ -1,7 +1,7 @@
 -- What interfaces hold, by the variants of values.
-use Rattle.std.proofs.Common.{◌≡◌, ap, refl, ◌∙◌, Bool, Option, Some, None, ℕ, ℤ}
+use Rattle.std.proofs.Common.{◌≡◌, ap, refl, ◌∙◌, Bool, Some, None, ℤ}
 use Rattle.go_value.specs.Interfaces.{dynamic_type}
-use Rattle.go_value.specs.Values.{Val, Typed, Field, dynamic, value_of, function_of, range_of, dynamic_of, part_of, function_layer, value_layer, dynamic_layer, part_layer}
+use Rattle.go_value.specs.Values.{Val, Typed, Field, dynamic, value_of, function_of, range_of, function_layer, value_layer, dynamic_layer, part_layer}
 use Rattle.go_value.specs.declared.values.FuncValue.{FuncValue}
 use Rattle.go_value.specs.declared.values.FuncValue.TheOpen as layers
 use Rattle.go_value.specs.declared.values.FuncValue.TheOpen.{FuncValue-F}

@@ -1,16 +1,15 @@
 -- The depth of a value, by its variant.
-use Rattle.std.proofs.Common.{◌≡◌, ◌<◌, ◌+◌, ap, sym, subst, length, get_or, drop, ◌∙◌, map, List, [], ◌∷◌, max, Bool, Option, ℕ, ℤ}
+use Rattle.std.proofs.Common.{◌≡◌, ◌<◌, ◌+◌, ap, sym, length, get_or, drop, ◌∙◌, map, List, ◌∷◌, max, Bool, ℕ, ℤ}
 use Rattle.std.specs.Global.{Box}
 use Rattle.std.proofs.lemmas.List.{at_drop_more}
 use Rattle.go_value.specs.Depths.{depth, deepest}
 use Rattle.go_value.specs.Values.{value_of, function_of, part_of, parts_of}
-use Rattle.go_value.specs.declared.values.Dynamic.{Dynamic}
 use Rattle.go_value.specs.declared.values.Part.{Part}
 use Rattle.go_value.specs.declared.values.Value.{Value}
 use Rattle.go_value.specs.declared.values.Value.TheVariants as values
 use Rattle.go_value.specs.declared.values.FuncValue.TheVariants as functions
 use Rattle.go_value.specs.declared.values.BoundTarget.{BoundTarget}
-use Rattle.go_value.proofs.Variants.{parts_is, interface_is, func_is, dynamic_is, part_is, bound_is, nil_function_is, closure_is, expression_is, truth_is, int_is, text_is, pointer_is, slice_is, map_is, chan_is, nil_interface_is, iter_is}
+use Rattle.go_value.proofs.Variants.{parts_is, interface_is, func_is, dynamic_is, part_is, bound_is, nil_function_is, closure_is, expression_is, truth_is, int_is, text_is, pointer_is, slice_is, map_is, chan_is, nil_interface_is}
 
 pub parts_depth : (it : _) → depth (value_of (values.Parts it)) ≡ deepest (parts_of (map part_of it.value.items)) + 1
 parts_depth it = ap depth (parts_is it)

@@ -2,7 +2,8 @@ pub mod Wraps
 pub mod Shifts
 pub mod Variants
 pub mod DepthOf
-pub mod Held
-pub mod Integers
 pub mod Boxed
+pub mod KindOf
+pub mod Written
+pub mod ZeroOf
 pub mod Mapped

@@ -1,10 +1,9 @@
 -- What a value is, by its variant.
-use Rattle.std.proofs.Common.{◌≡◌, sym, ap, ◌∙◌, Bool, Option, ℕ, ℤ, List, map}
+use Rattle.std.proofs.Common.{◌≡◌, sym, ap, ◌∙◌, Bool, Option, ℕ, ℤ, map}
 use Rattle.std.specs.Global.{Box}
 use Rattle.go_base.specs.declared.ids.ChanId.{ChanId}
 use Rattle.go_base.specs.declared.ids.MapId.{MapId}
 use Rattle.go_value.specs.declared.address.Pointer.{Pointer}
-use Rattle.go_value.specs.declared.address.SliceValue.{SliceValue}
 use Rattle.go_value.specs.declared.values.Dynamic.{Dynamic}
 use Rattle.go_value.specs.declared.values.FuncValue.{FuncValue}
 use Rattle.go_value.specs.declared.values.Part.{Part}
@@ -14,21 +13,24 @@ use Rattle.go_value.specs.declared.values.Value.TheVariants as values
 use Rattle.go_value.specs.declared.values.FuncValue.TheOpen as layers
 use Rattle.go_value.specs.declared.values.FuncValue.TheVariants as functions
 use Rattle.go_value.specs.declared.values.FuncValue.TheOpen.{Value-F, FuncValue-F}
-use Rattle.go_value.specs.declared.values.FuncValue.TheViews.{roll-Value, roll-FuncValue}
+use Rattle.go_value.specs.declared.values.FuncValue.TheViews.{roll-Value, out-Value, roll-out-Value, roll-FuncValue}
 use Rattle.go_value.specs.declared.values.FuncValue.TheFolds.{fold-roll-Value, fold-roll-FuncValue, fold-roll-Dynamic, fold-roll-Part, map-Value, map-FuncValue}
 use Rattle.go_value.specs.declared.values.BoundTarget.{BoundTarget}
 use Rattle.go_value.specs.Values as vals
 use Rattle.go_value.specs.Values.{Val, Typed, Field, function_layer, value_layer, dynamic_layer, part_layer, function_of, value_of, dynamic_of, part_of, parts_of, range_of}
 
-abbrev Layer : Type 0
+abbrev pub Layer : Type 0
 Layer = Value-F FuncValue Value Dynamic Part
 
-abbrev seen : Layer → Val
+abbrev pub seen : Layer → Val
 seen x = value_layer (map-Value FuncValue Value Dynamic Part Val Val Typed Field function_of value_of dynamic_of part_of x)
 
 rolled : (x : Layer) → value_of (roll-Value x) ≡ seen x
 unfolding function_of value_of dynamic_of part_of
 rolled x = fold-roll-Value Val Val Typed Field function_layer value_layer dynamic_layer part_layer x
+
+pub seen_out : (it : Value) → value_of it ≡ seen (out-Value it)
+seen_out it = ap value_of (sym (roll-out-Value it)) ∙ rolled (out-Value it)
 
 pub truth_is : (it : Bool) → value_of (values.Truth it) ≡ vals.truth it
 truth_is it = ap value_of (sym (values.rolls-Truth it)) ∙ rolled (layers.Value-F.Truth it)

@@ -2,8 +2,8 @@ pub mod Address
 pub mod Ints
 pub mod Values
 pub mod Depths
-pub mod Cells
 pub mod Gives
 pub mod Interfaces
-pub mod Slices
-pub mod Stores
+pub mod Texts
+pub mod Kinds
+pub mod Zeros

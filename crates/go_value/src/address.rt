@@ -33,8 +33,9 @@ pub struct Address {
     form: Form,
 }
 
+/// How an address stands for a pointer.
 #[derive(Drop)]
-pub(crate) enum Form {
+pub enum Form {
     Nil,
     Whole(CellId),
     Near { cell: u32, part: u32 },
@@ -154,7 +155,8 @@ impl Address {
         }
     }
 
-    pub(crate) fn near(alloc: Global, cell: CellId, part: u32) -> Result<Address, NoMemory>
+    /// The address of a part of a cell.
+    pub fn near(alloc: Global, cell: CellId, part: u32) -> Result<Address, NoMemory>
         ensures { IfOk result (λ address. address ≡ record { cell = Some cell; path = part ∷ [] }) }
     {
         if let Ok(cell) = u32::try_from(cell.number) {
@@ -181,7 +183,8 @@ impl Address {
         })
     }
 
-    pub(crate) fn form(&self) -> &Form
+    /// How it stands for its pointer.
+    pub fn form(&self) -> &Form
         ensures { pointer_of result.now ≡ self.now }
     {
         &self.form
@@ -303,7 +306,7 @@ impl Address {
 }
 
 /// The pointer to a part of a cell.
-pub(crate) fn pointer_to(alloc: Global, cell: CellId, part: u32) -> Result<Pointer, NoMemory>
+pub fn pointer_to(alloc: Global, cell: CellId, part: u32) -> Result<Pointer, NoMemory>
     ensures { IfOk result (λ pointer. pointer ≡ record { cell = Some cell; path = part ∷ [] }) }
 {
     let mut path = Path::new(alloc);

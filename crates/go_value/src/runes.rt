@@ -22,7 +22,7 @@ pub fn decode_rune(bytes: &[u8], at: usize) -> (u32, u8)
 }
 
 /// Adds the bytes of a code point. An integer that is none counts as U+FFFD.
-pub(crate) fn push_rune(bytes: &mut Vec<u8>, value: i128) -> Result<(), NoMemory> {
+pub fn push_rune(bytes: &mut Vec<u8>, value: i128) -> Result<(), NoMemory> {
     let mut buffer = [0u8; 4];
     let text = rune_of(value).encode_utf8(&mut buffer);
     bytes.extend_from_slice(text.as_bytes())?;

@@ -1,6 +1,8 @@
-//! Texts. Go specification, "String concatenation" and "Slice expressions".
+//! Texts, and places in them. Go specification, "String concatenation", "Index expressions" and "Slice expressions".
 
 ghost use Rattle.std.specs.Prelude.{◌≡◌, ◌++◌, ◌<◌, ◌↔◌, length, IfOk, IsErrOf};
+ghost use Rattle.go_value.specs.Gives.{Gives};
+ghost use Rattle.go_value.specs.Texts.{place_at, text_between};
 
 use crate::faults::{Fault, ValueError};
 use go_base::{Bytes, NoMemory};
@@ -30,9 +32,21 @@ fn joined(alloc: Global, front: &[u8], back: &[u8]) -> Result<Bytes, NoMemory>
     Ok(Bytes::new(bytes))
 }
 
+/// The place of an element of an array or a slice of a length. `Index` exactly where there is none.
+pub fn check_index(index: i128, len: u64) -> Result<u64, Fault>
+    ensures { result ≡ place_at index len }
+{
+    match u64::try_from(index) {
+        Ok(place) if place < len => Ok(place),
+        _ => Err(Fault::Index { index, len }),
+    }
+}
+
 /// The part of a text from a place on and before another. `SliceBounds` exactly where the places are not in order, or
 /// one is not in the text.
-pub fn text_slice(alloc: Global, text: &Bytes, low: i128, high: i128) -> Result<Bytes, ValueError> {
+pub fn text_slice(alloc: Global, text: &Bytes, low: i128, high: i128) -> Result<Bytes, ValueError>
+    ensures { Gives (λ part. part) result (text_between text.now low high) }
+{
     let bytes = text.as_slice();
     if low < 0 || high < low || high > bytes.len() as i128 {
         return Err(ValueError::Fault(Fault::SliceBounds));

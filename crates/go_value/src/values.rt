@@ -2,6 +2,7 @@
 
 ghost use Rattle.std.specs.Prelude.{◌≡◌, IfOk, false, map};
 ghost use Rattle.go_value.specs.Values.{value_of, range_of, function_of, part_of, parts_of};
+ghost use Rattle.go_value.specs.Kinds.{renumbered};
 ghost use Rattle.go_value.specs.Values as vals;
 
 use crate::address::{Address, SliceValue};
@@ -152,6 +153,18 @@ impl Value {
         ensures { IfOk result (λ value. value_of value ≡ vals.parts (parts_of (map part_of parts.items))) }
     {
         Ok(Value::Parts(shared(alloc, parts)?))
+    }
+}
+
+impl Value {
+    /// Puts an integer in the place of one. Any other value stays as it is.
+    pub fn put_int(&mut self, number: i128)
+        ensures { value_of self.new ≡ renumbered number (value_of self.old) }
+    {
+        match self {
+            Value::Int(place) => *place = number,
+            _ => {}
+        }
     }
 }
 

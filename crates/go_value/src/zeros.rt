@@ -1,5 +1,10 @@
 //! Zero values. Go specification, "The zero value".
 
+ghost use Rattle.std.specs.Prelude.{◌≡◌, IfOk, map};
+ghost use Rattle.go_value.specs.Values.{value_of, part_of, parts_of};
+ghost use Rattle.go_value.specs.Values as vals;
+ghost use Rattle.go_value.specs.Zeros.{zeroed, zeroed_parts};
+
 use crate::address::{Address, SliceValue};
 use crate::memory::lost;
 use crate::values::{FuncValue, Part, Value};
@@ -29,6 +34,7 @@ fn zero_within(
         return Err(lost());
     }
     match types.underlying_term(of) {
+        Some(TypeTerm::Array { len: 0, .. }) => Value::parts(alloc, Vec::new(alloc)),
         Some(TypeTerm::Array { len, elem }) => {
             let zero = zero_within(alloc, types, blank, *elem, depth - 1)?;
             repeated(alloc, &zero, *len)
@@ -116,12 +122,17 @@ fn zero_basic(alloc: Global, basic: Basic) -> Result<Value, NoMemory> {
 }
 
 /// The zero value of the type of a value.
-pub(crate) fn zero_like(alloc: Global, value: &Value) -> Result<Value, NoMemory> {
+pub fn zero_like(alloc: Global, value: &Value) -> Result<Value, NoMemory>
+    ensures { IfOk result (λ zero_value. value_of zero_value ≡ zeroed (value_of value.now)) }
+{
     zero_of(alloc, value)
 }
 
 #[cycle(zero_like)]
-fn zero_of(alloc: Global, value: &Value) -> Result<Value, NoMemory> {
+#[tactic(auto, using(crate::proofs::ZeroOf::zero_parts))]
+fn zero_of(alloc: Global, value: &Value) -> Result<Value, NoMemory>
+    ensures { IfOk result (λ zero_value. value_of zero_value ≡ zeroed (value_of value.now)) }
+{
     match value {
         Value::Parts(parts) => zeros_of(alloc, parts.as_slice()),
         _ => zero_of_leaf(alloc, value),
@@ -129,7 +140,9 @@ fn zero_of(alloc: Global, value: &Value) -> Result<Value, NoMemory> {
 }
 
 #[cycle(zero_like)]
-fn zeros_of(alloc: Global, parts: &[Part]) -> Result<Value, NoMemory> {
+fn zeros_of(alloc: Global, parts: &[Part]) -> Result<Value, NoMemory>
+    ensures { IfOk result (λ zero_value. value_of zero_value ≡ vals.parts (zeroed_parts (parts_of (map part_of parts.now)))) }
+{
     let mut zeros = Vec::new(alloc);
     for part in parts {
         let value = zero_of(alloc, &part.value)?;
@@ -141,7 +154,10 @@ fn zeros_of(alloc: Global, parts: &[Part]) -> Result<Value, NoMemory> {
     Value::parts(alloc, zeros)
 }
 
-fn zero_of_leaf(alloc: Global, value: &Value) -> Result<Value, NoMemory> {
+#[tactic(auto, using(crate::proofs::ZeroOf::zero_leaves))]
+fn zero_of_leaf(alloc: Global, value: &Value) -> Result<Value, NoMemory>
+    ensures { IfOk result (λ zero_value. value_of zero_value ≡ zeroed (value_of value.now)) }
+{
     match value {
         Value::Truth(_) => Ok(Value::Truth(false)),
         Value::Int(_) => Ok(Value::Int(0)),

@@ -2,3 +2,4 @@ mod Programs
 pub mod Written
 mod Sinks
 mod Working
+pub mod Judged

@@ -1,5 +1,5 @@
 -- From what the parts of the work do to what the work comes to.
-use Rattle.std.proofs.Common.{◌≡◌, ℕ, zero, suc, ◌<◌, Bool, true, false, List, [], ◌++◌, Option, Some, None, is_some, Ok, Err, Result, IfOk, Vec, refl, sym, ap, subst, inl, inr, arith}
+use Rattle.std.proofs.Common.{◌≡◌, ◌⊎◌, ℕ, zero, suc, ◌<◌, Bool, true, false, List, [], ◌++◌, Option, Some, None, is_some, Ok, Err, Result, IfOk, Vec, refl, sym, ap, subst, inl, inr, arith}
 use Rattle.std.proofs.lemmas.List.{append-nil}
 use Rattle.std.proofs.KnownBytes.{Appends-nil, Appends-trans}
 use Rattle.std.specs.Io.KnownBytes.{Appends}
@@ -12,6 +12,9 @@ use Rattle.go_base.specs.declared.ending.Ending.{Ending}
 use Rattle.go_base.specs.declared.ending.Ending.TheVariants.{Exited, Bound}
 use Rattle.go_base.specs.declared.rule.Rule.TheVariants as rules
 use Rattle.go_sources.specs.declared.sources.SourceFile.{SourceFile}
+use Rattle.ssa_ir.specs.declared.code.Code.{Code}
+use Rattle.ssa_print.specs.Codes as shown
+use Rattle.ssa_print.specs.Operands.{setting_of}
 use Rattle.program_work.specs.declared.outcome.Outcome.{Outcome}
 use Rattle.program_work.specs.declared.outcome.Outcome.TheVariants as outcomes
 use Rattle.program_work.specs.declared.stop.Stop.{Stop}
@@ -21,7 +24,7 @@ use Rattle.program_work.specs.FirstForm.{HasNoForm}
 use Rattle.program_work.specs.Outputs.{Comes, Finishes, IsUnfinished}
 use Rattle.program_work.specs.Running.{EndsWith, IsKnown, IsOther, Knows, Printing, PrintsOf, known, printed, only_file, other, other_form}
 use Rattle.program_work.specs.Stopping.{outcome_at}
-use Rattle.program_work.specs.Working.{EndsIn, IsCodeText, IsListing, IsNotBuilt, IsResult, IsWork, Lists, done, ran, outside, worked, first_path, start_of}
+use Rattle.program_work.specs.Working.{EndsIn, IsCodeText, IsListing, IsNotBuilt, IsResult, IsSound, IsSoundText, IsWork, Lists, done, ran, outside, worked, first_path, start_of}
 use Rattle.program_work.proofs.Written.{whole_front, front_before, front_behind, finished, stopped, finishes_as, unfinished_as}
 
 -- ---- parts that were not asked
@@ -30,8 +33,8 @@ nothing_listed : (graph : Option Graph) → IsListing graph []
 nothing_listed None = refl
 nothing_listed (Some graph) = tt
 
-any_code : (build : Option Letters) (letters : Letters) (text : List ℕ) → build ≡ Some letters → IsCodeText build text
-any_code build letters text e = subst (λ (b : Option Letters). IsCodeText b text) (sym e) tt
+asked_code : (build : Option Letters) (letters : Letters) (text : List ℕ) → build ≡ Some letters → IsSoundText letters text → IsCodeText build text
+asked_code build letters text e is = subst (λ (b : Option Letters). IsCodeText b text) (sym e) is
 
 no_code : (build : Option Letters) → build ≡ None → IsCodeText build []
 no_code build e = subst (λ (b : Option Letters). IsCodeText b []) (sym e) refl
@@ -124,13 +127,13 @@ other_finishes command files ending output old mid new e runs is l appends =
 
 -- ---- the work with a code that is printed
 
-printed_work : (command : LoadCommand) (files : List SourceFile) (letters : Letters) (code listing : List ℕ) (outcome : Outcome) (run : List ℕ) → wants_registers command ≡ false → command.build ≡ Some letters → IsListing command.callgraph listing → EndsIn command files outcome run → IsWork command files outcome (code ++ (listing ++ run))
-printed_work command files letters code listing outcome run built e listed ends = record {
+printed_work : (command : LoadCommand) (files : List SourceFile) (letters : Letters) (code listing : List ℕ) (outcome : Outcome) (run : List ℕ) → wants_registers command ≡ false → command.build ≡ Some letters → IsSoundText letters code → IsListing command.callgraph listing → EndsIn command files outcome run → IsWork command files outcome (code ++ (listing ++ run))
+printed_work command files letters code listing outcome run built e is listed ends = record {
   built = built;
   code = code;
   listing = listing;
   run = run;
-  is_code = any_code command.build letters code e;
+  is_code = asked_code command.build letters code e is;
   is_listing = listed;
   ends = ends;
   parts = refl;
@@ -152,32 +155,41 @@ some_end command files letters e = go command.run refl
     go true h = record { outcome = outcomes.Ended Bound; ends = printed_run command files letters Bound [] e h }
     go false h = record { outcome = outcomes.Done; ends = done h refl refl }
 
-pub printing_stops : (command : LoadCommand) (files : List SourceFile) (letters : Letters) (code : List ℕ) (old new : Option (List ℕ)) → wants_registers command ≡ false → command.build ≡ Some letters → Appends old new code → IsUnfinished (IsWork command files) old new
-printing_stops command files letters code old new built e appends =
-    let end = some_end command files letters e in
-    stopped (IsWork command files) end.outcome (code ++ ([] ++ [])) old new (printed_work command files letters code [] end.outcome [] built e (nothing_listed command.callgraph) end.ends) (front_before old new code ([] ++ []) appends)
+-- what a sound code is written as
+abbrev Printed : Code → Letters → Option (List ℕ) → Option (List ℕ) → Type 0
+Printed code letters old new = shown.Writes code letters.functions letters.counts old new
 
-pub printed_listing_stops : (command : LoadCommand) (files : List SourceFile) (letters : Letters) (code : List ℕ) (old mid new : Option (List ℕ)) → wants_registers command ≡ false → command.build ≡ Some letters → Appends old mid code → Lists command.callgraph mid new → IsUnfinished (IsWork command files) old new
-printed_listing_stops command files letters code old mid new built e appends l =
-    let end = some_end command files letters e in
-    stopped (IsWork command files) end.outcome (code ++ (l.text ++ [])) old new (printed_work command files letters code l.text end.outcome [] built e l.is_listing end.ends) (front_behind old mid new code (l.text ++ []) appends (front_before mid new l.text [] l.appends))
+sound_text : (code : Code) (letters : Letters) (text : List ℕ) → IsSound code → shown.IsCodeText (setting_of code) letters.functions letters.counts text → IsSoundText letters text
+sound_text code letters text sound is = record { code = code; sound = sound; is = is }
 
-pub printed_finishes : (command : LoadCommand) (files : List SourceFile) (letters : Letters) (code : List ℕ) (old mid new : Option (List ℕ)) → wants_registers command ≡ false → command.build ≡ Some letters → command.run ≡ false → Appends old mid code → Lists command.callgraph mid new → Finishes (IsWork command files) outcomes.Done old new
-printed_finishes command files letters code old mid new built e idle appends l =
+pub printing_stops : {S : Type 0} (command : LoadCommand) (files : List SourceFile) (letters : Letters) (code : Code) (before after : S) (written : S → Option (List ℕ)) → wants_registers command ≡ false → command.build ≡ Some letters → IsSound code → (after ≡ before) ⊎ shown.WritesFront code letters.functions letters.counts (written before) (written after) → IsUnfinished (IsWork command files) (written before) (written after)
+printing_stops command files letters code before after written built e sound (inl same) = inl (subst (λ s. Appends (written before) (written s) []) (sym same) (Appends-nil (written before)))
+printing_stops command files letters code before after written built e sound (inr w) =
+    let end = some_end command files letters e in
+    let front : AppendsFront (written before) (written after) (w.text ++ ([] ++ [])) = subst (λ (t : List ℕ). AppendsFront (written before) (written after) t) (sym (append-nil w.text)) w.appends in
+    stopped (IsWork command files) end.outcome (w.text ++ ([] ++ [])) (written before) (written after) (printed_work command files letters w.text [] end.outcome [] built e (sound_text code letters w.text sound w.is) (nothing_listed command.callgraph) end.ends) front
+
+pub printed_listing_stops : (command : LoadCommand) (files : List SourceFile) (letters : Letters) (code : Code) (old mid new : Option (List ℕ)) → wants_registers command ≡ false → command.build ≡ Some letters → IsSound code → Printed code letters old mid → Lists command.callgraph mid new → IsUnfinished (IsWork command files) old new
+printed_listing_stops command files letters code old mid new built e sound w l =
+    let end = some_end command files letters e in
+    stopped (IsWork command files) end.outcome (w.text ++ (l.text ++ [])) old new (printed_work command files letters w.text l.text end.outcome [] built e (sound_text code letters w.text sound w.is) l.is_listing end.ends) (front_behind old mid new w.text (l.text ++ []) w.appends (front_before mid new l.text [] l.appends))
+
+pub printed_finishes : (command : LoadCommand) (files : List SourceFile) (letters : Letters) (code : Code) (old mid new : Option (List ℕ)) → wants_registers command ≡ false → command.build ≡ Some letters → IsSound code → command.run ≡ false → Printed code letters old mid → Lists command.callgraph mid new → Finishes (IsWork command files) outcomes.Done old new
+printed_finishes command files letters code old mid new built e sound idle w l =
     let listing : Appends mid new (l.text ++ []) = subst (λ (t : List ℕ). Appends mid new t) (sym (append-nil l.text)) l.appends in
-    finished (IsWork command files) outcomes.Done (code ++ (l.text ++ [])) old new (printed_work command files letters code l.text outcomes.Done [] built e l.is_listing (done idle refl refl)) (Appends-trans old mid new code (l.text ++ []) appends listing)
+    finished (IsWork command files) outcomes.Done (w.text ++ (l.text ++ [])) old new (printed_work command files letters w.text l.text outcomes.Done [] built e (sound_text code letters w.text sound w.is) l.is_listing (done idle refl refl)) (Appends-trans old mid new w.text (l.text ++ []) w.appends listing)
 
 -- the three parts behind one another
 three : (old mid late new : Option (List ℕ)) (code listing output : List ℕ) → Appends old mid code → Appends mid late listing → Appends late new output → Appends old new (code ++ (listing ++ output))
 three old mid late new code listing output a b c = Appends-trans old mid new code (listing ++ output) a (Appends-trans mid late new listing output b c)
 
-pub printed_run_stops : (command : LoadCommand) (files : List SourceFile) (letters : Letters) (code output : List ℕ) (old mid late new : Option (List ℕ)) → wants_registers command ≡ false → command.build ≡ Some letters → command.run ≡ true → Appends old mid code → Lists command.callgraph mid late → Appends late new output → IsUnfinished (IsWork command files) old new
-printed_run_stops command files letters code output old mid late new built e runs a l c =
-    stopped (IsWork command files) (outcomes.Ended Bound) (code ++ (l.text ++ output)) old new (printed_work command files letters code l.text (outcomes.Ended Bound) output built e l.is_listing (printed_run command files letters Bound output e runs)) (whole_front old new (code ++ (l.text ++ output)) (three old mid late new code l.text output a l.appends c))
+pub printed_run_stops : (command : LoadCommand) (files : List SourceFile) (letters : Letters) (code : Code) (output : List ℕ) (old mid late new : Option (List ℕ)) → wants_registers command ≡ false → command.build ≡ Some letters → IsSound code → command.run ≡ true → Printed code letters old mid → Lists command.callgraph mid late → Appends late new output → IsUnfinished (IsWork command files) old new
+printed_run_stops command files letters code output old mid late new built e sound runs w l c =
+    stopped (IsWork command files) (outcomes.Ended Bound) (w.text ++ (l.text ++ output)) old new (printed_work command files letters w.text l.text (outcomes.Ended Bound) output built e (sound_text code letters w.text sound w.is) l.is_listing (printed_run command files letters Bound output e runs)) (whole_front old new (w.text ++ (l.text ++ output)) (three old mid late new w.text l.text output w.appends l.appends c))
 
-pub printed_run_finishes : (command : LoadCommand) (files : List SourceFile) (letters : Letters) (code : List ℕ) (ending : Ending) (output : List ℕ) (old mid late new : Option (List ℕ)) → wants_registers command ≡ false → command.build ≡ Some letters → command.run ≡ true → Appends old mid code → Lists command.callgraph mid late → Appends late new output → Finishes (IsWork command files) (outcomes.Ended ending) old new
-printed_run_finishes command files letters code ending output old mid late new built e runs a l c =
-    finished (IsWork command files) (outcomes.Ended ending) (code ++ (l.text ++ output)) old new (printed_work command files letters code l.text (outcomes.Ended ending) output built e l.is_listing (printed_run command files letters ending output e runs)) (three old mid late new code l.text output a l.appends c)
+pub printed_run_finishes : (command : LoadCommand) (files : List SourceFile) (letters : Letters) (code : Code) (ending : Ending) (output : List ℕ) (old mid late new : Option (List ℕ)) → wants_registers command ≡ false → command.build ≡ Some letters → IsSound code → command.run ≡ true → Printed code letters old mid → Lists command.callgraph mid late → Appends late new output → Finishes (IsWork command files) (outcomes.Ended ending) old new
+printed_run_finishes command files letters code ending output old mid late new built e sound runs w l c =
+    finished (IsWork command files) (outcomes.Ended ending) (w.text ++ (l.text ++ output)) old new (printed_work command files letters w.text l.text (outcomes.Ended ending) output built e (sound_text code letters w.text sound w.is) l.is_listing (printed_run command files letters ending output e runs)) (three old mid late new w.text l.text output w.appends l.appends c)
 
 -- ---- what calls come to
 

@@ -4,8 +4,8 @@ use Rattle.go_base.specs.declared.devices.SinkError.{SinkError}
 use Rattle.go_base.specs.declared.devices.SinkError.TheVariants as sink
 use Rattle.go_interp.specs.declared.error.RunError.{RunError}
 use Rattle.go_interp.specs.declared.error.RunError.TheVariants as run
-use Rattle.ssa_ir.specs.declared.checking.SanityError.{SanityError}
-use Rattle.ssa_ir.specs.declared.checking.SanityError.TheVariants as sanity
+use Rattle.ssa_sane.specs.declared.checking.SanityError.{SanityError}
+use Rattle.ssa_sane.specs.declared.checking.SanityError.TheVariants as sanity
 use Rattle.ssa_typed.specs.declared.checking.TypedError.{TypedError}
 use Rattle.ssa_typed.specs.declared.checking.TypedError.TheVariants as typed
 use Rattle.program_work.specs.declared.outcome.Outcome.{Outcome}

@@ -1,6 +1,6 @@
 -- The work on a program that was loaded: its code is printed, a call graph listed, and it is run, each where that is
 -- asked.
-use Rattle.std.specs.Prelude.{◌≡◌, ℕ, List, [], ◌∷◌, ◌++◌, ◌⊎◌, Option, Some, None, true, false}
+use Rattle.std.specs.Prelude.{◌≡◌, ℕ, List, [], ◌∷◌, ◌++◌, ◌⊎◌, Option, Some, None, true, false, All}
 use Rattle.std.specs.Io.KnownBytes.{Appends}
 use Rattle.command_line.specs.declared.command.Graph.{Graph}
 use Rattle.command_line.specs.declared.command.Letters.{Letters}
@@ -9,6 +9,12 @@ use Rattle.go_base.specs.declared.ending.Ending.{Ending}
 use Rattle.go_base.specs.declared.place.Place.{Place}
 use Rattle.go_base.specs.declared.rule.Rule.TheVariants as rules
 use Rattle.go_sources.specs.declared.sources.SourceFile.{SourceFile}
+use Rattle.ssa_ir.specs.declared.code.Code.{Code}
+use Rattle.ssa_ir.specs.declared.code.Function.{Function}
+use Rattle.ssa_print.specs.Codes as shown
+use Rattle.ssa_print.specs.Operands.{setting_of}
+use Rattle.ssa_sane.specs.Sane.{IsSane}
+use Rattle.ssa_typed.specs.Typed.{IsTyped}
 use Rattle.program_work.specs.declared.outcome.Outcome.{Outcome}
 use Rattle.program_work.specs.declared.outcome.Outcome.TheVariants as outcomes
 use Rattle.program_work.specs.Asked.{wants_registers}
@@ -24,10 +30,24 @@ first_path (file ∷ files) = file.path
 abbrev pub start_of : List ℕ → Place
 start_of path = record { path = path; offset = 0; line = 1; column = 1 }
 
--- the text of a code, where that is asked; of the text nothing is said yet
+unfoldable pub AreSane : List Function → Type 0
+AreSane functions = All IsSane functions
+
+-- a code that is typed, of functions that are sane
+pub record IsSound (code : Code) : Type 0 where
+  pub sane : AreSane code.functions
+  pub typed : IsTyped code
+
+-- the text of a sound code, with what letters show of it
+pub record IsSoundText (letters : Letters) (text : List ℕ) : Type 0 where
+  pub code : Code
+  pub sound : IsSound code
+  pub is : shown.IsCodeText (setting_of code) letters.functions letters.counts text
+
+-- the text of a code, where that is asked; that the code is the program's is not said yet
 abbrev pub IsCodeText : Option Letters → List ℕ → Type 0
 IsCodeText None text = text ≡ []
-IsCodeText (Some letters) text = Unit {0}
+IsCodeText (Some letters) text = IsSoundText letters text
 
 -- the listing of a graph, where one is asked; of the listing nothing is said yet
 abbrev pub IsListing : Option Graph → List ℕ → Type 0

@@ -1,18 +1,21 @@
 //! The code of a program.
 
-ghost use Rattle.std.specs.Prelude.{IsErrOf};
+ghost use Rattle.std.specs.Prelude.{IfOk, OnOk, IsErrOf};
+ghost use Rattle.program_work.specs.Working.{AreSane, IsSound};
 ghost use Rattle.program_work.specs.declared.stop.Stop.TheVariants.{WriteFault};
 
 use crate::stop::Stop;
 use go_tree::Program;
 use ssa_flow::build;
-use ssa_ir::{Code, Form, Function, sanity};
+use ssa_ir::{Code, Form, Function};
+use ssa_sane::sanity;
 use ssa_typed::type_code;
 use std::alloc::Global;
 
 /// The code of a program. It is judged before it is printed or run: each function is sane, and the code is typed.
 pub fn sound_code(alloc: Global, program: &Program) -> Result<Code, Stop>
-    ensures { IsErrOf result WriteFault → ⊥ }
+    ensures sound { IfOk result IsSound }
+    ensures fault { IsErrOf result WriteFault → ⊥ }
 {
     let code = build(alloc, program, Form::Naive)?;
     judge(alloc, code.functions.as_slice())?;
@@ -21,8 +24,10 @@ pub fn sound_code(alloc: Global, program: &Program) -> Result<Code, Stop>
 }
 
 // Stops at the first function that is not sane.
+#[tactic(auto, using(crate::proofs::Judged::none_sane))]
 fn judge(alloc: Global, functions: &[Function]) -> Result<(), Stop>
-    ensures { IsErrOf result WriteFault → ⊥ }
+    ensures sane { OnOk result (AreSane functions.now) }
+    ensures fault { IsErrOf result WriteFault → ⊥ }
 {
     for function in functions {
         sanity(alloc, function)?;

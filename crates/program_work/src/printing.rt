@@ -1,8 +1,8 @@
 //! The text of a code.
 
-ghost use Rattle.std.specs.Prelude.{◌≤◌, IsErrOf};
+ghost use Rattle.std.specs.Prelude.{◌≡◌, ◌≤◌, ◌⊎◌, IsErrOf, OnErr, OnOk};
 ghost use Rattle.go_base.specs.Devices.{HasFaulted};
-ghost use Rattle.go_interp.specs.Output.{HasWritten};
+ghost use Rattle.ssa_print.specs.Codes.{Writes, WritesFront};
 ghost use Rattle.program_work.specs.declared.stop.Stop.TheVariants.{WriteFault};
 
 use crate::stop::Stop;
@@ -19,7 +19,8 @@ pub fn print_code<O: Sink>(
     letters: Letters,
     out: &mut O,
 ) -> Result<(), Stop>
-    ensures written { HasWritten (O.written out.old) (O.written out.new) }
+    ensures written { OnOk result (Writes code.now letters.functions letters.counts (O.written out.old) (O.written out.new)) }
+    ensures front { OnErr result ((out.new ≡ out.old) ⊎ WritesFront code.now letters.functions letters.counts (O.written out.old) (O.written out.new)) }
     ensures fault { IsErrOf result WriteFault → HasFaulted (O.faults out.old) (O.faults out.new) }
     ensures later { O.faults out.old ≤ O.faults out.new }
 {
@@ -31,7 +32,9 @@ pub fn print_code<O: Sink>(
 }
 
 // What letters show.
-fn shown(letters: Letters) -> Show {
+fn shown(letters: Letters) -> Show
+    ensures { result ≡ record { functions = letters.functions; available = letters.counts } }
+{
     Show {
         functions: letters.functions,
         available: letters.counts,

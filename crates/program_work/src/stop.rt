@@ -7,7 +7,7 @@ ghost use Rattle.program_work.specs.Stopping.{outcome_at, stop_of_run, stop_of_s
 use crate::outcome::Outcome;
 use go_base::{NoMemory, SinkError};
 use go_interp::RunError;
-use ssa_ir::SanityError;
+use ssa_sane::SanityError;
 use ssa_typed::TypedError;
 use std::alloc::AllocError;
 

@@ -7,7 +7,7 @@ ghost use Rattle.go_sources.specs.Sources.{files_of};
 ghost use Rattle.program_work.specs.Asked.{wants_registers};
 ghost use Rattle.program_work.specs.Outputs.{Comes, Does};
 ghost use Rattle.program_work.specs.Running.{IsKnown, IsOther};
-ghost use Rattle.program_work.specs.Working.{first_path, IsNotBuilt, IsResult, IsWork};
+ghost use Rattle.program_work.specs.Working.{first_path, IsNotBuilt, IsResult, IsSound, IsWork};
 ghost use Rattle.program_work.specs.declared.stop.Stop.TheVariants.{WriteFault};
 
 use crate::coding::sound_code;
@@ -139,6 +139,7 @@ fn work_with_code<O: Sink>(
 ) -> Result<Outcome, Stop>
     requires built { wants_registers command.now ≡ false }
     requires asked { command.now.build ≡ Some letters }
+    requires sound { IsSound code.now }
     ensures does { Does (IsWork command.now (files_of sources.now)) result (O.written out.old) (O.written out.new) }
     ensures fault { IsErrOf result WriteFault → HasFaulted (O.faults out.old) (O.faults out.new) }
     ensures later { O.faults out.old ≤ O.faults out.new }

@@ -1,8 +1,19 @@
--- The ends of blocks, and what they lead to.
-use Rattle.std.specs.Prelude.{Bool, true, false, Option, Some, None}
+-- The instructions of blocks, the ends of blocks, and what they lead to.
+use Rattle.std.specs.Prelude.{ℕ, Bool, true, false, List, [], Option, Some, None, slice_get}
 use Rattle.go_base.specs.declared.ids.BlockId.{BlockId}
+use Rattle.ssa_ir.specs.declared.code.Block.{Block}
+use Rattle.ssa_ir.specs.declared.code.Function.{Function}
+use Rattle.ssa_ir.specs.declared.ops.Instr.{Instr}
 use Rattle.ssa_ir.specs.declared.ops.Op.{Op}
 use Rattle.ssa_ir.specs.declared.ops.Op.TheVariants.{Jump, If, Return, Panic}
+
+abbrev pub instrs_in : Option Block → List Instr
+instrs_in None = []
+instrs_in (Some block) = block.instrs
+
+-- the instructions of a block; none where there is no such block
+abbrev pub instrs_at : Function → ℕ → List Instr
+instrs_at f block = instrs_in (slice_get f.blocks block)
 
 -- whether a block ends with it
 abbrev pub is_end_op : Op → Bool

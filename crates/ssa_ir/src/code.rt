@@ -7,21 +7,21 @@ use go_text::Labels;
 use go_type::{TypeIds, Types};
 
 /// How variables are kept.
-#[derive(Clone, Copy, Debug, PartialEq, Eq)]
+#[derive(Clone, Copy, PartialEq, Eq)]
 pub enum Form {
     /// Every variable has a cell.
     Naive,
 }
 
 /// Instructions that run one after another; the last alone leads elsewhere.
-#[derive(Debug, Drop)]
+#[derive(Drop)]
 pub struct Block {
     /// The blocks that lead to it, each once.
     pub preds: BlockIds,
     pub instrs: Instrs,
 }
 
-#[derive(Clone, Copy, Debug, PartialEq, Eq)]
+#[derive(Clone, Copy, PartialEq, Eq)]
 pub enum FunctionKind {
     Source,
     /// The initialisation of a package.
@@ -32,7 +32,7 @@ pub enum FunctionKind {
 }
 
 /// A function of blocks.
-#[derive(Debug, Drop)]
+#[derive(Drop)]
 pub struct Function {
     pub name: Text,
     pub kind: FunctionKind,
@@ -49,7 +49,7 @@ pub struct Function {
 }
 
 /// A package variable.
-#[derive(Clone, Copy, Debug, PartialEq, Eq)]
+#[derive(Clone, Copy, PartialEq, Eq)]
 pub struct CodeVariable {
     pub name: NameId,
     pub package: u32,
@@ -57,7 +57,7 @@ pub struct CodeVariable {
 }
 
 /// The function that a method of a type is.
-#[derive(Clone, Copy, Debug, PartialEq, Eq)]
+#[derive(Clone, Copy, PartialEq, Eq)]
 pub struct MethodLine {
     pub receiver: TypeId,
     pub name: NameId,
@@ -85,7 +85,7 @@ pub struct Code {
 }
 
 /// A function that stands for a method under another signature.
-#[derive(Clone, Copy, Debug, PartialEq, Eq)]
+#[derive(Clone, Copy, PartialEq, Eq)]
 pub enum WrapNeed {
     /// A method that a type has through embedded fields.
     Promotion {

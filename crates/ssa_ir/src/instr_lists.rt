@@ -9,7 +9,7 @@ use std::alloc::Global;
 use std::marker::Model;
 
 /// Operands, in order.
-#[derive(Debug, Drop)]
+#[derive(Drop)]
 pub struct Operands {
     items: Vec<Operand>,
 }
@@ -65,7 +65,7 @@ impl Operands {
 }
 
 /// The values of a phi, one for each predecessor.
-#[derive(Debug, Drop)]
+#[derive(Drop)]
 pub struct PhiEdges {
     items: Vec<PhiEdge>,
 }
@@ -121,7 +121,7 @@ impl PhiEdges {
 }
 
 /// The cases of a `select`, in order.
-#[derive(Debug, Drop)]
+#[derive(Drop)]
 pub struct SelectCases {
     items: Vec<SelectCase>,
 }
@@ -177,7 +177,7 @@ impl SelectCases {
 }
 
 /// Instructions, in order.
-#[derive(Debug, Drop)]
+#[derive(Drop)]
 pub struct Instrs {
     items: Vec<Instr>,
 }

@@ -8,7 +8,7 @@ use std::alloc::Global;
 use std::marker::Model;
 
 /// Blocks of a function.
-#[derive(Debug, Drop)]
+#[derive(Drop)]
 pub struct BlockIds {
     items: Vec<BlockId>,
 }
@@ -73,7 +73,7 @@ impl BlockIds {
 }
 
 /// The blocks of a function, by number.
-#[derive(Debug, Drop)]
+#[derive(Drop)]
 pub struct Blocks {
     items: Vec<Block>,
 }
@@ -129,7 +129,7 @@ impl Blocks {
 }
 
 /// The functions of a code, by number.
-#[derive(Debug, Drop)]
+#[derive(Drop)]
 pub struct Functions {
     items: Vec<Function>,
 }
@@ -185,7 +185,7 @@ impl Functions {
 }
 
 /// The package variables of a code, by number.
-#[derive(Debug, Drop)]
+#[derive(Drop)]
 pub struct CodeVariables {
     items: Vec<CodeVariable>,
 }
@@ -250,7 +250,7 @@ impl CodeVariables {
 }
 
 /// Methods of types.
-#[derive(Debug, Drop)]
+#[derive(Drop)]
 pub struct MethodLines {
     items: Vec<MethodLine>,
 }
@@ -315,7 +315,7 @@ impl MethodLines {
 }
 
 /// Wrappers that are needed.
-#[derive(Debug, Drop)]
+#[derive(Drop)]
 pub struct Needs {
     items: Vec<WrapNeed>,
 }

@@ -6,7 +6,7 @@ use go_base::{Bytes, FuncId, NoMemory, TypeId, VarId};
 use std::alloc::Global;
 
 /// The value of a constant.
-#[derive(Debug, Drop)]
+#[derive(Drop)]
 pub enum ConstValue {
     Int(i128),
     Truth(bool),
@@ -34,7 +34,7 @@ impl ConstValue {
 }
 
 /// What an instruction works on.
-#[derive(Debug, Drop)]
+#[derive(Drop)]
 pub enum Operand {
     /// A parameter, counted from 0; a receiver is the first.
     Param(u64),

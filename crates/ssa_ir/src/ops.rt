@@ -10,14 +10,14 @@ use go_type::{BinaryOp, Builtin, CompareOp, UnaryOp};
 use std::alloc::Global;
 
 /// An operator between two operands.
-#[derive(Clone, Copy, Debug, PartialEq, Eq)]
+#[derive(Clone, Copy, PartialEq, Eq)]
 pub enum Infix {
     Operate(BinaryOp),
     Compare(CompareOp),
 }
 
 /// The value of a phi where its block is entered from a predecessor.
-#[derive(Debug, Drop)]
+#[derive(Drop)]
 pub struct PhiEdge {
     pub from: BlockId,
     pub value: Operand,
@@ -36,14 +36,14 @@ impl PhiEdge {
 }
 
 /// A case of a `select`.
-#[derive(Debug, Drop)]
+#[derive(Drop)]
 pub enum SelectCase {
     Send { channel: Operand, value: Operand },
     Receive { channel: Operand },
 }
 
 /// A call.
-#[derive(Debug, Drop)]
+#[derive(Drop)]
 pub enum Call {
     /// Of a function.
     Static {
@@ -70,7 +70,7 @@ pub enum Call {
 }
 
 /// What an instruction does.
-#[derive(Debug, Drop)]
+#[derive(Drop)]
 pub enum Op {
     New(TypeId),
     Phi(PhiEdges),
@@ -216,7 +216,7 @@ impl Op {
 }
 
 /// An instruction, the register that it gives, and the place of the expression or statement from which it is built.
-#[derive(Debug, Drop)]
+#[derive(Drop)]
 pub struct Instr {
     pub op: Op,
     pub register: Option<u64>,

@@ -3,3 +3,4 @@ pub mod Chained
 pub mod Fronts
 pub mod Runs
 pub mod Shown
+pub mod Summed

@@ -1,5 +1,5 @@
 -- The texts of the parts of a code beside its functions, and the text of a whole code.
-use Rattle.std.specs.Prelude.{◌≡◌, ℕ, zero, suc, ◌+◌, ◌==◌, Bool, true, false, ◌||◌, List, [], ◌∷◌, ◌++◌, codes, length, drop, take_while, decimal, if◌then◌else◌, Option, Some}
+use Rattle.std.specs.Prelude.{◌≡◌, ℕ, zero, suc, ◌+◌, ◌==◌, Bool, true, false, ◌||◌, List, [], ◌∷◌, ◌++◌, codes, length, drop, take_while, sum_by, decimal, if◌then◌else◌, Option, Some, None}
 use Rattle.std.specs.Io.KnownBytes.{Appends}
 use Rattle.std.specs.List.{flat_map, AllZip}
 use Rattle.go_base.specs.Devices.{AppendsFront}
@@ -15,6 +15,7 @@ use Rattle.ssa_ir.specs.declared.code.Function.{Function}
 use Rattle.ssa_ir.specs.declared.code.FunctionKind.{FunctionKind}
 use Rattle.ssa_ir.specs.declared.code.FunctionKind.TheVariants as kind
 use Rattle.ssa_ir.specs.declared.code.MethodLine.{MethodLine}
+use Rattle.ssa_sane.specs.Sane.{ListsAvailable}
 use Rattle.ssa_print.specs.Functions.{function_lines}
 use Rattle.ssa_print.specs.Operands.{Setting, setting_of, named_text, function_text}
 use Rattle.ssa_print.specs.declared.variables.NamedVariable.{NamedVariable}
@@ -121,9 +122,27 @@ abbrev pub left_methods : Setting → Bool → List MethodLine
 left_methods s true = methods_left s (length s.naming.labels) 0 s.declared s.methods
 left_methods s false = []
 
--- a text is what is written of a function, with some number of available registers
-abbrev pub IsShown : Setting → Bool → Bool → Function → List ℕ → Type 0
-IsShown s functions available f text = (count : ℕ) × (text ≡ shown_text s functions available f count)
+-- so many registers are available at the entries of a function's blocks, taken together
+pub record CountsAvailable (f : Function) (number : ℕ) : Type 0 where
+  pub lists : List (List ℕ)
+  pub are : ListsAvailable f lists
+  pub sum : number ≡ sum_by length lists
+
+-- a text is what is written of a function: where it is shown, with the number of available registers
+pub record IsShown (s : Setting) (functions available : Bool) (f : Function) (text : List ℕ) : Type 0 where
+  pub number : ℕ
+  pub counts : available ≡ true → CountsAvailable f number
+  pub is : text ≡ shown_text s functions available f number
+
+-- a function was written behind a text
+pub record ShowsFunction (s : Setting) (functions available : Bool) (f : Function) (old new : List ℕ) : Type 0 where
+  pub piece : List ℕ
+  pub shown : IsShown s functions available f piece
+  pub added : new ≡ old ++ piece
+
+abbrev pub length_in : Option (List ℕ) → ℕ
+length_in (Some list) = length list
+length_in None = 0
 
 -- functions were written behind a text
 pub record Shows (s : Setting) (functions available : Bool) (list : List Function) (old new : List ℕ) : Type 0 where

@@ -1,7 +1,8 @@
 //! The text of a code.
 
-ghost use Rattle.std.specs.Prelude.{◌≡◌, ◌++◌, ◌≤◌, ◌⊎◌, ℕ, [], if◌then◌else◌, length, take_while, IfOk, OnOk, OnErr, IsErrOf};
-ghost use Rattle.ssa_print.specs.Codes.{count_line, counts_text, is_own, lists_text, left_methods, shown_text, Shows, IsCodeText, Writes, WritesFront};
+ghost use Rattle.std.specs.Prelude.{◌≡◌, ◌++◌, ◌+◌, ◌≤◌, ◌⊎◌, true, [], if◌then◌else◌, length, take_while, sum_by, IfOk, OnOk, OnErr, IsErr, IsErrOf};
+ghost use Rattle.std.specs.Option.{option_copied};
+ghost use Rattle.ssa_print.specs.Codes.{count_line, counts_text, is_own, lists_text, left_methods, length_in, CountsAvailable, ShowsFunction, Shows, IsCodeText, Writes, WritesFront};
 ghost use Rattle.ssa_print.specs.Functions.{function_lines};
 ghost use Rattle.ssa_print.specs.Operands.{setting_of};
 ghost use Rattle.go_base.specs.Devices.{HasFaulted};
@@ -12,7 +13,8 @@ use crate::functions::push_function;
 use crate::operands::{Setting, push_name, push_words};
 use go_base::{NoMemory, PrintError, Sink, SinkError};
 use go_text::push_number;
-use ssa_ir::{Available, Code, Function, FunctionKind, MethodLine, SanityError, sanity};
+use ssa_ir::{Code, Function, FunctionKind, MethodLine};
+use ssa_sane::{Available, Registers, SanityError, sanity};
 use std::alloc::Global;
 
 /// What is written of a code.
@@ -116,7 +118,7 @@ fn push_shown(
     function: &Function,
     show: Show,
 ) -> Result<(), NoMemory>
-    ensures { OnOk result ((count : ℕ) × (text.new.items ≡ text.old.items ++ shown_text setting.now show.functions show.available function.now count)) }
+    ensures { OnOk result (ShowsFunction setting.now show.functions show.available function.now text.old.items text.new.items) }
 {
     push_lines_of(text, setting, function, show.functions)?;
     let available = available_in(*text.allocator(), function, show.available)?;
@@ -156,30 +158,47 @@ fn push_count_where(
 }
 
 /// How many registers are available at the entries of a function's blocks, taken together, where that is shown.
-fn available_in(alloc: Global, function: &Function, shown: bool) -> Result<u64, NoMemory> {
+fn available_in(alloc: Global, function: &Function, shown: bool) -> Result<u64, NoMemory>
+    ensures { IfOk result (λ number. shown ≡ true → CountsAvailable function.now number) }
+{
     if !shown {
         return Ok(0);
     }
     match sanity(alloc, function) {
-        Ok(available) => Ok(count_all(&available)),
+        Ok(available) => count_all(&available),
         Err(SanityError::OutOfMemory) => Err(NoMemory),
         Err(SanityError::Insane { .. }) => lost(),
     }
 }
 
 /// The code is sane.
-fn lost() -> Result<u64, NoMemory> {
+fn lost() -> Result<u64, NoMemory>
+    ensures { IsErr result }
+{
     Err(NoMemory)
 }
 
-fn count_all(available: &Available) -> u64 {
+/// How many there are in all lists. A number that 64 bits do not hold is want of memory.
+fn count_all(available: &Available) -> Result<u64, NoMemory>
+    ensures { IfOk result (λ number. number ≡ sum_by length available.now) }
+{
     let mut count: u64 = 0;
     for block in 0..available.len() {
-        if let Some(registers) = available.get(block as u64) {
-            count = count.saturating_add(registers.len());
-        }
+        count = count_more(count, available.get(block as u64))?;
     }
-    count
+    Ok(count)
+}
+
+fn count_more(count: u64, registers: Option<&Registers>) -> Result<u64, NoMemory>
+    ensures { IfOk result (λ sum. sum ≡ count + length_in (option_copied registers.entry)) }
+{
+    match registers {
+        Some(registers) => match count.checked_add(registers.len()) {
+            Some(sum) => Ok(sum),
+            None => Err(NoMemory),
+        },
+        None => Ok(count),
+    }
 }
 
 fn push_count(text: &mut Vec<u8>, function: &Function, available: u64) -> Result<(), NoMemory>

@@ -6,7 +6,7 @@ use Rattle.std.proofs.lemmas.List.{append-nil, take_more, take_all}
 use Rattle.std.proofs.lemmas.Option.{get_or_from_slice_get, slice_get-get_or, slice_get_within, slice_get_past}
 use Rattle.std.proofs.lemmas.Bool.{cases_lt}
 use Rattle.std.proofs.lemmas.Grind.{flat_map-append}
-use Rattle.ssa_ir.specs.Sane.{instrs_at, instrs_in}
+use Rattle.ssa_ir.specs.Blocks.{instrs_at, instrs_in}
 use Rattle.ssa_ir.specs.Uses.{given_register, given_registers}
 use Rattle.ssa_ir.specs.declared.code.Block.{Block}
 use Rattle.ssa_ir.specs.declared.code.Code.{Code}

@@ -5,7 +5,7 @@ use Rattle.std.specs.Bool.{beq}
 use Rattle.std.specs.List.{flat_map, list_all, list_any}
 use Rattle.go_base.specs.declared.ids.TypeId.{TypeId}
 use Rattle.go_type.specs.Table.{Table, term_at}
-use Rattle.ssa_ir.specs.Sane.{instrs_at}
+use Rattle.ssa_ir.specs.Blocks.{instrs_at}
 use Rattle.ssa_ir.specs.Uses.{given_registers}
 use Rattle.ssa_ir.specs.declared.code.Block.{Block}
 use Rattle.ssa_ir.specs.declared.code.Code.{Code}

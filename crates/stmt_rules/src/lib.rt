@@ -1,30 +1,24 @@
-//! What the rules ask of the parts of each statement, and what a walk over bodies keeps. Go specification, "Statements".
+//! What the rules ask of the parts of simple statements, declarations and functions, and what a walk over bodies keeps. Go
+//! specification, "Statements".
 //!
-//! The walk itself, over statements with statements in them, stands in a library above this one: it calls what is here in
-//! the order in which the parts stand.
+//! The rules of statements with statements in them, and the walk itself, stand in libraries above this one: they call what is
+//! here in the order in which the parts stand.
 #![tactic(auto)]
 
-mod choosing;
-mod composing;
 mod defining;
 mod entering;
 mod frames;
 mod joining;
-mod ranging;
-mod receiving;
 mod simple;
 mod steps;
 mod uses;
 mod walker;
 
-pub use choosing::{Cases, Matched, SeenTag, Tag};
-pub use composing::{Began, LoopCondition, SeenCases};
-pub use defining::{Defining, Specified};
+pub use defining::{Defining, Left, Lefts, Specified};
 pub use entering::Entered;
 pub use frames::{Frame, ResultOf};
-pub use ranging::{Head, SeenRange};
-pub use receiving::SeenComm;
-pub use simple::is_panic;
+pub use joining::nothing;
+pub use simple::{Side, intos_of, is_panic, targets_of};
 pub use steps::{First, Gathered, Spot, Steps, WalkedArm, WalkedBlock};
 pub use uses::{Holder, Need, Needs, Reading, mentions_from};
-pub use walker::{Walker, all_bodies};
+pub use walker::{Walker, all_bodies, are_values, bare_name};

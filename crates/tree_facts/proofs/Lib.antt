@@ -1,1 +1,4 @@
-pub mod FunctionNames
+pub mod Forms
+mod FunctionNames
+pub mod Searching
+pub mod StatementForms

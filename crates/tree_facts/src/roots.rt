@@ -1,9 +1,14 @@
 //! The variables whose address, or that of a part, is taken in an expression.
 
+ghost use Rattle.std.specs.Prelude.{◌≡◌, flat_map, Some, None, [], false, OnOk, OnErr};
+ghost use Rattle.tree_facts.specs.Roots as root;
+ghost use Rattle.tree_facts.specs.Search.{searched};
+
 use crate::places::root_of;
 use go_base::{NoMemory, VarId};
 use go_tree::{Callee, Elements, EntryInit, ExprKind, FieldInit, ItemInit, TypedExpr, Values};
 use std::alloc::Global;
+use std::marker::Model;
 
 /// Variables that are looked for: all of them, or one.
 #[derive(Drop)]
@@ -16,9 +21,19 @@ pub struct Roots {
     pub met: Vec<VarId>,
 }
 
+impl Model for Roots {
+    ghost use Rattle.tree_facts.specs.Search.{Search};
+
+    ghost Value = { Search };
+
+    ghost view = { λ r. record { wanted = r.wanted; is_met = r.is_met; met = r.met.items } };
+}
+
 impl Roots {
     /// All are looked for.
-    pub fn all(alloc: Global) -> Roots {
+    pub fn all(alloc: Global) -> Roots
+        ensures { result ≡ record { wanted = None; is_met = false; met = [] } }
+    {
         Roots {
             wanted: None,
             is_met: false,
@@ -27,7 +42,9 @@ impl Roots {
     }
 
     /// One is looked for. No memory is taken, so no call fails.
-    pub fn one(alloc: Global, wanted: VarId) -> Roots {
+    pub fn one(alloc: Global, wanted: VarId) -> Roots
+        ensures { result ≡ record { wanted = Some wanted; is_met = false; met = [] } }
+    {
         Roots {
             wanted: Some(wanted),
             is_met: false,
@@ -36,7 +53,11 @@ impl Roots {
     }
 
     /// A variable is met, if there is one.
-    pub fn meet(&mut self, variable: Option<VarId>) -> Result<(), NoMemory> {
+    #[tactic(auto, using(crate::proofs::Searching::searched_none), unfolding(crate::specs::Search::searched, crate::specs::Roots::listed))]
+    pub fn meet(&mut self, variable: Option<VarId>) -> Result<(), NoMemory>
+        ensures ok { OnOk result (self.new ≡ searched self.old (root.listed variable)) }
+        ensures memory { OnErr result (self.old.wanted ≡ None) }
+    {
         let Some(variable) = variable else {
             return Ok(());
         };
@@ -53,7 +74,11 @@ impl Roots {
 
     /// Those of an expression.
     #[cycle(roots)]
-    pub fn in_expr(&mut self, expr: &TypedExpr) -> Result<(), NoMemory> {
+    #[tactic(auto, using(crate::proofs::Searching::searches, crate::proofs::Forms::expr_is, crate::proofs::Forms::kind_forms))]
+    pub fn in_expr(&mut self, expr: &TypedExpr) -> Result<(), NoMemory>
+        ensures ok { OnOk result (self.new ≡ searched self.old (root.taken expr.now)) }
+        ensures memory { OnErr result (self.old.wanted ≡ None) }
+    {
         match &expr.kind {
             ExprKind::ConstOf(_)
             | ExprKind::NilOf
@@ -111,7 +136,11 @@ impl Roots {
     }
 
     #[cycle(roots)]
-    fn in_option(&mut self, expr: &Option<Box<TypedExpr>>) -> Result<(), NoMemory> {
+    #[tactic(auto, using(crate::proofs::Searching::searches, crate::proofs::Forms::list_forms, crate::proofs::Forms::field_is, crate::proofs::Forms::item_is, crate::proofs::Forms::entry_is))]
+    fn in_option(&mut self, expr: &Option<Box<TypedExpr>>) -> Result<(), NoMemory>
+        ensures ok { OnOk result (self.new ≡ searched self.old (root.taken_in_some expr.now)) }
+        ensures memory { OnErr result (self.old.wanted ≡ None) }
+    {
         match expr {
             Some(expr) => self.in_expr(expr),
             None => Ok(()),
@@ -120,7 +149,11 @@ impl Roots {
 
     /// Those of a list of expressions.
     #[cycle(roots)]
-    pub fn in_list(&mut self, exprs: &[TypedExpr]) -> Result<(), NoMemory> {
+    #[tactic(auto, using(crate::proofs::Searching::searches, crate::proofs::Forms::list_forms, crate::proofs::Forms::field_is, crate::proofs::Forms::item_is, crate::proofs::Forms::entry_is))]
+    pub fn in_list(&mut self, exprs: &[TypedExpr]) -> Result<(), NoMemory>
+        ensures ok { OnOk result (self.new ≡ searched self.old (root.taken_each exprs.now)) }
+        ensures memory { OnErr result (self.old.wanted ≡ None) }
+    {
         for expr in exprs {
             self.in_expr(expr)?;
         }
@@ -128,7 +161,11 @@ impl Roots {
     }
 
     #[cycle(roots)]
-    fn in_callee(&mut self, callee: &Callee) -> Result<(), NoMemory> {
+    #[tactic(auto, using(crate::proofs::Searching::searches, crate::proofs::Forms::list_forms, crate::proofs::Forms::field_is, crate::proofs::Forms::item_is, crate::proofs::Forms::entry_is))]
+    fn in_callee(&mut self, callee: &Callee) -> Result<(), NoMemory>
+        ensures ok { OnOk result (self.new ≡ searched self.old (root.taken_callee callee.now)) }
+        ensures memory { OnErr result (self.old.wanted ≡ None) }
+    {
         match callee {
             Callee::Function(_) | Callee::Literal(_) => Ok(()),
             Callee::Method { receiver, .. } | Callee::Interface { receiver, .. } => {
@@ -140,7 +177,11 @@ impl Roots {
 
     /// Those of the values of a list.
     #[cycle(roots)]
-    pub fn in_values(&mut self, values: &Values) -> Result<(), NoMemory> {
+    #[tactic(auto, using(crate::proofs::Searching::searches, crate::proofs::Forms::list_forms, crate::proofs::Forms::field_is, crate::proofs::Forms::item_is, crate::proofs::Forms::entry_is))]
+    pub fn in_values(&mut self, values: &Values) -> Result<(), NoMemory>
+        ensures ok { OnOk result (self.new ≡ searched self.old (root.taken_values values.now)) }
+        ensures memory { OnErr result (self.old.wanted ≡ None) }
+    {
         match values {
             Values::Each(exprs) => self.in_list(exprs),
             Values::Spread { tuple, parts } => {
@@ -151,7 +192,11 @@ impl Roots {
     }
 
     #[cycle(roots)]
-    fn in_elements(&mut self, elements: &Elements) -> Result<(), NoMemory> {
+    #[tactic(auto, using(crate::proofs::Searching::searches, crate::proofs::Forms::list_forms, crate::proofs::Forms::field_is, crate::proofs::Forms::item_is, crate::proofs::Forms::entry_is))]
+    fn in_elements(&mut self, elements: &Elements) -> Result<(), NoMemory>
+        ensures ok { OnOk result (self.new ≡ searched self.old (root.taken_elements elements.now)) }
+        ensures memory { OnErr result (self.old.wanted ≡ None) }
+    {
         match elements {
             Elements::Fields(fields) => self.in_fields(fields),
             Elements::Items { items, .. } => self.in_items(items),
@@ -160,7 +205,11 @@ impl Roots {
     }
 
     #[cycle(roots)]
-    fn in_fields(&mut self, fields: &[FieldInit]) -> Result<(), NoMemory> {
+    #[tactic(auto, using(crate::proofs::Searching::searches, crate::proofs::Forms::list_forms, crate::proofs::Forms::field_is, crate::proofs::Forms::item_is, crate::proofs::Forms::entry_is))]
+    fn in_fields(&mut self, fields: &[FieldInit]) -> Result<(), NoMemory>
+        ensures ok { OnOk result (self.new ≡ searched self.old (flat_map root.taken_field fields.now)) }
+        ensures memory { OnErr result (self.old.wanted ≡ None) }
+    {
         for field in fields {
             self.in_expr(&field.value)?;
         }
@@ -168,7 +217,11 @@ impl Roots {
     }
 
     #[cycle(roots)]
-    fn in_items(&mut self, items: &[ItemInit]) -> Result<(), NoMemory> {
+    #[tactic(auto, using(crate::proofs::Searching::searches, crate::proofs::Forms::list_forms, crate::proofs::Forms::field_is, crate::proofs::Forms::item_is, crate::proofs::Forms::entry_is))]
+    fn in_items(&mut self, items: &[ItemInit]) -> Result<(), NoMemory>
+        ensures ok { OnOk result (self.new ≡ searched self.old (flat_map root.taken_item items.now)) }
+        ensures memory { OnErr result (self.old.wanted ≡ None) }
+    {
         for item in items {
             self.in_expr(&item.value)?;
         }
@@ -176,7 +229,11 @@ impl Roots {
     }
 
     #[cycle(roots)]
-    fn in_entries(&mut self, entries: &[EntryInit]) -> Result<(), NoMemory> {
+    #[tactic(auto, using(crate::proofs::Searching::searches, crate::proofs::Forms::list_forms, crate::proofs::Forms::field_is, crate::proofs::Forms::item_is, crate::proofs::Forms::entry_is))]
+    fn in_entries(&mut self, entries: &[EntryInit]) -> Result<(), NoMemory>
+        ensures ok { OnOk result (self.new ≡ searched self.old (flat_map root.taken_entry entries.now)) }
+        ensures memory { OnErr result (self.old.wanted ≡ None) }
+    {
         for entry in entries {
             self.in_expr(&entry.key)?;
             self.in_expr(&entry.value)?;

@@ -1,5 +1,10 @@
 //! The variables whose address, or that of a part, is taken in statements, or of which a part is assigned.
 
+ghost use Rattle.std.specs.Prelude.{◌≡◌, flat_map, None, OnOk, OnErr};
+ghost use Rattle.tree_facts.specs.Roots.{taken, taken_values};
+ghost use Rattle.tree_facts.specs.Search.{searched};
+ghost use Rattle.tree_facts.specs.Statements as statement;
+
 use crate::places::part_root;
 use crate::roots::Roots;
 use go_base::NoMemory;
@@ -10,29 +15,45 @@ use go_tree::{
 
 impl Roots {
     /// Those of a block.
+    #[tactic(auto, using(crate::proofs::Searching::searches, crate::proofs::StatementForms::stmt_forms))]
     #[cycle(statement_roots)]
-    pub fn in_block(&mut self, block: &TypedBlock) -> Result<(), NoMemory> {
+    pub fn in_block(&mut self, block: &TypedBlock) -> Result<(), NoMemory>
+        ensures ok { OnOk result (self.new ≡ searched self.old (statement.roots_in_block block.now)) }
+        ensures memory { OnErr result (self.old.wanted ≡ None) }
+    {
         self.in_statements(&block.statements)
     }
 
+    #[tactic(auto, using(crate::proofs::Searching::searches, crate::proofs::StatementForms::stmt_forms))]
     #[cycle(statement_roots)]
-    fn in_statements(&mut self, statements: &[TypedStmt]) -> Result<(), NoMemory> {
+    fn in_statements(&mut self, statements: &[TypedStmt]) -> Result<(), NoMemory>
+        ensures ok { OnOk result (self.new ≡ searched self.old (flat_map statement.roots_in_stmt statements.now)) }
+        ensures memory { OnErr result (self.old.wanted ≡ None) }
+    {
         for stmt in statements {
             self.in_statement(stmt)?;
         }
         Ok(())
     }
 
+    #[tactic(auto, using(crate::proofs::Searching::searches, crate::proofs::StatementForms::stmt_forms))]
     #[cycle(statement_roots)]
-    fn in_optional(&mut self, stmt: &Option<Box<TypedStmt>>) -> Result<(), NoMemory> {
+    fn in_optional(&mut self, stmt: &Option<Box<TypedStmt>>) -> Result<(), NoMemory>
+        ensures ok { OnOk result (self.new ≡ searched self.old (statement.in_optional stmt.now)) }
+        ensures memory { OnErr result (self.old.wanted ≡ None) }
+    {
         match stmt {
             Some(stmt) => self.in_statement(stmt),
             None => Ok(()),
         }
     }
 
+    #[tactic(auto, using(crate::proofs::Searching::searches, crate::proofs::StatementForms::stmt_forms))]
     #[cycle(statement_roots)]
-    fn in_statement(&mut self, stmt: &TypedStmt) -> Result<(), NoMemory> {
+    fn in_statement(&mut self, stmt: &TypedStmt) -> Result<(), NoMemory>
+        ensures ok { OnOk result (self.new ≡ searched self.old (statement.roots_in_stmt stmt.now)) }
+        ensures memory { OnErr result (self.old.wanted ≡ None) }
+    {
         match stmt {
             TypedStmt::Const { .. }
             | TypedStmt::TypeDecl { .. }
@@ -124,8 +145,12 @@ impl Roots {
         }
     }
 
+    #[tactic(auto, using(crate::proofs::Searching::searches, crate::proofs::StatementForms::stmt_forms))]
     #[cycle(statement_roots)]
-    fn in_arms(&mut self, arms: &[TypedArm]) -> Result<(), NoMemory> {
+    fn in_arms(&mut self, arms: &[TypedArm]) -> Result<(), NoMemory>
+        ensures ok { OnOk result (self.new ≡ searched self.old (flat_map statement.roots_in_arm arms.now)) }
+        ensures memory { OnErr result (self.old.wanted ≡ None) }
+    {
         for arm in arms {
             self.in_optional(&arm.init)?;
             self.in_expr(&arm.condition)?;
@@ -134,8 +159,12 @@ impl Roots {
         Ok(())
     }
 
+    #[tactic(auto, using(crate::proofs::Searching::searches, crate::proofs::StatementForms::stmt_forms))]
     #[cycle(statement_roots)]
-    fn in_clauses(&mut self, clauses: &[TypedClause]) -> Result<(), NoMemory> {
+    fn in_clauses(&mut self, clauses: &[TypedClause]) -> Result<(), NoMemory>
+        ensures ok { OnOk result (self.new ≡ searched self.old (flat_map statement.roots_in_clause clauses.now)) }
+        ensures memory { OnErr result (self.old.wanted ≡ None) }
+    {
         for clause in clauses {
             self.in_cases(&clause.cases)?;
             self.in_block(&clause.body)?;
@@ -143,16 +172,24 @@ impl Roots {
         Ok(())
     }
 
+    #[tactic(auto, using(crate::proofs::Searching::searches, crate::proofs::StatementForms::stmt_forms))]
     #[cycle(statement_roots)]
-    fn in_type_clauses(&mut self, clauses: &[TypeClause]) -> Result<(), NoMemory> {
+    fn in_type_clauses(&mut self, clauses: &[TypeClause]) -> Result<(), NoMemory>
+        ensures ok { OnOk result (self.new ≡ searched self.old (flat_map statement.roots_in_type_clause clauses.now)) }
+        ensures memory { OnErr result (self.old.wanted ≡ None) }
+    {
         for clause in clauses {
             self.in_block(&clause.body)?;
         }
         Ok(())
     }
 
+    #[tactic(auto, using(crate::proofs::Searching::searches, crate::proofs::StatementForms::stmt_forms))]
     #[cycle(statement_roots)]
-    fn in_select(&mut self, clauses: &[SelectClause]) -> Result<(), NoMemory> {
+    fn in_select(&mut self, clauses: &[SelectClause]) -> Result<(), NoMemory>
+        ensures ok { OnOk result (self.new ≡ searched self.old (flat_map statement.roots_in_select_clause clauses.now)) }
+        ensures memory { OnErr result (self.old.wanted ≡ None) }
+    {
         for clause in clauses {
             self.in_comm(&clause.comm)?;
             self.in_block(&clause.body)?;
@@ -160,14 +197,22 @@ impl Roots {
         Ok(())
     }
 
-    fn in_cases(&mut self, cases: &[TypedCase]) -> Result<(), NoMemory> {
+    #[tactic(auto, using(crate::proofs::Searching::searches))]
+    fn in_cases(&mut self, cases: &[TypedCase]) -> Result<(), NoMemory>
+        ensures ok { OnOk result (self.new ≡ searched self.old (statement.in_cases cases.now)) }
+        ensures memory { OnErr result (self.old.wanted ≡ None) }
+    {
         for case in cases {
             self.in_expr(&case.value)?;
         }
         Ok(())
     }
 
-    fn in_comm(&mut self, comm: &Comm) -> Result<(), NoMemory> {
+    #[tactic(auto, using(crate::proofs::Searching::searches))]
+    fn in_comm(&mut self, comm: &Comm) -> Result<(), NoMemory>
+        ensures ok { OnOk result (self.new ≡ searched self.old (statement.in_comm comm.now)) }
+        ensures memory { OnErr result (self.old.wanted ≡ None) }
+    {
         match comm {
             Comm::Default => Ok(()),
             Comm::Send { channel, value } => {
@@ -181,7 +226,11 @@ impl Roots {
         }
     }
 
-    fn in_received(&mut self, into: &ReceiveInto) -> Result<(), NoMemory> {
+    #[tactic(auto, using(crate::proofs::Searching::searches))]
+    fn in_received(&mut self, into: &ReceiveInto) -> Result<(), NoMemory>
+        ensures ok { OnOk result (self.new ≡ searched self.old (statement.in_received into.now)) }
+        ensures memory { OnErr result (self.old.wanted ≡ None) }
+    {
         match into {
             ReceiveInto::Nothing | ReceiveInto::Define { .. } => Ok(()),
             ReceiveInto::Assign { targets, parts } => {
@@ -191,7 +240,11 @@ impl Roots {
         }
     }
 
-    fn in_range_targets(&mut self, targets: &RangeTargets) -> Result<(), NoMemory> {
+    #[tactic(auto, using(crate::proofs::Searching::searches))]
+    fn in_range_targets(&mut self, targets: &RangeTargets) -> Result<(), NoMemory>
+        ensures ok { OnOk result (self.new ≡ searched self.old (statement.in_range_targets targets.now)) }
+        ensures memory { OnErr result (self.old.wanted ≡ None) }
+    {
         match targets {
             RangeTargets::None | RangeTargets::Define { .. } => Ok(()),
             RangeTargets::Assign { key, value, parts } => {
@@ -202,21 +255,33 @@ impl Roots {
         }
     }
 
-    fn in_optional_target(&mut self, target: &Option<Target>) -> Result<(), NoMemory> {
+    #[tactic(auto, using(crate::proofs::Searching::searches))]
+    fn in_optional_target(&mut self, target: &Option<Target>) -> Result<(), NoMemory>
+        ensures ok { OnOk result (self.new ≡ searched self.old (statement.in_some statement.in_target target.now)) }
+        ensures memory { OnErr result (self.old.wanted ≡ None) }
+    {
         match target {
             Some(target) => self.in_target(target),
             None => Ok(()),
         }
     }
 
-    fn in_targets(&mut self, targets: &[Target]) -> Result<(), NoMemory> {
+    #[tactic(auto, using(crate::proofs::Searching::searches))]
+    fn in_targets(&mut self, targets: &[Target]) -> Result<(), NoMemory>
+        ensures ok { OnOk result (self.new ≡ searched self.old (statement.in_targets targets.now)) }
+        ensures memory { OnErr result (self.old.wanted ≡ None) }
+    {
         for target in targets {
             self.in_target(target)?;
         }
         Ok(())
     }
 
-    fn in_target(&mut self, target: &Target) -> Result<(), NoMemory> {
+    #[tactic(auto, using(crate::proofs::Searching::searches))]
+    fn in_target(&mut self, target: &Target) -> Result<(), NoMemory>
+        ensures ok { OnOk result (self.new ≡ searched self.old (statement.in_target target.now)) }
+        ensures memory { OnErr result (self.old.wanted ≡ None) }
+    {
         match target {
             Target::Blank => Ok(()),
             Target::Place(place) => self.in_assigned(place),
@@ -224,19 +289,31 @@ impl Roots {
     }
 
     /// What is assigned to: where it is a part of a variable, that is met.
-    fn in_assigned(&mut self, place: &TypedExpr) -> Result<(), NoMemory> {
+    #[tactic(auto, using(crate::proofs::Searching::searches))]
+    fn in_assigned(&mut self, place: &TypedExpr) -> Result<(), NoMemory>
+        ensures ok { OnOk result (self.new ≡ searched self.old (statement.assigned place.now)) }
+        ensures memory { OnErr result (self.old.wanted ≡ None) }
+    {
         self.meet(part_root(place))?;
         self.in_expr(place)
     }
 
-    fn in_optional_values(&mut self, values: &Option<Values>) -> Result<(), NoMemory> {
+    #[tactic(auto, using(crate::proofs::Searching::searches))]
+    fn in_optional_values(&mut self, values: &Option<Values>) -> Result<(), NoMemory>
+        ensures ok { OnOk result (self.new ≡ searched self.old (statement.in_some taken_values values.now)) }
+        ensures memory { OnErr result (self.old.wanted ≡ None) }
+    {
         match values {
             Some(values) => self.in_values(values),
             None => Ok(()),
         }
     }
 
-    fn in_optional_expr(&mut self, expr: &Option<TypedExpr>) -> Result<(), NoMemory> {
+    #[tactic(auto, using(crate::proofs::Searching::searches))]
+    fn in_optional_expr(&mut self, expr: &Option<TypedExpr>) -> Result<(), NoMemory>
+        ensures ok { OnOk result (self.new ≡ searched self.old (statement.in_some taken expr.now)) }
+        ensures memory { OnErr result (self.old.wanted ≡ None) }
+    {
         match expr {
             Some(expr) => self.in_expr(expr),
             None => Ok(()),

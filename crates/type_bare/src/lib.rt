@@ -2,6 +2,8 @@
 #![tactic(auto)]
 
 mod bare;
+mod laws;
 mod strip;
 
 pub use bare::{Bare, same_but_tags};
+pub use laws::{bare_stays, bare_tells};

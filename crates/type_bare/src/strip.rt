@@ -47,7 +47,7 @@ pub fn stripped(alloc: Global, bares: &[TypeId], term: &TypeTerm) -> Result<Type
 }
 
 /// The bare type of a type, or the type itself where it is not known.
-fn bare_of(bares: &[TypeId], id: TypeId) -> TypeId
+pub fn bare_of(bares: &[TypeId], id: TypeId) -> TypeId
     ensures { result ≡ bare_of bares.now id }
 {
     match bares.get(id.number as usize) {

@@ -2,7 +2,7 @@
 
 use crate::tests::rows::function;
 use go_base::NoMemory;
-use ssa_ir::{Available, Registers, SanityError, sanity};
+use ssa_sane::{Available, Registers, SanityError, sanity};
 use std::alloc::Global;
 use std::test::Fail;
 

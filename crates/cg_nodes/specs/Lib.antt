@@ -1,0 +1,4 @@
+pub mod Kinds
+pub mod Passing
+pub mod Places
+pub mod Uses

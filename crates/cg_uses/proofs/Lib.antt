@@ -1,0 +1,4 @@
+pub mod GetsAt
+pub mod Pairs
+pub mod StmtForms
+pub mod Stores

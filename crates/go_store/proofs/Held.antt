@@ -1,0 +1,57 @@
+-- What a cell holds, by its variant.
+use Rattle.std.proofs.Common.{◌≡◌, ◌+◌, ap, sym, refl, ◌∙◌, map, List, [], ◌∷◌, ◌++◌, Option, Some, None, ℕ, zero, suc, ℤ, slice_get, Bool, false}
+use Rattle.std.specs.Option.{option_map}
+use Rattle.go_store.specs.declared.cells.Cell.{Cell}
+use Rattle.go_store.specs.declared.leaves.Leaf.{Leaf}
+use Rattle.go_store.specs.declared.cells.Place.{Place}
+use Rattle.go_store.specs.declared.cells.Cell.TheVariants as cells
+use Rattle.go_store.specs.declared.cells.Cell.TheOpen as layers
+use Rattle.go_store.specs.declared.cells.Cell.TheOpen.{Cell-F}
+use Rattle.go_store.specs.declared.cells.Cell.TheViews.{roll-Cell}
+use Rattle.go_store.specs.declared.cells.Cell.TheFolds.{fold-roll-Cell, fold-roll-Place, map-Cell}
+use Rattle.go_value.specs.declared.values.Part.{Part}
+use Rattle.go_value.specs.declared.values.Value.{Value}
+use Rattle.go_value.specs.declared.values.Value.TheVariants as values
+use Rattle.go_value.proofs.KindOf.{not_parts}
+use Rattle.go_value.proofs.Variants.{part_is, int_is, parts_is}
+use Rattle.go_value.specs.Values.{Val, Field, Parts, parts, parts_of, value_of, part_of}
+use Rattle.go_store.specs.Cells.{held, place_of, cell_layer, place_layer, packed, plain_number}
+
+abbrev seen : Cell-F Cell Place → Val
+seen x = cell_layer (map-Cell Cell Place Val Field held place_of x)
+
+rolled : (x : Cell-F Cell Place) → held (roll-Cell x) ≡ seen x
+unfolding held place_of
+rolled x = fold-roll-Cell Val Field cell_layer place_layer x
+
+pub one_is : (it : Leaf) → held (cells.One it) ≡ value_of it.value
+one_is it = ap held (sym (cells.rolls-One it)) ∙ rolled (layers.Cell-F.One it)
+
+pub ints_are : (it : _) → held (cells.Ints it) ≡ packed it.items
+ints_are it = ap held (sym (cells.rolls-Ints it)) ∙ rolled (layers.Cell-F.Ints it)
+
+pub many_are : (it : _) → held (cells.Many it) ≡ parts (parts_of (map place_of it.items))
+many_are it = ap held (sym (cells.rolls-Many it)) ∙ rolled (layers.Cell-F.Many it)
+
+pub place_is : (it : Place) → place_of it ≡ record { value = held it.cell; blank = it.blank }
+unfolding held place_of
+place_is it = fold-roll-Place Val Field cell_layer place_layer (record { cell = it.cell; blank = it.blank })
+
+-- ---- parts and their places
+
+abbrev field : Val → Bool → Field
+field it blank = record { value = it; blank = blank }
+
+pub place_of_part : (it : Part) (cell : Cell) → held cell ≡ value_of it.value → place_of (record { cell = cell; blank = it.blank }) ≡ part_of it
+place_of_part it cell same = place_is (record { cell = cell; blank = it.blank }) ∙ ap (λ v. field v it.blank) same ∙ sym (part_is it)
+
+pub part_of_place : (it : Place) (value : Value) → value_of value ≡ held it.cell → part_of (record { value = value; blank = it.blank }) ≡ place_of it
+part_of_place it value same = part_is (record { value = value; blank = it.blank }) ∙ ap (λ v. field v it.blank) same ∙ sym (place_is it)
+
+pub place_again : (it : Place) (cell : Cell) → held cell ≡ held it.cell → place_of (record { cell = cell; blank = it.blank }) ≡ place_of it
+place_again it cell same = place_is (record { cell = cell; blank = it.blank }) ∙ ap (λ v. field v it.blank) same ∙ sym (place_is it)
+
+pub part_of_number : (n : ℤ) → part_of (record { value = values.Int n; blank = false }) ≡ plain_number n
+part_of_number n = part_is (record { value = values.Int n; blank = false }) ∙ ap (λ v. field v false) (int_is n)
+
+pub ruleset of_cells = (one_is, parts_is, not_parts)

@@ -1,0 +1,40 @@
+-- Parts that are integers.
+use Rattle.std.proofs.Common.{◌≡◌, ◌<◌, List, length, get_or, false, is_none, subst, sym, ap, refl, ◌∙◌, Bool, Option, Some, None, ℕ, ℤ}
+use Rattle.std.proofs.lemmas.List.{get_or_default}
+use Rattle.go_value.specs.Kinds.{integer}
+use Rattle.go_value.specs.Values as vals
+use Rattle.go_value.specs.Values.{Val, Field, value_of, part_of}
+use Rattle.go_value.specs.declared.values.Part.{Part}
+use Rattle.go_value.proofs.Variants.{part_is}
+use Rattle.go_store.specs.Cells.{IsPlain, plain_number}
+
+pub integer_from : (it : Val) (n : ℤ) → Some n ≡ integer it → it ≡ vals.number n
+integer_from (vals.truth a) n h = cc
+integer_from (vals.number a) n h = cc
+integer_from (vals.text a) n h = cc
+integer_from (vals.pointer a) n h = cc
+integer_from (vals.slice a) n h = cc
+integer_from (vals.map_number a) n h = cc
+integer_from (vals.chan_number a) n h = cc
+integer_from vals.nil_function n h = cc
+integer_from (vals.closure a b) n h = cc
+integer_from (vals.bound a b) n h = cc
+integer_from (vals.expression a b c) n h = cc
+integer_from vals.nil_interface n h = cc
+integer_from (vals.dynamic a b) n h = cc
+integer_from (vals.parts a) n h = cc
+integer_from (vals.text_range a b) n h = cc
+integer_from (vals.map_range a b) n h = cc
+
+pub plain_from : (it : Part) (o : Option ℤ) → it.blank ≡ false → o ≡ integer (value_of it.value) → is_none o ≡ false → IsPlain (part_of it)
+plain_from it None blank is some = cc
+plain_from it (Some n) blank is some =
+    let e = integer_from (value_of it.value) n is in
+    (n, part_is it ∙ ap (λ v. record { value = v; blank = it.blank }) e ∙ ap (λ b. record { value = vals.number n; blank = b }) blank)
+
+-- the integer of a plain part
+pub plain_integer : (it : Part) (n : ℤ) → part_of it ≡ plain_number n → integer (value_of it.value) ≡ Some n
+plain_integer it n h = ap (λ (f : Field). integer f.value) (sym (part_is it) ∙ h)
+
+pub plain_at : (parts : List Part) (i : ℕ) (d e it : Part) → i < length parts → it ≡ get_or parts i d → IsPlain (part_of it) → IsPlain (part_of (get_or parts i e))
+plain_at parts i d e it below is h = subst (λ x. IsPlain (part_of x)) (is ∙ get_or_default parts i d e below) h

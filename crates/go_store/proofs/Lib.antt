@@ -1,0 +1,9 @@
+pub mod Held
+pub mod Integers
+pub mod Mapped
+pub mod Reached
+pub mod Changed
+pub mod Written
+pub mod Lengthened
+pub mod Overwritten
+pub mod Appended

@@ -1,0 +1,93 @@
+-- Arrays whose elements are read or replaced in a run.
+use Rattle.std.proofs.Common.{◌≡◌, ap, sym, subst, refl, ◌∙◌, map, List, [], ◌∷◌, ◌++◌, ℕ, zero, suc, ◌+◌, ◌≤◌, ℤ, length, take, drop, arith, Option, Some, None, Result, Ok, Err, OnOk, leb, cond, Bool, true, false}
+use Rattle.std.specs.Global.{Vec}
+use Rattle.std.proofs.lemmas.Bool.{le-leb}
+use Rattle.std.proofs.lemmas.List.{map-append, length-map, drop-map}
+use Rattle.std.specs.List.{take-map}
+use borrow.Rule.Slice.PartMut.{put_mid}
+use Rattle.go_value.specs.Values as vals
+use Rattle.go_value.specs.Values.{Val, Field, Parts, parts, none, part, parts_of, number}
+use Rattle.go_store.specs.Arrays.{elements, extended, overwritten, run_of, run_among, values_in, with_elements, with_run}
+use Rattle.go_store.specs.Cells.{held, held_in, packed, spread, place_of, plain_number}
+use Rattle.go_store.specs.declared.cells.Place.{Place}
+use Rattle.go_store.specs.declared.cells.Cell.{Cell}
+use Rattle.go_store.specs.declared.cells.Cell.TheVariants as cells
+use Rattle.go_store.proofs.Held.{place_is, ints_are, many_are}
+use Rattle.go_store.proofs.Lengthened.{extended_fields, plain}
+
+-- ---- what is read
+
+values_fields : (fields : List Field) → values_in (parts_of fields) ≡ map (λ f. f.value) fields
+values_fields [] = refl
+values_fields (f ∷ fields) = ap (λ vs. f.value ∷ vs) (values_fields fields)
+
+values_numbers : (ints : List ℤ) → values_in (parts_of (map plain_number ints)) ≡ map number ints
+values_numbers [] = refl
+values_numbers (n ∷ ints) = ap (λ vs. number n ∷ vs) (values_numbers ints)
+
+values_places : (places : List Place) → values_in (parts_of (map place_of places)) ≡ map held_in places
+values_places [] = refl
+values_places (p ∷ places) = ap (λ (f : Field). f.value ∷ values_in (parts_of (map place_of places))) (place_is p) ∙ ap (λ vs. held_in p ∷ vs) (values_places places)
+
+run_mapped : {X : Type 0} (f : X → Val) (xs : List X) (first len : ℕ) → first + len ≤ length xs → run_among (map f xs) first len ≡ Some (map f (take len (drop first xs)))
+run_mapped f xs first len within =
+    let long : first + len ≤ length (map f xs) = subst (λ n. first + len ≤ n) (sym (length-map xs f)) within in
+    ap (λ b. cond b (Some (take len (drop first (map f xs)))) None) (le-leb (first + len) (length (map f xs)) long)
+    ∙ ap Some (ap (take len) (drop-map f first xs) ∙ take-map f len (drop first xs))
+
+pub run_numbers : (ints : List ℤ) (first len : ℕ) → first + len ≤ length ints → run_of (packed ints) first len ≡ Some (map number (take len (drop first ints)))
+run_numbers ints first len within = ap (λ vs. run_among vs first len) (values_numbers ints) ∙ run_mapped number ints first len within
+
+pub run_places : (places : List Place) (first len : ℕ) → first + len ≤ length places → run_of (spread places) first len ≡ Some (map held_in (take len (drop first places)))
+run_places places first len within = ap (λ vs. run_among vs first len) (values_places places) ∙ run_mapped held_in places first len within
+
+-- ---- what is added
+
+numbers_plain : (ints : List ℤ) → map plain (map number ints) ≡ map plain_number ints
+numbers_plain [] = refl
+numbers_plain (n ∷ ints) = ap (λ fs. plain_number n ∷ fs) (numbers_plain ints)
+
+pub numbers_pushed : (ints more : List ℤ) → packed (ints ++ more) ≡ with_elements (map number more) (packed ints)
+numbers_pushed ints more =
+    ap (λ (fields : List Field). parts (parts_of fields)) (map-append plain_number ints more ∙ ap (λ fs. map plain_number ints ++ fs) (sym (numbers_plain more)))
+    ∙ ap parts (sym (extended_fields (map number more) (map plain_number ints)))
+
+-- ---- what is replaced
+
+over_first : {X : Type 0} (f : X → Field) (new xs : List X) → length new ≤ length xs → overwritten (parts_of (map f new)) (parts_of (map f xs)) zero ≡ parts_of (map f (new ++ drop (length new) xs))
+over_first f [] [] within = refl
+over_first f [] (x ∷ xs) within = refl
+over_first f (n ∷ new) [] within = absurd (omega arith)
+over_first f (n ∷ new) (x ∷ xs) within =
+    let less : length new ≤ length xs = omega arith in
+    ap (part (f n).value (f n).blank) (over_first f new xs less)
+
+over : {X : Type 0} (f : X → Field) (new xs : List X) (first : ℕ) → first + length new ≤ length xs → overwritten (parts_of (map f new)) (parts_of (map f xs)) first ≡ parts_of (map f (put_mid first (length new) xs new))
+over f new xs zero within =
+    let fits : length new ≤ length xs = omega arith in
+    over_first f new xs fits
+over f [] [] (suc first) within = absurd (omega arith)
+over f (n ∷ new) [] (suc first) within = absurd (omega arith)
+over f new (x ∷ xs) (suc first) within =
+    let less : first + length new ≤ length xs = omega arith in
+    ap (part (f x).value (f x).blank) (over f new xs first less)
+
+pub numbers_over : (new ints : List ℤ) (first : ℕ) → first + length new ≤ length ints → packed (put_mid first (length new) ints new) ≡ with_run (packed new) first (packed ints)
+numbers_over new ints first within = ap parts (sym (over plain_number new ints first within))
+
+pub places_over : (new places : List Place) (first : ℕ) → first + length new ≤ length places → spread (put_mid first (length new) places new) ≡ with_run (spread new) first (spread places)
+places_over new places first within = ap parts (sym (over place_of new places first within))
+
+-- ---- of cells
+
+pub ints_run : (cell : Cell) (ints : Vec ℤ) (xs : List ℤ) (first len : ℕ) → cell ≡ cells.Ints ints → xs ≡ ints.items → first + len ≤ length xs → run_of (held cell) first len ≡ Some (map number (take len (drop first xs)))
+ints_run cell ints xs first len is same within =
+    ap (λ c. run_of (held c) first len) is ∙ ap (λ it. run_of it first len) (ints_are ints ∙ ap packed (sym same)) ∙ run_numbers xs first len within
+
+pub places_run : (cell : Cell) (places : Vec Place) (xs : List Place) (first len : ℕ) → cell ≡ cells.Many places → xs ≡ places.items → first + len ≤ length xs → run_of (held cell) first len ≡ Some (map held_in (take len (drop first xs)))
+places_run cell places xs first len is same within =
+    ap (λ c. run_of (held c) first len) is ∙ ap (λ it. run_of it first len) (many_are places ∙ ap spread (sym same)) ∙ run_places xs first len within
+
+pub on_ok_with : {A E P Q R : Type 0} (r : Result A E) → OnOk r P → OnOk r Q → (P → Q → R) → OnOk r R
+on_ok_with (Ok x) h k f = f h k
+on_ok_with (Err e) h k f = h

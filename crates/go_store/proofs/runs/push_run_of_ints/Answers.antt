@@ -1,0 +1,21 @@
+use Rattle.std.proofs.Common.{rules, ◌≡◌, ◌∷◌, [], ◌++◌, ◌∙◌, ap, sym, subst, refl, cond, Some, None, IsSome, IfSome, IfOk, OnOk, OnErr, Result, Ok, Err, Option, List, ℕ, ℤ, ◌+◌, ◌-◌, ◌≤◌, arith, slice_get, slice_set, map, take, drop, replicate, unwrap_or, length}
+use Rattle.std.specs.Global.{Vec}
+use Rattle.std.proofs.lemmas.List.{with_items_is}
+use Rattle.go_store.specs.Arrays.{with_run, with_elements, run_of}
+use Rattle.go_value.specs.Values as vals
+use Rattle.go_value.specs.Values.{Val}
+use Rattle.go_store.specs.Cells.{held, held_in, packed, spread}
+use Rattle.go_store.specs.declared.cells.Place.{Place}
+use Rattle.go_store.proofs.Held.{ints_are, many_are}
+use Rattle.go_store.proofs.Overwritten.{on_ok_with, ints_run, places_run}
+use Rattle.go_store.proofs.Reached.{on_ok, on_err}
+use Rattle.go_store.proofs.Written.{put_many_is, put_ints_is}
+use Rattle.go_store.proofs.runs.push_run_of_ints.Goals as goal
+
+pub returns-in-Ints-clause-ok : goal.returns-in-Ints-clause-ok
+returns-in-Ints-clause-ok c = on_ok_with c.push_ints.result c.push_ints.ensures.within c.push_ints.ensures.ok (λ within same.
+    same ∙ sym (ap (λ (o : Option (List Val)). with_elements (unwrap_or o []) (packed c.args.all.now.items)) (ints_run c.args.from.now c.in-Ints.ints c.as_slice.result.now c.args.first c.args.len c.in-Ints.is c.as_slice.ensures.value within)))
+
+pub returns-in-Ints-clause-there : goal.returns-in-Ints-clause-there
+returns-in-Ints-clause-there c = on_ok c.push_ints.result c.push_ints.ensures.within (λ within.
+    subst (λ o. IsSome o) (sym (ints_run c.args.from.now c.in-Ints.ints c.as_slice.result.now c.args.first c.args.len c.in-Ints.is c.as_slice.ensures.value within)) refl)

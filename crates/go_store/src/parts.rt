@@ -1,0 +1,167 @@
+//! Parts of cells. Go specification, "Variables" and "Assignment statements".
+
+ghost use Rattle.std.specs.Prelude.{◌≡◌, ◌∷◌, Some, IfSome, IfOk, OnOk, OnErr, IsSome};
+ghost use Rattle.go_value.specs.Kinds.{integer, renumbered};
+ghost use Rattle.go_value.specs.Values.{value_of};
+ghost use Rattle.go_value.specs.Values as vals;
+ghost use Rattle.go_store.specs.Cells.{held, packed, read_at, updated, written_at, integer_in};
+
+use crate::cells::{Cell, whole};
+use crate::leaves::integer;
+use crate::memory::lost;
+use go_base::NoMemory;
+use go_value::Value;
+use std::alloc::Global;
+use std::mem;
+
+/// The value of a part of a cell.
+pub(crate) fn read(alloc: Global, cell: &Cell, steps: &[u32]) -> Result<Value, NoMemory>
+    ensures { IfOk result (λ value. read_at (held cell.now) steps.now ≡ Some (value_of value)) }
+{
+    let Some((step, rest)) = steps.split_first() else {
+        return whole(alloc, cell);
+    };
+    match cell {
+        Cell::Many(places) => match places.get(*step as usize) {
+            Some(place) => read(alloc, &place.cell, rest),
+            None => Err(lost()),
+        },
+        Cell::Ints(ints) => read_number(ints.as_slice(), *step, rest),
+        Cell::One(_) => Err(lost()),
+    }
+}
+
+fn read_number(ints: &[i128], step: u32, rest: &[u32]) -> Result<Value, NoMemory>
+    ensures { IfOk result (λ value. read_at (packed ints.now) (step ∷ rest.now) ≡ Some (value_of value)) }
+{
+    match number_at(ints, step, rest) {
+        Some(number) => Ok(Value::Int(number)),
+        None => Err(lost()),
+    }
+}
+
+/// The integer at a step. None where there is none, and where there are further steps.
+fn number_at(ints: &[i128], step: u32, rest: &[u32]) -> Option<i128>
+    ensures { result ≡ integer_in (read_at (packed ints.now) (step ∷ rest.now)) }
+{
+    if rest.is_empty() {
+        ints.get(step as usize).copied()
+    } else {
+        None
+    }
+}
+
+/// The integer that a part of a cell holds. None where it holds no integer.
+pub(crate) fn read_int(cell: &Cell, steps: &[u32]) -> Option<i128>
+    ensures { result ≡ integer_in (read_at (held cell.now) steps.now) }
+{
+    let Some((step, rest)) = steps.split_first() else {
+        return whole_int(cell);
+    };
+    match cell {
+        Cell::Many(places) => match places.get(*step as usize) {
+            Some(place) => read_int(&place.cell, rest),
+            None => None,
+        },
+        Cell::Ints(ints) => number_at(ints.as_slice(), *step, rest),
+        Cell::One(_) => None,
+    }
+}
+
+/// The integer that a cell holds. None where it holds no integer.
+#[tactic(auto, using(crate::proofs::Reached::of_integers))]
+pub(crate) fn whole_int(cell: &Cell) -> Option<i128>
+    ensures { result ≡ integer (held cell.now) }
+{
+    match cell {
+        Cell::One(leaf) => integer(&leaf.value),
+        Cell::Ints(_) | Cell::Many(_) => None,
+    }
+}
+
+/// The part of a cell that the steps lead to. None where there is none that stands by itself.
+pub(crate) fn part<'a>(cell: &'a Cell, steps: &[u32]) -> Option<&'a Cell>
+    ensures { IfSome result (λ part. read_at (held cell.now) steps.now ≡ Some (held part.now)) }
+{
+    let Some((step, rest)) = steps.split_first() else {
+        return Some(cell);
+    };
+    match cell {
+        Cell::Many(places) => part(&places.get(*step as usize)?.cell, rest),
+        Cell::Ints(_) | Cell::One(_) => None,
+    }
+}
+
+/// Puts a new cell in the place of a part; `new` holds what stood there after it.
+pub(crate) fn write(cell: &mut Cell, steps: &[u32], new: &mut Cell) -> Result<(), NoMemory>
+    ensures ok { OnOk result (held cell.new ≡ written_at (held new.old) (held cell.old) steps.now) }
+    ensures there { OnOk result (IsSome (read_at (held cell.old) steps.now)) }
+    ensures err { OnErr result (held cell.new ≡ held cell.old) }
+{
+    let Some((step, rest)) = steps.split_first() else {
+        mem::swap(cell, new);
+        return Ok(());
+    };
+    match cell {
+        Cell::Many(places) => match places.get_mut(*step as usize) {
+            Some(place) => write(&mut place.cell, rest, new),
+            None => Err(lost()),
+        },
+        Cell::Ints(ints) => match whole_int(new) {
+            Some(number) => write_number(ints.as_mut_slice(), *step, rest, number),
+            None => Err(lost()),
+        },
+        Cell::One(_) => Err(lost()),
+    }
+}
+
+fn write_number(ints: &mut [i128], step: u32, rest: &[u32], number: i128) -> Result<(), NoMemory>
+    ensures ok { OnOk result (packed ints.new ≡ written_at (vals.number number) (packed ints.old) (step ∷ rest.now)) }
+    ensures there { OnOk result (IsSome (read_at (packed ints.old) (step ∷ rest.now))) }
+    ensures err { OnErr result (ints.new ≡ ints.old) }
+{
+    if !rest.is_empty() || step as usize >= ints.len() {
+        return Err(lost());
+    }
+    ints[step as usize] = number;
+    Ok(())
+}
+
+/// Puts an integer in the place of one, where there is one.
+pub(crate) fn write_int(cell: &mut Cell, steps: &[u32], number: i128)
+    ensures { held cell.new ≡ updated (renumbered number) (held cell.old) steps.now }
+{
+    let Some((step, rest)) = steps.split_first() else {
+        write_whole_int(cell, number);
+        return;
+    };
+    match cell {
+        Cell::Many(places) => {
+            if let Some(place) = places.get_mut(*step as usize) {
+                write_int(&mut place.cell, rest, number);
+            }
+        }
+        Cell::Ints(ints) => renumber_at(ints.as_mut_slice(), *step, rest, number),
+        Cell::One(_) => {}
+    }
+}
+
+fn renumber_at(ints: &mut [i128], step: u32, rest: &[u32], number: i128)
+    ensures { packed ints.new ≡ updated (renumbered number) (packed ints.old) (step ∷ rest.now) }
+{
+    if rest.is_empty() {
+        if (step as usize) < ints.len() {
+            ints[step as usize] = number;
+        }
+    }
+}
+
+fn write_whole_int(cell: &mut Cell, number: i128)
+    ensures { held cell.new ≡ renumbered number (held cell.old) }
+{
+    match cell {
+        Cell::One(leaf) => leaf.renumber(number),
+        Cell::Ints(_) => {}
+        Cell::Many(_) => {}
+    }
+}

@@ -1,0 +1,13 @@
+pub mod Above
+pub mod Aboves
+pub mod Counted
+pub mod Members
+pub mod Reaching
+pub mod Dominance
+pub mod Homed
+pub mod Exact
+pub mod Rising
+pub mod Listed
+pub mod Pushed
+pub mod Checked
+pub mod Judged

@@ -1,0 +1,9 @@
+pub mod Sane
+pub mod Flow
+pub mod Walks
+pub mod Trees
+pub mod Reach
+pub mod Homes
+pub mod Counts
+pub mod Places
+pub mod Checks

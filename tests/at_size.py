@@ -1,0 +1,99 @@
+#!/usr/bin/env python3
+"""Programs at size, through the command: limits, and that nothing gives up before them.
+
+usage: at_size.py BINARY
+
+Each case is a tree of files, the words of the command, and the line of standard error and the status that are wanted. No
+time is asked but that a case ends within two minutes. The last line is 'N passed, M failed'."""
+import pathlib
+import subprocess
+import sys
+import tempfile
+
+MIB = 1 << 20
+
+
+def declared(count):
+    """So many declared types, each of which points to the next."""
+    lines = [f"type T{n} struct{{ next *T{(n + 1) % count} }}" for n in range(count)]
+    return "package main\n" + "\n".join(lines) + "\nfunc main() { var t T0; _ = t }\n"
+
+
+def doubled(depth):
+    """A struct to whose innermost part 2^depth ways lead, of no size."""
+    lines = ["type S0 struct{ a, b [0]int }"]
+    lines += [f"type S{n} struct{{ a, b [0]S{n - 1} }}" for n in range(1, depth)]
+    last = f"S{depth - 1}"
+    return "package main\n" + "\n".join(lines) + f"\nfunc main() {{ var a, b {last}; println(a == b) }}\n"
+
+
+def embedded(count):
+    """A chain of embedded pointers with a field at its end."""
+    lines = ["type E0 struct{ last int }"] + [f"type E{n} struct{{ *E{n - 1} }}" for n in range(1, count)]
+    return "package main\n" + "\n".join(lines) + f"\nfunc f(e *E{count - 1}) int {{ return e.last }}\nfunc main() {{ _ = f }}\n"
+
+
+def leaves(count):
+    return f"package main\nvar a [{count}]int\nfunc main() {{ _ = a }}\n"
+
+
+def parentheses(count):
+    return "package main\nfunc main() {\n\tx := 1\n\t_ = " + "(" * count + "x" + ")" * count + "\n}\n"
+
+
+def commented(size):
+    """A file of a size, most of which is a comment."""
+    text = "package main\n/*"
+    return text + "x" * (size - len(text) - 3) + "*/\n"
+
+
+def many(names, of):
+    return {name: of for name in names}
+
+
+def cases():
+    main = "package main\nfunc main() {}\n"
+    yield "110,000 declared types", {"a.go": declared(110_000)}, ["a.go"], "", 0
+    yield "2^60 ways to a part", {"a.go": doubled(60)}, ["-run", "a.go"], "", 0
+    yield "2,000 embedded pointers", {"a.go": embedded(2_000)}, ["a.go"], "", 0
+    yield "1,048,576 leaves", {"a.go": leaves(1_048_576)}, ["a.go"], "", 0
+    yield "one leaf more", {"a.go": leaves(1_048_577)}, ["a.go"], "a.go:2:7: type too large (N11)", 1
+    yield "390 parentheses", {"a.go": parentheses(390)}, ["a.go"], "", 0
+    yield "a file of 4 MiB", {"a.go": main, "b.go": commented(4 * MIB)}, ["."], "", 0
+    yield "a byte more", {"a.go": main, "b.go": commented(4 * MIB + 1)}, ["."], "b.go:1:1: file too large (M5)", 1
+    names = [f"b{n:02}.go" for n in range(16)]
+    whole = commented(4 * MIB)
+    first = commented(4 * MIB - len(main))
+    yield "64 MiB in all", {"a.go": main, "b.go": first, **many(names[1:], whole)}, ["."], "", 0
+    yield "more than 64 MiB", {"a.go": main, **many(names, whole)}, ["."], "b15.go:1:1: program too large (M6)", 1
+
+
+def failure(binary, files, words, wanted, status):
+    """What is wrong with a case; nothing where it is as wanted."""
+    with tempfile.TemporaryDirectory() as room:
+        for name, text in files.items():
+            pathlib.Path(room, name).write_text(text)
+        try:
+            done = subprocess.run([binary, *words], cwd=room, capture_output=True, timeout=120)
+        except subprocess.TimeoutExpired:
+            return "it did not end"
+    found = done.stderr.decode(errors="replace").strip()
+    if found != wanted or done.returncode != status:
+        return f"status {done.returncode}, {found!r}"
+    return ""
+
+
+def main():
+    binary = str(pathlib.Path(sys.argv[1]).resolve())
+    passed = failed = 0
+    for name, files, words, wanted, status in cases():
+        wrong = failure(binary, files, words, wanted, status)
+        if wrong:
+            print(f"{name}: {wrong}")
+        passed, failed = passed + (not wrong), failed + bool(wrong)
+    print(f"{passed} passed, {failed} failed")
+    return 1 if failed else 0
+
+
+if __name__ == "__main__":
+    sys.exit(main())
