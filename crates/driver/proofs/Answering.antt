@@ -22,7 +22,7 @@ use Rattle.program_work.specs.Outputs.{Comes, Finishes, IsUnfinished}
 use Rattle.driver.specs.Performing.{IsUsage, outcome_of}
 use Rattle.program_work.specs.Stopping.{outcome_at}
 use Rattle.driver.specs.WholeAnswer.{Answers, Becomes, HasProgram, IsRight, Works, generated, loaded, on_generated, on_loaded}
-use Rattle.program_work.specs.Working.{IsResult, broken, done, outside, ran, worked}
+use Rattle.program_work.specs.Working.{IsResult, broken, done, outside, ran, served, worked}
 use Rattle.program_work.proofs.Written.{finished_stops, finishes_as, unfinished_as}
 
 -- ---- what is right for what was asked
@@ -44,8 +44,8 @@ works_right words files command sources outcome output asked is result = go resu
 
     go : IsResult command (files_of sources) outcome output → IsRight words files outcome output
     go (broken b n) = as_refused words files outcome b.place b.rule output b.outcome_is works
-    go (outside w e n) = as_refused words files outcome _ _ output e works
-    go (worked w) = elim w.ends [ done idle e n ↦ as_done words files outcome output e works | ran runs ending e run ↦ as_ended words files outcome ending output e works ]
+    go (served program (outside w e n)) = as_refused words files outcome _ _ output e works
+    go (served program (worked w)) = elim w.ends [ done idle e n ↦ as_done words files outcome output e works | ran runs ending e ↦ as_ended words files outcome ending output e works ]
 
 generated_right : (words : List (List ℕ)) (files : Option Tree) (count : ℕ) (outcome : Outcome) (output : List ℕ) → command_of words ≡ Ok (commands.Generate count) → IsGenerated count outcome output → IsRight words files outcome output
 generated_right words files count outcome output asked is = as_ended words files outcome is.ending output is.outcome_is (on_generated count asked is)

@@ -4,17 +4,24 @@ use Rattle.std.proofs.KnownBytes.{Appends-nil}
 use Rattle.command_line.specs.declared.command.LoadCommand.{LoadCommand}
 use Rattle.go_sources.specs.declared.sources.SourceFile.{SourceFile}
 use Rattle.program_work.specs.Checking.{IsRefusal}
+use Rattle.go_tree.specs.declared.program.Program.{Program}
 use Rattle.program_work.specs.Outputs.{Comes}
-use Rattle.program_work.specs.Working.{IsResult, broken}
+use Rattle.program_work.specs.Working.{IsResult, IsServed, broken, served}
 use Rattle.program_work.specs.declared.outcome.Outcome.{Outcome}
 use Rattle.program_work.specs.declared.outcome.Outcome.TheVariants as outcomes
 use Rattle.program_work.specs.declared.stop.Stop.TheVariants as stops
+use Rattle.program_work.proofs.Written.{finishes_as, unfinished_as}
 
 -- a refusal
 pub refusal_comes : (command : LoadCommand) (files : List SourceFile) (outcome : Outcome) (told : Option (List ℕ)) → IsRefusal files outcome → Comes (IsResult command files) outcome told told
 refusal_comes command files outcome told (inl is) = inl (record { output = []; is_right = broken is refl; appends = Appends-nil told })
 refusal_comes command files outcome told (inr (inl e)) = inr ((stops.OutOfMemory, e), inl (Appends-nil told))
 refusal_comes command files outcome told (inr (inr e)) = inr ((stops.Internal, e), inl (Appends-nil told))
+
+-- what the work on a program comes to
+pub served_comes : (command : LoadCommand) (files : List SourceFile) (program : Program) (outcome : Outcome) (old new : Option (List ℕ)) → Comes (IsServed command files program) outcome old new → Comes (IsResult command files) outcome old new
+served_comes command files program outcome old new (inl f) = inl (finishes_as (IsServed command files program) (IsResult command files) outcome outcome old new (λ output is. served program is) f)
+served_comes command files program outcome old new (inr p) = inr (p.0, unfinished_as (IsServed command files program) (IsResult command files) (λ (o : Outcome). o) old new (λ value output is. served program is) p.1)
 
 -- a refusal is no fault
 pub refusal_faultless : (files : List SourceFile) (outcome : Outcome) → IsRefusal files outcome → outcome ≡ outcomes.WriteFault → ⊥

@@ -7,7 +7,7 @@ use std::alloc::Global;
 use std::test::Fail;
 
 /// Whether tokens have these kinds, starts and ends.
-pub fn are_tokens(tokens: &[Token], want: &[(Kind, u32, u32)]) -> bool {
+fn are_tokens(tokens: &[Token], want: &[(Kind, u32, u32)]) -> bool {
     for (token, (kind, start, end)) in tokens.iter().zip(want) {
         if (token.kind, token.start, token.end) != (*kind, *start, *end) {
             return false;

@@ -1,5 +1,4 @@
-mod Programs
 pub mod Written
-mod Sinks
+mod Graphs
 mod Working
 pub mod Judged

@@ -4,7 +4,6 @@ use Rattle.std.proofs.lemmas.List.{append-nil}
 use Rattle.std.proofs.KnownBytes.{Appends-nil, Appends-trans}
 use Rattle.std.specs.Io.KnownBytes.{Appends}
 use Rattle.go_base.specs.Devices.{AppendsFront}
-use Rattle.go_interp.specs.Output.{HasWritten}
 use Rattle.program_work.specs.declared.stop.Stop.{Stop}
 use Rattle.program_work.specs.Outputs.{Does, Finishes, IsUnfinished}
 
@@ -15,6 +14,15 @@ whole_front old new output appends = record { front = output; rest = []; parts =
 -- more was to come
 pub front_before : (old new : Option (List ℕ)) (a b : List ℕ) → Appends old new a → AppendsFront old new (a ++ b)
 front_before old new a b appends = record { front = a; rest = b; parts = refl; appends = appends }
+
+-- a front of something is a front of more
+pub front_longer : (old new : Option (List ℕ)) (a b : List ℕ) → AppendsFront old new a → AppendsFront old new (a ++ b)
+front_longer old new a b first = record {
+  front = first.front;
+  rest = first.rest ++ b;
+  parts = ap (λ l. l ++ b) first.parts ∙ append_assoc first.front first.rest b;
+  appends = first.appends;
+}
 
 -- a front of what comes behind
 pub front_behind : (old mid new : Option (List ℕ)) (a b : List ℕ) → Appends old mid a → AppendsFront mid new b → AppendsFront old new (a ++ b)
@@ -51,7 +59,3 @@ unfinished_as P Q f old new turns (inr s) = inr (record { value = f s.value; out
 pub does_stop : {A : Type 0} (right : A → List ℕ → Type 0) (result : Result A Stop) (old new : Option (List ℕ)) → IsErr result → IsUnfinished right old new → Does right result old new
 does_stop right (Ok value) old new failed u = cc
 does_stop right (Err stop) old new failed u = u
-
--- a front is something that was written
-pub front_written : (old new : Option (List ℕ)) (text : List ℕ) → AppendsFront old new text → HasWritten old new
-front_written old new text f = record { output = f.front; appends = f.appends }

@@ -5,10 +5,14 @@ use Rattle.std.specs.Io.KnownBytes.{Appends}
 use Rattle.command_line.specs.declared.command.Graph.{Graph}
 use Rattle.command_line.specs.declared.command.Letters.{Letters}
 use Rattle.command_line.specs.declared.command.LoadCommand.{LoadCommand}
+use Rattle.cg_listing.specs.Listing as listed
+use Rattle.cg_sets.specs.declared.edges.Edge.{Edge}
+use Rattle.go_base.specs.Devices.{AppendsFront}
 use Rattle.go_base.specs.declared.ending.Ending.{Ending}
 use Rattle.go_base.specs.declared.place.Place.{Place}
 use Rattle.go_base.specs.declared.rule.Rule.TheVariants as rules
 use Rattle.go_sources.specs.declared.sources.SourceFile.{SourceFile}
+use Rattle.go_tree.specs.declared.program.Program.{Program}
 use Rattle.ssa_ir.specs.declared.code.Code.{Code}
 use Rattle.ssa_ir.specs.declared.code.Function.{Function}
 use Rattle.ssa_print.specs.Codes as shown
@@ -19,7 +23,6 @@ use Rattle.program_work.specs.declared.outcome.Outcome.{Outcome}
 use Rattle.program_work.specs.declared.outcome.Outcome.TheVariants as outcomes
 use Rattle.program_work.specs.Asked.{wants_registers}
 use Rattle.program_work.specs.Checking.{IsBroken}
-use Rattle.program_work.specs.Running.{IsRunOf}
 
 -- the path of the target's first file
 abbrev pub first_path : List SourceFile → List ℕ
@@ -49,32 +52,42 @@ abbrev pub IsCodeText : Option Letters → List ℕ → Type 0
 IsCodeText None text = text ≡ []
 IsCodeText (Some letters) text = IsSoundText letters text
 
--- the listing of a graph, where one is asked; of the listing nothing is said yet
-abbrev pub IsListing : Option Graph → List ℕ → Type 0
-IsListing None text = text ≡ []
-IsListing (Some graph) text = Unit {0}
+-- the listing of some edges between functions of a program; that they are those of the graph is not said yet
+pub record IsGraphText (files : List SourceFile) (program : Program) (text : List ℕ) : Type 0 where
+  pub edges : List Edge
+  pub is : listed.IsListing files program edges text
 
--- how the work ends, with what the run writes, where one is asked
-pub data EndsIn (command : LoadCommand) (files : List SourceFile) (outcome : Outcome) (output : List ℕ) : Type 0 where
-  done : command.run ≡ false → outcome ≡ outcomes.Done → output ≡ [] → EndsIn command files outcome output
-  ran : command.run ≡ true → (ending : Ending) → outcome ≡ outcomes.Ended ending → IsRunOf command files ending output → EndsIn command files outcome output
+-- the listing of a graph, where one is asked
+abbrev pub IsListing : List SourceFile → Program → Option Graph → List ℕ → Type 0
+IsListing files program None text = text ≡ []
+IsListing files program (Some graph) text = IsGraphText files program text
 
--- the work that a command asks for, which is built
-pub record IsWork (command : LoadCommand) (files : List SourceFile) (outcome : Outcome) (output : List ℕ) : Type 0 where
+-- how the work ends; of what a run writes, and of which ending it has, nothing is said yet
+pub data EndsIn (command : LoadCommand) (outcome : Outcome) (output : List ℕ) : Type 0 where
+  done : command.run ≡ false → outcome ≡ outcomes.Done → output ≡ [] → EndsIn command outcome output
+  ran : command.run ≡ true → (ending : Ending) → outcome ≡ outcomes.Ended ending → EndsIn command outcome output
+
+-- the work that a command asks for, which is built: the text of the code, the listing, and what the run writes
+pub record IsWork (command : LoadCommand) (files : List SourceFile) (program : Program) (outcome : Outcome) (output : List ℕ) : Type 0 where
   pub built : wants_registers command ≡ false
   pub code : List ℕ
   pub listing : List ℕ
   pub run : List ℕ
   pub is_code : IsCodeText command.build code
-  pub is_listing : IsListing command.callgraph listing
-  pub ends : EndsIn command files outcome run
+  pub is_listing : IsListing files program command.callgraph listing
+  pub ends : EndsIn command outcome run
   pub parts : output ≡ code ++ (listing ++ run)
 
--- the right outcome for a program that was loaded: it breaks a rule, what is asked is not built, or the work is done
+-- the right outcome of the work on a program that breaks no rule: what is asked is not built, or the work is done
+pub data IsServed (command : LoadCommand) (files : List SourceFile) (program : Program) (outcome : Outcome) (output : List ℕ) : Type 0 where
+  outside : wants_registers command ≡ true → outcome ≡ outcomes.Refused (start_of (first_path files)) rules.NotBuiltYet → output ≡ [] → IsServed command files program outcome output
+  worked : IsWork command files program outcome output → IsServed command files program outcome output
+
+-- the right outcome for files that were loaded: they break a rule; or they make a program, of which nothing is said yet,
+-- and what is asked of it comes to this
 pub data IsResult (command : LoadCommand) (files : List SourceFile) (outcome : Outcome) (output : List ℕ) : Type 0 where
   broken : IsBroken files outcome → output ≡ [] → IsResult command files outcome output
-  outside : wants_registers command ≡ true → outcome ≡ outcomes.Refused (start_of (first_path files)) rules.NotBuiltYet → output ≡ [] → IsResult command files outcome output
-  worked : IsWork command files outcome output → IsResult command files outcome output
+  served : (program : Program) → IsServed command files program outcome output → IsResult command files outcome output
 
 -- ---- what the parts of the code come to
 
@@ -82,8 +95,17 @@ pub data IsResult (command : LoadCommand) (files : List SourceFile) (outcome : O
 abbrev pub IsNotBuilt : List ℕ → Outcome → Type 0
 IsNotBuilt path outcome = (outcome ≡ outcomes.Refused (start_of path) rules.NotBuiltYet) ⊎ (outcome ≡ outcomes.OutOfMemory)
 
--- a listing was written, or a front of one, where one is asked
-pub record Lists (graph : Option Graph) (old new : Option (List ℕ)) : Type 0 where
+-- a listing was written, where one is asked
+pub record Lists (files : List SourceFile) (program : Program) (graph : Option Graph) (old new : Option (List ℕ)) : Type 0 where
   pub text : List ℕ
-  pub is_listing : IsListing graph text
+  pub is_listing : IsListing files program graph text
   pub appends : Appends old new text
+
+pub record ListsPart (files : List SourceFile) (program : Program) (graph : Option Graph) (old new : Option (List ℕ)) : Type 0 where
+  pub text : List ℕ
+  pub is_listing : IsListing files program graph text
+  pub appends : AppendsFront old new text
+
+-- a front of a listing was written, or nothing
+abbrev pub ListsFront : List SourceFile → Program → Option Graph → Option (List ℕ) → Option (List ℕ) → Type 0
+ListsFront files program graph old new = ListsPart files program graph old new ⊎ Appends old new []

@@ -1,9 +1,10 @@
 //! Call graphs of a program: their listing, and how many edges they have.
 
-ghost use Rattle.std.specs.Prelude.{◌≤◌, IsErrOf};
+ghost use Rattle.std.specs.Prelude.{◌≤◌, IsErrOf, OnErr, OnOk};
+ghost use Rattle.cg_listing.specs.Listing.{Writes, WritesFront};
 ghost use Rattle.go_base.specs.Devices.{HasFaulted};
-ghost use Rattle.go_interp.specs.Output.{HasWritten};
-ghost use Rattle.program_work.specs.Working.{Lists};
+ghost use Rattle.go_sources.specs.Sources.{files_of};
+ghost use Rattle.program_work.specs.Working.{Lists, ListsFront};
 ghost use Rattle.program_work.specs.declared.stop.Stop.TheVariants.{WriteFault};
 
 use crate::stop::Stop;
@@ -24,7 +25,8 @@ pub fn list_graph<O: Sink>(
     program: &Program,
     out: &mut O,
 ) -> Result<(), Stop>
-    ensures lists { Lists graph (O.written out.old) (O.written out.new) }
+    ensures lists { OnOk result (Lists (files_of sources.now) program.now graph (O.written out.old) (O.written out.new)) }
+    ensures front { OnErr result (ListsFront (files_of sources.now) program.now graph (O.written out.old) (O.written out.new)) }
     ensures fault { IsErrOf result WriteFault → HasFaulted (O.faults out.old) (O.faults out.new) }
     ensures later { O.faults out.old ≤ O.faults out.new }
 {
@@ -43,7 +45,8 @@ fn list_edges<O: Sink>(
     program: &Program,
     out: &mut O,
 ) -> Result<(), Stop>
-    ensures written { HasWritten (O.written out.old) (O.written out.new) }
+    ensures lists { OnOk result (Writes (files_of sources.now) program.now edges.now (O.written out.old) (O.written out.new)) }
+    ensures front { OnErr result (WritesFront (files_of sources.now) program.now edges.now (O.written out.old) (O.written out.new)) }
     ensures fault { IsErrOf result WriteFault → HasFaulted (O.faults out.old) (O.faults out.new) }
     ensures later { O.faults out.old ≤ O.faults out.new }
 {

@@ -3,11 +3,8 @@
 #![tactic(auto)]
 
 mod coding;
-mod first_form;
 mod graphs;
-mod literals;
 mod outcome;
-mod output;
 mod printing;
 mod stop;
 mod work;

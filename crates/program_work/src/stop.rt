@@ -9,7 +9,6 @@ use go_base::{NoMemory, SinkError};
 use go_interp::RunError;
 use ssa_sane::SanityError;
 use ssa_typed::TypedError;
-use std::alloc::AllocError;
 
 /// Why work that was begun does not come to its end.
 #[derive(Clone, Copy)]
@@ -38,14 +37,6 @@ impl From<NoMemory> for Stop {
     ghost from_gives = { λ _ stop. stop ≡ OutOfMemory };
 
     fn from(_: NoMemory) -> Stop {
-        Stop::OutOfMemory
-    }
-}
-
-impl From<AllocError> for Stop {
-    ghost from_gives = { λ _ stop. stop ≡ OutOfMemory };
-
-    fn from(_: AllocError) -> Stop {
         Stop::OutOfMemory
     }
 }

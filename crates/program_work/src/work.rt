@@ -6,13 +6,11 @@ ghost use Rattle.go_interp.specs.Output.{HasWritten};
 ghost use Rattle.go_sources.specs.Sources.{files_of};
 ghost use Rattle.program_work.specs.Asked.{wants_registers};
 ghost use Rattle.program_work.specs.Outputs.{Comes, Does};
-ghost use Rattle.program_work.specs.Running.{IsKnown, IsOther};
-ghost use Rattle.program_work.specs.Working.{first_path, IsNotBuilt, IsResult, IsSound, IsWork};
+ghost use Rattle.program_work.specs.Working.{first_path, IsNotBuilt, IsServed, IsSound, IsWork};
 ghost use Rattle.program_work.specs.declared.stop.Stop.TheVariants.{WriteFault};
 
 use crate::coding::sound_code;
 use crate::graphs::list_graph;
-use crate::literals::{known_output, run_known};
 use crate::outcome::Outcome;
 use crate::printing::print_code;
 use crate::stop::Stop;
@@ -32,7 +30,7 @@ pub fn work_on<O: Sink>(
     program: &Program,
     out: &mut O,
 ) -> Outcome
-    ensures comes { Comes (IsResult command.now (files_of sources.now)) result (O.written out.old) (O.written out.new) }
+    ensures comes { Comes (IsServed command.now (files_of sources.now) program.now) result (O.written out.old) (O.written out.new) }
     ensures fault { result ≡ Outcome.WriteFault → HasFaulted (O.faults out.old) (O.faults out.new) }
     ensures later { O.faults out.old ≤ O.faults out.new }
 {
@@ -92,7 +90,7 @@ fn work_built<O: Sink>(
     out: &mut O,
 ) -> Result<Outcome, Stop>
     requires { wants_registers command.now ≡ false }
-    ensures does { Does (IsWork command.now (files_of sources.now)) result (O.written out.old) (O.written out.new) }
+    ensures does { Does (IsWork command.now (files_of sources.now) program.now) result (O.written out.old) (O.written out.new) }
     ensures fault { IsErrOf result WriteFault → HasFaulted (O.faults out.old) (O.faults out.new) }
     ensures later { O.faults out.old ≤ O.faults out.new }
 {
@@ -119,7 +117,7 @@ fn print_and_work<O: Sink>(
 ) -> Result<Outcome, Stop>
     requires built { wants_registers command.now ≡ false }
     requires asked { command.now.build ≡ Some letters }
-    ensures does { Does (IsWork command.now (files_of sources.now)) result (O.written out.old) (O.written out.new) }
+    ensures does { Does (IsWork command.now (files_of sources.now) program.now) result (O.written out.old) (O.written out.new) }
     ensures fault { IsErrOf result WriteFault → HasFaulted (O.faults out.old) (O.faults out.new) }
     ensures later { O.faults out.old ≤ O.faults out.new }
 {
@@ -140,7 +138,7 @@ fn work_with_code<O: Sink>(
     requires built { wants_registers command.now ≡ false }
     requires asked { command.now.build ≡ Some letters }
     requires sound { IsSound code.now }
-    ensures does { Does (IsWork command.now (files_of sources.now)) result (O.written out.old) (O.written out.new) }
+    ensures does { Does (IsWork command.now (files_of sources.now) program.now) result (O.written out.old) (O.written out.new) }
     ensures fault { IsErrOf result WriteFault → HasFaulted (O.faults out.old) (O.faults out.new) }
     ensures later { O.faults out.old ≤ O.faults out.new }
 {
@@ -163,7 +161,7 @@ fn list_alone<O: Sink>(
 ) -> Result<Outcome, Stop>
     requires no_code { command.now.build ≡ None }
     requires no_run { command.now.run ≡ false }
-    ensures does { Does (IsWork command.now (files_of sources.now)) result (O.written out.old) (O.written out.new) }
+    ensures does { Does (IsWork command.now (files_of sources.now) program.now) result (O.written out.old) (O.written out.new) }
     ensures fault { IsErrOf result WriteFault → HasFaulted (O.faults out.old) (O.faults out.new) }
     ensures later { O.faults out.old ≤ O.faults out.new }
 {
@@ -171,7 +169,7 @@ fn list_alone<O: Sink>(
     Ok(Outcome::Done)
 }
 
-// Lists the graph where one is asked, and runs the program. What it is run by is made before.
+// Lists the graph where one is asked, and runs the program's code, which is made before.
 fn list_and_run<O: Sink>(
     alloc: Global,
     command: &LoadCommand,
@@ -181,49 +179,7 @@ fn list_and_run<O: Sink>(
 ) -> Result<Outcome, Stop>
     requires no_code { command.now.build ≡ None }
     requires run { command.now.run ≡ true }
-    ensures does { Does (IsWork command.now (files_of sources.now)) result (O.written out.old) (O.written out.new) }
-    ensures fault { IsErrOf result WriteFault → HasFaulted (O.faults out.old) (O.faults out.new) }
-    ensures later { O.faults out.old ≤ O.faults out.new }
-{
-    match known_output(alloc, sources)? {
-        Some(text) => list_and_run_known(alloc, text.as_slice(), command, sources, program, out),
-        None => list_and_run_code(alloc, command, sources, program, out),
-    }
-}
-
-// Does so with a program that prints this.
-fn list_and_run_known<O: Sink>(
-    alloc: Global,
-    text: &[u8],
-    command: &LoadCommand,
-    sources: &Sources,
-    program: &Program,
-    out: &mut O,
-) -> Result<Outcome, Stop>
-    requires no_code { command.now.build ≡ None }
-    requires run { command.now.run ≡ true }
-    requires known { IsKnown (files_of sources.now) text.now }
-    ensures does { Does (IsWork command.now (files_of sources.now)) result (O.written out.old) (O.written out.new) }
-    ensures fault { IsErrOf result WriteFault → HasFaulted (O.faults out.old) (O.faults out.new) }
-    ensures later { O.faults out.old ≤ O.faults out.new }
-{
-    list_graph(alloc, command.callgraph, sources, program, out)?;
-    let ending = run_known(text, command.bound, out)?;
-    Ok(Outcome::Ended(ending))
-}
-
-// Does so by the program's code.
-fn list_and_run_code<O: Sink>(
-    alloc: Global,
-    command: &LoadCommand,
-    sources: &Sources,
-    program: &Program,
-    out: &mut O,
-) -> Result<Outcome, Stop>
-    requires no_code { command.now.build ≡ None }
-    requires run { command.now.run ≡ true }
-    requires other { IsOther (files_of sources.now) }
-    ensures does { Does (IsWork command.now (files_of sources.now)) result (O.written out.old) (O.written out.new) }
+    ensures does { Does (IsWork command.now (files_of sources.now) program.now) result (O.written out.old) (O.written out.new) }
     ensures fault { IsErrOf result WriteFault → HasFaulted (O.faults out.old) (O.faults out.new) }
     ensures later { O.faults out.old ≤ O.faults out.new }
 {
