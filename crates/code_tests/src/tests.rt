@@ -1,9 +1,9 @@
 //! Codes, written as tables.
 
-mod cases;
 mod graphs;
 mod kinds;
 mod lists;
+mod memory;
 mod rows;
 mod texts;
 mod typed;

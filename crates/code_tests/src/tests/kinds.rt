@@ -2,43 +2,55 @@
 
 use go_base::{NameId, Names, NoMemory, Text, TypeId};
 use go_text::Labels;
-use go_type::{
-    Basic, Dir, Fields, MethodTypes, Signature, TypeIds, TypeName, TypeTerm, Types, basic,
-};
+use go_type::{Basic, Fields, TypeIds, TypeName, TypeTerm, Types, basic};
 use ssa_ir::{Code, CodeVariables, ConstValue, Functions, MethodLines, Operand};
 use std::alloc::Global;
 
-/// The types of the tests, in a code of one package.
+/// `type point struct{}`, its underlying type, and the pointer to it.
 #[derive(Clone, Copy)]
 pub struct Kinds {
-    pub int: TypeId,
-    pub truth: TypeId,
-    pub text: TypeId,
     pub point: TypeId,
     pub shape: TypeId,
     pub pointer: TypeId,
-    pub slice: TypeId,
-    pub table: TypeId,
-    pub pair: TypeId,
-    pub any: TypeId,
-    pub byte: TypeId,
-    pub channel: TypeId,
-    pub steps: TypeId,
-    pub method: TypeId,
 }
 
 /// An empty code of the packages `main` and `lib`, with a name of a type, two of variables and one of a method.
 pub fn code(alloc: Global) -> Result<Code, NoMemory> {
     let (error, method) = (NameId { number: 0 }, NameId { number: 1 });
-    Ok(Code {
-        types: Types::new(alloc, error, method)?,
-        names: names(alloc)?,
-        packages: packages(alloc)?,
+    let types = Types::new(alloc, error, method);
+    let parts = both(types, both(names(alloc), packages(alloc)))?;
+    Ok(code_of(alloc, parts))
+}
+
+type Parts = (Types, (Names, Labels));
+
+fn code_of(alloc: Global, parts: Parts) -> Code {
+    let (types, (names, packages)) = parts;
+    Code {
+        types,
+        names,
+        packages,
         declared: TypeIds::new(alloc),
         variables: CodeVariables::new(alloc),
         methods: MethodLines::new(alloc),
         functions: Functions::new(alloc),
-    })
+    }
+}
+
+/// Two things, where both came.
+fn both<A: Drop, B: Drop>(
+    first: Result<A, NoMemory>,
+    second: Result<B, NoMemory>,
+) -> Result<(A, B), NoMemory> {
+    match (first, second) {
+        (Ok(first), Ok(second)) => Ok((first, second)),
+        _ => Err(NoMemory),
+    }
+}
+
+/// A thing, where what was done to it succeeded.
+pub fn kept<T: Drop>(thing: T, done: Result<(), NoMemory>) -> Result<T, NoMemory> {
+    done.map(|()| thing)
 }
 
 fn names(alloc: Global) -> Result<Names, NoMemory> {
@@ -72,23 +84,17 @@ pub fn make_kinds(alloc: Global, types: &mut Types) -> Result<Kinds, NoMemory> {
         return Err(NoMemory);
     }
     let point = types.declare(POINT)?;
-    let ids = hold_terms(alloc, types, point)?;
-    let kinds = kinds_of(point, ids.as_slice());
-    if !types.can_define(point, kinds.shape) {
+    let shape = hold(types, TypeTerm::Struct(Fields::new(alloc)))?;
+    let pointer = hold(types, TypeTerm::Pointer(point))?;
+    if !types.can_define(point, shape) {
         return Err(NoMemory);
     }
-    types.define(point, kinds.shape);
-    Ok(kinds)
-}
-
-/// Holds the types that are not basic, in their order.
-fn hold_terms(alloc: Global, types: &mut Types, point: TypeId) -> Result<Vec<TypeId>, NoMemory> {
-    let mut ids = Vec::new(alloc);
-    for place in 0..9 {
-        let term = term_at(alloc, place, point, at(ids.as_slice(), 1))?;
-        ids.push(hold(types, term)?)?;
-    }
-    Ok(ids)
+    types.define(point, shape);
+    Ok(Kinds {
+        point,
+        shape,
+        pointer,
+    })
 }
 
 fn hold(types: &mut Types, term: TypeTerm) -> Result<TypeId, NoMemory> {
@@ -99,52 +105,6 @@ fn hold(types: &mut Types, term: TypeTerm) -> Result<TypeId, NoMemory> {
     }
 }
 
-fn term_at(
-    alloc: Global,
-    place: u32,
-    point: TypeId,
-    pointer: TypeId,
-) -> Result<TypeTerm, NoMemory> {
-    match place {
-        0 => Ok(TypeTerm::Struct(Fields::new(alloc))),
-        2 => Ok(TypeTerm::Interface(MethodTypes::new(alloc))),
-        3 => pair(alloc),
-        4 => method(alloc),
-        _ => Ok(plain_term(place, point, pointer)),
-    }
-}
-
-fn plain_term(place: u32, point: TypeId, pointer: TypeId) -> TypeTerm {
-    let int = basic(Basic::Int);
-    match place {
-        1 => TypeTerm::Pointer(point),
-        5 => TypeTerm::Slice(int),
-        6 => TypeTerm::Map {
-            key: int,
-            elem: pointer,
-        },
-        7 => TypeTerm::Chan {
-            dir: Dir::Both,
-            elem: int,
-        },
-        _ => TypeTerm::Iter(basic(Basic::Text)),
-    }
-}
-
-/// `(int, bool)`
-fn pair(alloc: Global) -> Result<TypeTerm, NoMemory> {
-    Ok(TypeTerm::Tuple(basics(alloc, &[Basic::Int, Basic::Bool])?))
-}
-
-/// `func() int`
-fn method(alloc: Global) -> Result<TypeTerm, NoMemory> {
-    Ok(TypeTerm::Func(Signature {
-        params: TypeIds::new(alloc),
-        results: basics(alloc, &[Basic::Int])?,
-        variadic: false,
-    }))
-}
-
 /// A list of basic types.
 pub fn basics(alloc: Global, list: &[Basic]) -> Result<TypeIds, NoMemory> {
     let mut ids = TypeIds::new(alloc);
@@ -152,29 +112,6 @@ pub fn basics(alloc: Global, list: &[Basic]) -> Result<TypeIds, NoMemory> {
         ids.push(basic(*kind))?;
     }
     Ok(ids)
-}
-
-fn at(ids: &[TypeId], place: usize) -> TypeId {
-    ids.get(place).copied().unwrap_or(basic(Basic::Int))
-}
-
-fn kinds_of(point: TypeId, ids: &[TypeId]) -> Kinds {
-    Kinds {
-        int: basic(Basic::Int),
-        truth: basic(Basic::Bool),
-        text: basic(Basic::Text),
-        byte: basic(Basic::Uint8),
-        point,
-        shape: at(ids, 0),
-        pointer: at(ids, 1),
-        any: at(ids, 2),
-        pair: at(ids, 3),
-        method: at(ids, 4),
-        slice: at(ids, 5),
-        table: at(ids, 6),
-        channel: at(ids, 7),
-        steps: at(ids, 8),
-    }
 }
 
 /// A constant of the type `int`.

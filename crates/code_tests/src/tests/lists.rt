@@ -4,6 +4,7 @@ use crate::tests::kinds::{Kinds, METHOD, make_kinds};
 use crate::tests::rows::empty_function;
 use crate::tests::texts::{Subject, printed};
 use go_base::{FuncId, NameId, NoMemory};
+use go_type::{Basic, basic};
 use ssa_ir::{Code, CodeVariable, FunctionKind, MethodLine};
 use std::alloc::Global;
 use std::test::Fail;
@@ -32,12 +33,12 @@ fn add_methods(code: &mut Code, kinds: &Kinds) -> Result<(), NoMemory> {
     Ok(())
 }
 
-fn add_variables(code: &mut Code, kinds: &Kinds) -> Result<(), NoMemory> {
+fn add_variables(code: &mut Code) -> Result<(), NoMemory> {
     for (name, package) in [(3, 0), (4, 1)] {
         code.variables.push(CodeVariable {
             name: NameId { number: name },
             package,
-            of: kinds.int,
+            of: basic(Basic::Int),
         })?;
     }
     Ok(())
@@ -55,7 +56,7 @@ pub fn add_lists(alloc: Global, code: &mut Code) -> Result<(), NoMemory> {
     let kinds = make_kinds(alloc, &mut code.types)?;
     code.declared.push(kinds.point)?;
     add_methods(code, &kinds)?;
-    add_variables(code, &kinds)?;
+    add_variables(code)?;
     add_functions(alloc, code)
 }
 

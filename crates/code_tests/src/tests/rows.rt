@@ -18,17 +18,8 @@ pub fn register(number: u64) -> Operand {
     Operand::Register(number)
 }
 
-pub fn param(number: u64) -> Operand {
+fn param(number: u64) -> Operand {
     Operand::Param(number)
-}
-
-/// A list of parameters.
-pub fn operands(alloc: Global, list: &[u64]) -> Result<Operands, NoMemory> {
-    let mut operands = Operands::new(alloc);
-    for number in list {
-        operands.push(param(*number))?;
-    }
-    Ok(operands)
 }
 
 pub fn block_id(number: u64) -> BlockId {

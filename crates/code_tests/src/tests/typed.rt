@@ -1,11 +1,10 @@
 //! Which codes are typed, and the first line that is not.
 
-use crate::tests::cases::{CASES, Case, case_at, params};
-use crate::tests::kinds::{basics, code, make_kinds};
-use crate::tests::rows::{empty_function, function, instr};
-use go_base::{NoMemory, TypeId};
+use crate::tests::kinds::{basics, code, kept};
+use crate::tests::rows::function;
+use go_base::NoMemory;
 use go_type::Basic::{self, Bool, Int};
-use ssa_ir::{Block, BlockIds, Code, Instrs};
+use ssa_ir::{Code, Function};
 use ssa_typed::{TypedError, type_code};
 use std::alloc::Global;
 use std::test::Fail;
@@ -59,18 +58,27 @@ fn changed(number: u32) -> Row {
 /// Adds the function of a row.
 pub fn add_four_blocks(alloc: Global, code: &mut Code, row: &Row) -> Result<(), NoMemory> {
     let mut function = function(alloc, row.text, None)?;
+    let done = fill(alloc, &mut function, row);
+    code.functions.push(kept(function, done)?)
+}
+
+fn fill(alloc: Global, function: &mut Function, row: &Row) -> Result<(), NoMemory> {
     function.params = basics(alloc, row.params)?;
     function.results = basics(alloc, row.results)?;
     function.registers = basics(alloc, row.registers)?;
     function.variadic = row.variadic;
-    code.functions.push(function)
+    Ok(())
 }
 
 /// Where the code of a row is ill typed.
 fn ill_typed(alloc: Global, row: &Row) -> Result<Option<TypedError>, NoMemory> {
     let mut code = code(alloc)?;
-    add_four_blocks(alloc, &mut code, row)?;
-    Ok(type_code(alloc, &code).err())
+    let answer = match add_four_blocks(alloc, &mut code, row) {
+        Ok(()) => Ok(type_code(alloc, &code).err()),
+        Err(error) => Err(error),
+    };
+    drop(code);
+    answer
 }
 
 #[test]
@@ -84,42 +92,6 @@ fn first_lines_that_are_ill_typed(rt: HostRuntime) -> Result<(), Fail> {
             instr,
         });
         assert_eq!(rt; ill_typed(rt.alloc(), &row)?, wanted, "{number}");
-    }
-    Ok(())
-}
-
-/// A block of one instruction, and the type of the register that it gives.
-fn block_of(alloc: Global, case: Case) -> Result<(Block, Option<TypeId>), NoMemory> {
-    let (op, of) = case;
-    let (preds, mut instrs) = (BlockIds::new(alloc), Instrs::new(alloc));
-    instrs.push(instr(op, of.map(|_| 1)))?;
-    Ok((Block { preds, instrs }, of))
-}
-
-/// Adds a function of one instruction of the table, with one of its numbers.
-fn add_case(alloc: Global, code: &mut Code, place: usize, number: u64) -> Result<(), NoMemory> {
-    let kinds = make_kinds(alloc, &mut code.types)?;
-    let mut function = empty_function(alloc, "main.f")?;
-    function.params = params(alloc, &kinds)?;
-    function.registers.push(kinds.pair)?;
-    let (block, of) = block_of(alloc, case_at(alloc, &kinds, place, number)?)?;
-    function.registers.push(of.unwrap_or(kinds.int))?;
-    function.blocks.push(block)?;
-    code.functions.push(function)
-}
-
-/// Whether an instruction of the table is right with a number.
-fn fits(alloc: Global, place: usize, number: u64) -> Result<bool, NoMemory> {
-    let mut code = code(alloc)?;
-    add_case(alloc, &mut code, place, number)?;
-    Ok(type_code(alloc, &code).is_ok())
-}
-
-#[test]
-fn each_form_right_and_wrong(rt: HostRuntime) -> Result<(), Fail> {
-    for (place, (right, wrong)) in CASES.iter().enumerate() {
-        assert!(rt; fits(rt.alloc(), place, *right)?, "case {place}");
-        assert!(rt; !fits(rt.alloc(), place, *wrong)?, "case {place}");
     }
     Ok(())
 }
