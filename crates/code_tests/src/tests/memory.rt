@@ -1,5 +1,6 @@
 //! Calls that take memory and that no other test makes succeed where there is some.
 
+use crate::tests::kinds::kept;
 use crate::tests::rows::{block_id, register, some_type};
 use go_base::{Bytes, FuncId, NameId, NoMemory};
 use ssa_ir::{
@@ -48,14 +49,18 @@ fn copied_edge(alloc: Global) -> Result<u64, NoMemory> {
         from: block_id(1),
         value: Operand::Constant { value, of },
     };
-    Ok(edge.copy(alloc)?.from.number)
+    let copy = edge.copy(alloc);
+    drop(edge);
+    Ok(copy?.from.number)
 }
 
 /// The registers that a load uses.
 fn used(alloc: Global) -> Result<Vec<u64>, NoMemory> {
     let mut used = Vec::new(alloc);
-    push_used(&mut used, &Op::Load(register(4)))?;
-    Ok(used)
+    let op = Op::Load(register(4));
+    let done = push_used(&mut used, &op);
+    drop(op);
+    kept(used, done)
 }
 
 #[test]
