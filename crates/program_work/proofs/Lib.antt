@@ -1,4 +1,4 @@
 pub mod Written
-mod Graphs
+mod Listings
 mod Working
 pub mod Judged

@@ -22,7 +22,7 @@ use Rattle.program_work.specs.Asked.{lack_naive, wants_registers}
 use Rattle.program_work.specs.Outputs.{Comes, Finishes, IsUnfinished}
 use Rattle.program_work.specs.Stopping.{outcome_at}
 use Rattle.program_work.specs.Working.{EndsIn, IsCodeText, IsListing, IsNotBuilt, IsServed, IsSound, IsSoundText, IsWork, Lists, ListsFront, done, ran, outside, worked, first_path, start_of}
-use Rattle.program_work.proofs.Graphs.{nothing_listed}
+use Rattle.program_work.proofs.Listings.{nothing_listed}
 use Rattle.program_work.proofs.Written.{whole_front, front_behind, front_longer, finished, stopped, finishes_as, unfinished_as}
 
 -- ---- parts that were not asked
