@@ -1,5 +1,8 @@
 //! Channels. Go specification, "Channel types".
 
+ghost use Rattle.std.specs.Prelude.{◌≡◌};
+ghost use Rattle.go_sched.specs.Channels.{chan_of, empty_chan, has_room, can_send, can_receive};
+
 use go_base::GoId;
 use go_value::Value;
 use std::alloc::Global;
@@ -31,7 +34,9 @@ pub(crate) struct Receiver {
 }
 
 impl Channel {
-    pub(crate) fn new(alloc: Global, size: u32) -> Channel {
+    pub(crate) fn new(alloc: Global, size: u32) -> Channel
+        ensures { chan_of result ≡ empty_chan size }
+    {
         Channel {
             size,
             queue: VecDeque::new(alloc),
@@ -42,15 +47,21 @@ impl Channel {
     }
 
     /// Whether the buffer has room for one more.
-    pub(crate) fn has_room(&self) -> bool {
+    pub(crate) fn has_room(&self) -> bool
+        ensures { result ≡ has_room (chan_of self.now) }
+    {
         self.queue.len() < self.size as usize
     }
 
-    pub(crate) fn can_send(&self) -> bool {
+    pub(crate) fn can_send(&self) -> bool
+        ensures { result ≡ can_send (chan_of self.now) }
+    {
         self.closed || self.has_room() || !self.receivers.is_empty()
     }
 
-    pub(crate) fn can_receive(&self) -> bool {
+    pub(crate) fn can_receive(&self) -> bool
+        ensures { result ≡ can_receive (chan_of self.now) }
+    {
         self.closed || !self.queue.is_empty() || !self.senders.is_empty()
     }
 

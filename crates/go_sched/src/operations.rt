@@ -1,5 +1,9 @@
 //! Sends, receives and closes. Go specification, "Send statements", "Receive operator" and "Close".
 
+ghost use Rattle.std.specs.Prelude.{◌≡◌};
+ghost use Rattle.go_sched.specs.Channels.{case_of};
+ghost use Rattle.go_sched.specs.Goroutines.{state_of, is_ready, send_is_ready, receive_is_ready};
+
 use crate::lists::{ChanOp, Wakes};
 use crate::scheduling::{Sched, SchedError};
 use go_base::{ChanId, NoMemory};
@@ -33,16 +37,30 @@ pub enum Selected {
 
 impl Sched {
     /// Whether an operation would complete at once. On a nil channel none does.
-    pub fn ready(&self, op: &ChanOp) -> bool {
+    pub fn ready(&self, op: &ChanOp) -> bool
+        ensures { result ≡ is_ready (state_of self.now) (case_of op.now) }
+    {
         match op {
-            ChanOp::Send { chan, .. } => match self.channel(*chan) {
-                Some(channel) => channel.can_send(),
-                None => false,
-            },
-            ChanOp::Receive { chan } => match self.channel(*chan) {
-                Some(channel) => channel.can_receive(),
-                None => false,
-            },
+            ChanOp::Send { chan, .. } => self.can_send(*chan),
+            ChanOp::Receive { chan } => self.can_receive(*chan),
+        }
+    }
+
+    fn can_send(&self, chan: Option<ChanId>) -> bool
+        ensures { result ≡ send_is_ready (state_of self.now) chan }
+    {
+        match self.channel(chan) {
+            Some(channel) => channel.can_send(),
+            None => false,
+        }
+    }
+
+    fn can_receive(&self, chan: Option<ChanId>) -> bool
+        ensures { result ≡ receive_is_ready (state_of self.now) chan }
+    {
+        match self.channel(chan) {
+            Some(channel) => channel.can_receive(),
+            None => false,
         }
     }
 

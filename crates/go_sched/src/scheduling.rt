@@ -1,5 +1,9 @@
 //! Goroutines and switch points. Go specification, "Go statements".
 
+ghost use Rattle.std.specs.Prelude.{◌≡◌, IfOk, IfSome, IfNone, OnOk, OnErr, Some, None, length, false, true};
+ghost use Rattle.go_sched.specs.Channels.{chan_of};
+ghost use Rattle.go_sched.specs.Goroutines.{state_of, started, spawned, with_new_chan, meant, queue_length, size_of};
+
 use crate::channels::Channel;
 use go_base::{ChanId, GoId, NoMemory};
 use go_value::{Fault, ValueError};
@@ -57,8 +61,6 @@ pub struct Sched {
     pub(crate) used: usize,
     pub(crate) records: bool,
     pub(crate) taken: Vec<u32>,
-    /// How many goroutines were made.
-    pub(crate) made: u64,
     /// The numbers of those that are runnable, ascending.
     pub(crate) runnable: Vec<u64>,
     /// For each goroutine the channels at which it waits.
@@ -69,16 +71,22 @@ pub struct Sched {
 
 impl Sched {
     /// Goroutine 0, which is current and runnable, no channels, and the choices that are to be taken.
-    pub fn new(alloc: Global, choices: &[u32]) -> Result<Sched, NoMemory> {
+    pub fn new(alloc: Global, choices: &[u32]) -> Result<Sched, NoMemory>
+        ensures { IfOk result (λ made. state_of made ≡ started choices.now false) }
+    {
         Sched::with(alloc, choices, false)
     }
 
     /// As `new`, and the numbers that choices take are recorded.
-    pub fn recording(alloc: Global, choices: &[u32]) -> Result<Sched, NoMemory> {
+    pub fn recording(alloc: Global, choices: &[u32]) -> Result<Sched, NoMemory>
+        ensures { IfOk result (λ made. state_of made ≡ started choices.now true) }
+    {
         Sched::with(alloc, choices, true)
     }
 
-    fn with(alloc: Global, choices: &[u32], records: bool) -> Result<Sched, NoMemory> {
+    fn with(alloc: Global, choices: &[u32], records: bool) -> Result<Sched, NoMemory>
+        ensures { IfOk result (λ made. state_of made ≡ started choices.now records) }
+    {
         let mut waits = Vec::new(alloc);
         waits.push(Vec::new(alloc))?;
         let mut runnable = Vec::new(alloc);
@@ -89,7 +97,6 @@ impl Sched {
             used: 0,
             records,
             taken: Vec::new(alloc),
-            made: 1,
             runnable,
             waits,
             current: GoId { number: 0 },
@@ -98,31 +105,40 @@ impl Sched {
     }
 
     /// The goroutine that runs.
-    pub fn current(&self) -> GoId {
+    pub fn current(&self) -> GoId
+        ensures { result ≡ (state_of self.now).current }
+    {
         self.current
     }
 
     /// A new goroutine, which is runnable. After `NoMemory` all is as before.
-    pub fn spawn(&mut self) -> Result<GoId, NoMemory> {
+    pub fn spawn(&mut self) -> Result<GoId, NoMemory>
+        ensures number { IfOk result (λ made. made.number ≡ (state_of self.old).goroutines) }
+        ensures ok { OnOk result (state_of self.new ≡ spawned (state_of self.old)) }
+        ensures err { OnErr result (state_of self.new ≡ state_of self.old) }
+    {
         let number = self.waits.len() as u64;
+        self.runnable.reserve(1)?;
         self.waits.push(Vec::new(self.alloc))?;
-        if self.runnable.push(number).is_err() {
-            let _ = self.waits.pop();
-            return Err(NoMemory);
-        }
-        self.made = self.made.saturating_add(1);
+        self.runnable.push_reserved(number);
         Ok(GoId { number })
     }
 
     /// A new channel of a size. After `NoMemory` all is as before.
-    pub fn make_chan(&mut self, size: u32) -> Result<ChanId, NoMemory> {
+    pub fn make_chan(&mut self, size: u32) -> Result<ChanId, NoMemory>
+        ensures number { IfOk result (λ made. made.number ≡ length (state_of self.old).channels) }
+        ensures ok { OnOk result (state_of self.new ≡ with_new_chan size (state_of self.old)) }
+        ensures err { OnErr result (state_of self.new ≡ state_of self.old) }
+    {
         let number = self.channels.len() as u64;
         self.channels.push(Channel::new(self.alloc, size))?;
         Ok(ChanId { number })
     }
 
     /// The number of values in the buffer of a channel; 0 where it is nil.
-    pub fn len(&self, chan: Option<ChanId>) -> u64 {
+    pub fn len(&self, chan: Option<ChanId>) -> u64
+        ensures { result ≡ queue_length (meant (state_of self.now) chan) }
+    {
         match self.channel(chan) {
             Some(channel) => channel.queue.len() as u64,
             None => 0,
@@ -130,14 +146,19 @@ impl Sched {
     }
 
     /// The size of a channel; 0 where it is nil.
-    pub fn cap(&self, chan: Option<ChanId>) -> u64 {
+    pub fn cap(&self, chan: Option<ChanId>) -> u64
+        ensures { result ≡ size_of (meant (state_of self.now) chan) }
+    {
         match self.channel(chan) {
             Some(channel) => u64::from(channel.size),
             None => 0,
         }
     }
 
-    pub(crate) fn channel(&self, chan: Option<ChanId>) -> Option<&Channel> {
+    pub(crate) fn channel(&self, chan: Option<ChanId>) -> Option<&Channel>
+        ensures some { IfSome result (λ channel. meant (state_of self.now) chan ≡ Some (chan_of channel.now)) }
+        ensures none { IfNone result (meant (state_of self.now) chan ≡ None) }
+    {
         self.channels.get(chan?.number as usize)
     }
 
