@@ -1,1 +1,3 @@
+pub mod Collecting
+pub mod Likened
 pub mod Lists

@@ -1,7 +1,7 @@
 //! Types up to identity, without the tags of fields: values, nodes and groups in the one form that stands for all that are
 //! alike. Go specification, "Type identity" and "Conversions".
 
-ghost use Rattle.std.specs.Prelude.{◌≡◌, IfOk, Some};
+ghost use Rattle.std.specs.Prelude.{◌≡◌, IfOk, OnOk, Some};
 ghost use Rattle.cg_numbers.specs.Alike as alike;
 ghost use Rattle.cg_numbers.specs.Numbered.{StandsFor};
 ghost use Rattle.go_type.specs.Grows.{Grows};
@@ -25,13 +25,14 @@ pub struct Likeness {
 }
 
 impl Likeness {
-    /// The types of a program.
+    /// The types of a program, with those of pointers to its declared and its struct types.
     pub fn new(alloc: Global, types: &Types) -> Result<Likeness, NoMemory>
         ensures { IfOk result (λ like. StandsFor types.now like.types like.bares) }
     {
         let mut copy = types.copy(alloc)?;
         let mut bares = Bare::new(alloc);
         bares.know_all(&mut copy)?;
+        hold_pointers(&mut copy, &bares, types.len())?;
         Ok(Likeness { types: copy, bares })
     }
 
@@ -49,18 +50,11 @@ impl Likeness {
         self.bares.at(self.types.underlying(of))
     }
 
-    /// The type of pointers to a type.
-    pub fn pointer_to(&mut self, of: TypeId) -> Result<TypeId, NoMemory>
-        ensures ok { IfOk result (λ id. term_at self.new.types id ≡ Some (Pointer of)) }
-        ensures grows { Grows self.old.types self.new.types }
-        ensures definitions { KeepsDefinitions self.old.types self.new.types }
-        ensures same { self.new.bares ≡ self.old.bares }
+    /// The type of pointers to a declared type, or to a struct type without tags.
+    pub fn pointer_to(&self, of: TypeId) -> Result<TypeId, NoMemory>
+        ensures { IfOk result (λ id. term_at self.now.types id ≡ Some (Pointer of)) }
     {
-        let pointer = TypeTerm::Pointer(of);
-        if self.types.can_hold(&pointer) {
-            return self.types.hold(pointer);
-        }
-        Err(lost())
+        self.types.find(&TypeTerm::Pointer(of)).ok_or(lost())
     }
 
     /// A method of an interface by its underlying type; that of another type by the type.
@@ -147,4 +141,38 @@ impl Likeness {
             Node::Outcome(group, index) => Node::Outcome(self.group(group), index),
         }
     }
+}
+
+/// Holds the types of pointers to the declared types and the struct types of so many, which may be in interfaces.
+fn hold_pointers(types: &mut Types, bares: &Bare, count: usize) -> Result<(), NoMemory>
+    ensures grows { Grows types.old types.new }
+    ensures definitions { KeepsDefinitions types.old types.new }
+{
+    for number in 0..count as u64 {
+        hold_pointer(types, bares, TypeId { number })?;
+    }
+    Ok(())
+}
+
+fn hold_pointer(types: &mut Types, bares: &Bare, to: TypeId) -> Result<(), NoMemory>
+    ensures grows { Grows types.old types.new }
+    ensures definitions { KeepsDefinitions types.old types.new }
+{
+    if !is_class(types, to) {
+        return Ok(());
+    }
+    let pointer = TypeTerm::Pointer(bares.at(to));
+    if !types.can_hold(&pointer) {
+        return Ok(());
+    }
+    types.hold(pointer)?;
+    Ok(())
+}
+
+/// Whether a type is a declared one or a struct type.
+fn is_class(types: &Types, id: TypeId) -> bool {
+    matches!(
+        types.get(id),
+        Some(TypeTerm::Declared(_) | TypeTerm::Struct(_))
+    )
 }
