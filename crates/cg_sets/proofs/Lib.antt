@@ -1,2 +1,10 @@
+pub mod Aims
+pub mod ByClass
+pub mod ClassLists
+pub mod ClassMethods
+pub mod Implementers
+pub mod Leading
 pub mod Nested
+pub mod Putting
 pub mod Questions
+pub mod Ways

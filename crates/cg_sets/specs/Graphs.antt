@@ -16,7 +16,9 @@ use Rattle.cg_nodes.specs.declared.nodes.Value.{Value}
 use Rattle.cg_nodes.specs.declared.nodes.Value.TheVariants as value_of
 use Rattle.cg_sets.specs.declared.edges.Edge.{Edge}
 use Rattle.cg_numbers.specs.Alike.{like_group, like_node, like_value}
-use Rattle.cg_sets.specs.Candidates.{Calls, Asks, Standing, Stands, Answers}
+use Rattle.cg_numbers.specs.Sites.{Stands}
+use Rattle.cg_sets.specs.Candidates.{Standing, Answers}
+use Rattle.cg_sets.specs.Embedding.{Calls, Asks}
 
 module _ (p : Program) (types : Table) (bares : List TypeId) where
   -- what the values of a node stand for in a group, where P says which values are in which nodes; `first` is the node of the

@@ -4,11 +4,13 @@
 //! of a signature. What a value stands for in a group is found once, however many calls choose from it.
 #![tactic(auto)]
 
+mod aiming;
 mod answers;
 mod asking;
 mod by_class;
 mod by_reach;
 mod candidates;
+mod class_list;
 mod classes;
 mod edges;
 mod embedding;

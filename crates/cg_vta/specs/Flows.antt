@@ -16,7 +16,9 @@ use Rattle.cg_nodes.specs.declared.nodes.Spot.{Spot}
 use Rattle.cg_nodes.specs.declared.nodes.Value.{Value}
 use Rattle.cg_nodes.specs.declared.nodes.Value.TheVariants as value_of
 use Rattle.cg_numbers.specs.Alike.{like_group, like_node, like_value}
-use Rattle.cg_sets.specs.Candidates.{Aim, Calls, Asks, Standing, Stands, Answers}
+use Rattle.cg_numbers.specs.Sites.{Stands}
+use Rattle.cg_sets.specs.Candidates.{Standing, Answers}
+use Rattle.cg_sets.specs.Embedding.{Aim, Calls, Asks}
 use Rattle.cg_sets.specs.Graphs.{IsEdge, Always}
 use Rattle.cg_sets.specs.declared.edges.Edge.{Edge}
 
