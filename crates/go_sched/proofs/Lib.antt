@@ -1,0 +1,5 @@
+pub mod Ascending
+pub mod Held
+pub mod Paths
+pub mod Reached
+pub mod Served
