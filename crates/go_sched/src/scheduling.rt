@@ -94,7 +94,7 @@ pub struct Sched {
 }
 
 impl Sched {
-    ghost use Rattle.std.specs.Prelude.{◌≡◌, ◌≤◌, ◌<◌, IfOk, OnErr, IfSome, IfNone, OnOk, Some, None, length, false, true};
+    ghost use Rattle.std.specs.Prelude.{◌≡◌, ◌↔◌, ◌≤◌, ◌<◌, IsTrue, slice_get, IfOk, OnErr, IfSome, IfNone, OnOk, Some, None, length, false, true};
     ghost use Rattle.go_sched.specs.Goroutines.{state_of, started, spawned, with_new_chan, meant, size_of, queue_length, made_runnable, stopped, below};
     ghost use Rattle.go_sched.specs.Choices.{next_at, switched, candidates, cyclic_after, from_place, next_among, switched_among};
 
@@ -214,12 +214,22 @@ impl Sched {
             .partition_point(|number| *number <= goroutine.number)
     }
 
+    /// Whether a goroutine stands at a place among those that are runnable.
+    fn is_at(&self, place: usize, goroutine: GoId) -> bool
+        ensures { IsTrue result ↔ (slice_get (state_of self.now).runnable place ≡ Some goroutine.number) }
+    {
+        match self.runnable.get(place) {
+            Some(number) => *number == goroutine.number,
+            None => false,
+        }
+    }
+
     /// The current goroutine is runnable no more.
     pub(crate) fn stop(&mut self)
         ensures { state_of self.new ≡ stopped (state_of self.old) }
     {
         let place = self.place(self.current);
-        if self.runnable.get(place).copied() == Some(self.current.number) {
+        if self.is_at(place, self.current) {
             self.runnable.remove(place);
         }
     }
@@ -230,7 +240,7 @@ impl Sched {
         ensures { state_of self.new ≡ made_runnable goroutine (state_of self.old) }
     {
         let place = self.place(goroutine);
-        if self.runnable.get(place).copied() != Some(goroutine.number) {
+        if !self.is_at(place, goroutine) {
             let _has_room = self.runnable.insert(place, goroutine.number).is_ok();
         }
     }
