@@ -3,3 +3,4 @@ pub mod Held
 pub mod Paths
 pub mod Reached
 pub mod Served
+pub mod Turned
