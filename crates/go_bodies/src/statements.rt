@@ -18,9 +18,9 @@ use go_syntax::{
     Block, CaseClause, CommClause, Decl, Expr, ForStmt, IfArm, Label, ListedExpr, RangeStmt, Stmt,
     StmtLine, SwitchStmt, TypeSwitchStmt, ValueSpec,
 };
-use go_tree::{SelectClause, TypeClause, TypedBlock, TypedClause, TypedExpr, TypedStmt};
+use go_tree::{SelectClause, TypeClause, TypedArm, TypedClause, TypedStmt};
 use stmt_rules::{First, Gathered, Spot, Steps, WalkedArm, WalkedBlock, Walker, is_panic};
-use typed_parts::{beside, only};
+use typed_parts::{beside, only, sound};
 
 /// The statements of a list; `falls` says whether its last may be `fallthrough`.
 #[cycle(bodies)]
@@ -29,18 +29,30 @@ pub fn walk_statements(
     lines: &[StmtLine],
     falls: bool,
 ) -> Result<Steps, NoMemory> {
-    let last = last_filled(lines);
     let mut steps = Steps::new(walker.alloc);
+    let walked = walk_lines(walker, lines, falls, &mut steps);
+    kept(steps, walked)
+}
+
+/// The statements of a list, behind those that are there.
+#[cycle(bodies)]
+fn walk_lines(
+    walker: &mut Walker<'_>,
+    lines: &[StmtLine],
+    falls: bool,
+    steps: &mut Steps,
+) -> Result<(), NoMemory> {
+    let last = last_filled(lines);
     for (index, line) in lines.iter().enumerate() {
         if let Some(stmt) = &line.stmt {
             let spot = Spot {
                 label: None,
                 falls: falls && Some(index) == last,
             };
-            walk_statement(walker, stmt, spot, &mut steps)?;
+            walk_statement(walker, stmt, spot, steps)?;
         }
     }
-    Ok(steps)
+    Ok(())
 }
 
 /// A statement. What it declares is in scope behind it.
@@ -168,16 +180,29 @@ fn walk_labeled(
     steps: &mut Steps,
 ) -> Result<(), NoMemory> {
     let began = begin_labels(walker, labels)?;
+    let spot = Spot {
+        label: began.last,
+        falls,
+    };
     let mut inner = Steps::new(walker.alloc);
-    if let Some(stmt) = stmt {
-        let spot = Spot {
-            label: began.last,
-            falls,
-        };
-        walk_statement(walker, stmt, spot, &mut inner)?;
-    }
+    let walked = walk_option(walker, stmt, spot, &mut inner);
+    let (began, inner) = kept((began, inner), walked)?;
     end_labels(walker, began.count);
     steps.push_labeled(began.at, began.names, inner)
+}
+
+/// A statement that may be left out.
+#[cycle(bodies)]
+fn walk_option(
+    walker: &mut Walker<'_>,
+    stmt: &Option<Box<Stmt>>,
+    spot: Spot,
+    steps: &mut Steps,
+) -> Result<(), NoMemory> {
+    match stmt {
+        Some(stmt) => walk_statement(walker, stmt, spot, steps),
+        None => Ok(()),
+    }
 }
 
 #[cycle(bodies)]
@@ -204,10 +229,8 @@ fn walk_block(walker: &mut Walker<'_>, block: &Block) -> Result<WalkedBlock, NoM
 #[cycle(bodies)]
 fn walk_first(walker: &mut Walker<'_>, stmt: &Option<Box<Stmt>>) -> Result<First, NoMemory> {
     let mut steps = Steps::new(walker.alloc);
-    if let Some(stmt) = stmt {
-        walk_statement(walker, stmt, Spot::plain(), &mut steps)?;
-    }
-    steps.into_first()
+    let walked = walk_option(walker, stmt, Spot::plain(), &mut steps);
+    kept(steps, walked)?.into_first()
 }
 
 /// An `if`: each arm stands in the scope of those before it.
@@ -222,19 +245,40 @@ fn walk_choice(walker: &mut Walker<'_>, stmt: &Stmt, steps: &mut Steps) -> Resul
         return Ok(());
     };
     let mut walked = Gathered::new(walker.alloc);
+    let done = walk_arms(walker, arms, &mut walked);
+    let walked = kept(walked, done)?;
+    let (last, walked) = beside(walk_otherwise(walker, otherwise), walked)?;
+    for _ in arms {
+        walker.scope.close_block();
+    }
+    finish_choice(walker, arms, walked, last, steps)
+}
+
+/// The arms of an `if`. The scope of each is left open.
+#[cycle(bodies)]
+fn walk_arms(
+    walker: &mut Walker<'_>,
+    arms: &[IfArm],
+    walked: &mut Gathered<TypedArm>,
+) -> Result<(), NoMemory> {
     for arm in arms {
         walker.scope.open_block()?;
         let arm = walk_arm(walker, arm)?;
         walked.push(arm.arm, arm.ends)?;
     }
-    let last = match otherwise {
-        Some(block) => Some(walk_block(walker, block)?),
-        None => None,
-    };
-    for _ in arms {
-        walker.scope.close_block();
+    Ok(())
+}
+
+/// The block behind `else`, where there is one.
+#[cycle(bodies)]
+fn walk_otherwise(
+    walker: &mut Walker<'_>,
+    otherwise: &Option<Box<Block>>,
+) -> Result<Option<WalkedBlock>, NoMemory> {
+    match otherwise {
+        Some(block) => sound(walk_block(walker, block)),
+        None => Ok(None),
     }
-    finish_choice(walker, arms, walked, last, steps)
 }
 
 #[cycle(bodies)]
@@ -281,13 +325,26 @@ fn walk_clauses(
     cases: &mut Cases,
 ) -> Result<Gathered<TypedClause>, NoMemory> {
     let mut walked = Gathered::new(walker.alloc);
+    let done = walk_each_clause(walker, clauses, close, tag, cases, &mut walked);
+    kept(walked, done)
+}
+
+#[cycle(bodies)]
+fn walk_each_clause(
+    walker: &mut Walker<'_>,
+    clauses: &[CaseClause],
+    close: Token,
+    tag: Tag,
+    cases: &mut Cases,
+    walked: &mut Gathered<TypedClause>,
+) -> Result<(), NoMemory> {
     for (index, clause) in clauses.iter().enumerate() {
         let next = clause_behind(clauses, index);
         let end = walker.at(next.unwrap_or(close));
         let (typed, ends) = walk_clause(walker, clause, end, next.is_some(), tag, cases)?;
         walked.push(typed, ends)?;
     }
-    Ok(walked)
+    Ok(())
 }
 
 /// A clause up to a place; `falls` says whether there is one behind it.
@@ -304,9 +361,10 @@ fn walk_clause(
     let is_default = clause.items.is_empty();
     let is_sound = !is_default || see_default(walker, clause.word, cases);
     let typed = see_cases(walker, &clause.items, tag, cases)?;
-    bodies_of_list(walker, &clause.items)?;
-    walker.scope.open_block()?;
-    let steps = walk_statements(walker, &clause.statements, falls)?;
+    let typed = kept(typed, bodies_of_list(walker, &clause.items))?;
+    let typed = kept(typed, walker.scope.open_block())?;
+    let steps = walk_statements(walker, &clause.statements, falls);
+    let (steps, typed) = beside(steps, typed)?;
     walker.scope.close_block();
     let body = WalkedBlock::new(at, end, steps);
     let ends = body.ends;
@@ -358,12 +416,25 @@ fn walk_type_clauses(
     cases: &mut Cases,
 ) -> Result<Gathered<TypeClause>, NoMemory> {
     let mut walked = Gathered::new(walker.alloc);
+    let done = walk_each_type_clause(walker, clauses, close, matched, cases, &mut walked);
+    kept(walked, done)
+}
+
+#[cycle(bodies)]
+fn walk_each_type_clause(
+    walker: &mut Walker<'_>,
+    clauses: &[CaseClause],
+    close: Token,
+    matched: Matched,
+    cases: &mut Cases,
+    walked: &mut Gathered<TypeClause>,
+) -> Result<(), NoMemory> {
     for (index, clause) in clauses.iter().enumerate() {
         let end = walker.at(clause_behind(clauses, index).unwrap_or(close));
         let (typed, ends) = walk_type_clause(walker, clause, end, matched, cases)?;
         walked.push(typed, ends)?;
     }
-    Ok(walked)
+    Ok(())
 }
 
 #[cycle(bodies)]
@@ -380,10 +451,12 @@ fn walk_type_clause(
     if is_default && !see_default(walker, clause.word, cases) {
         seen.is_sound = false;
     }
-    bodies_of_list(walker, &clause.items)?;
-    walker.scope.open_block()?;
-    let variable = bind_clause(walker, at, matched, seen.cases.as_slice())?;
-    let steps = walk_statements(walker, &clause.statements, false)?;
+    let seen = kept(seen, bodies_of_list(walker, &clause.items))?;
+    let seen = kept(seen, walker.scope.open_block())?;
+    let variable = bind_clause(walker, at, matched, seen.cases.as_slice());
+    let (variable, seen) = beside(variable, seen)?;
+    let steps = walk_statements(walker, &clause.statements, false);
+    let (steps, seen) = beside(steps, seen)?;
     walker.scope.close_block();
     let body = WalkedBlock::new(at, end, steps);
     let ends = body.ends;
@@ -422,12 +495,25 @@ fn walk_comm_clauses(
 ) -> Result<Gathered<SelectClause>, NoMemory> {
     let mut walked = Gathered::new(walker.alloc);
     let mut cases = Cases::new(walker.alloc);
+    let done = walk_each_comm_clause(walker, clauses, close, &mut cases, &mut walked);
+    drop(cases);
+    kept(walked, done)
+}
+
+#[cycle(bodies)]
+fn walk_each_comm_clause(
+    walker: &mut Walker<'_>,
+    clauses: &[CommClause],
+    close: Token,
+    cases: &mut Cases,
+    walked: &mut Gathered<SelectClause>,
+) -> Result<(), NoMemory> {
     for (index, clause) in clauses.iter().enumerate() {
         let end = walker.at(comm_behind(clauses, index).unwrap_or(close));
-        let (typed, ends) = walk_comm_clause(walker, clause, end, &mut cases)?;
+        let (typed, ends) = walk_comm_clause(walker, clause, end, cases)?;
         walked.push(typed, ends)?;
     }
-    Ok(walked)
+    Ok(())
 }
 
 #[cycle(bodies)]
