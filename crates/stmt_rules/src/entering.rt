@@ -13,6 +13,7 @@ use go_places::type_start;
 use go_syntax::{Block, Param, Params, ResultForm, Signature, TypeExpr};
 use go_tree::{Body, TypedBlock, VarIds};
 use go_type::{Signature as SignatureTerm, TypeTerm};
+use typed_parts::beside;
 
 /// The types of parameters and results, as far as they are sound, in order.
 #[derive(Drop)]
@@ -122,6 +123,7 @@ impl<'s> Walker<'s> {
             outer,
         };
         let done = self.enter_names(receiver, signature, &types, &mut entered);
+        drop(types);
         kept(entered, done)
     }
 
@@ -230,19 +232,33 @@ impl<'s> Walker<'s> {
         steps: Steps,
     ) -> Result<(), NoMemory> {
         self.scope.close_block();
-        let inner = std::mem::replace(&mut self.frame, entered.outer);
-        if !inner.results.is_empty() && !steps.ends {
+        let Entered {
+            function,
+            params,
+            results,
+            first_variable,
+            first_mention,
+            outer,
+        } = entered;
+        let inner = std::mem::replace(&mut self.frame, outer);
+        let (has_results, has_defer) = (!inner.results.is_empty(), inner.has_defer);
+        drop(inner);
+        if has_results && !steps.ends {
             self.report_later(self.at(block.close), Rule::MissingReturn);
         }
-        let captured = self.captured(entered.first_variable, entered.first_mention)?;
-        let Some((function, statements)) = entered.function.zip(steps.into_statements()) else {
+        let captured = self.captured(first_variable, first_mention);
+        let (captured, (steps, names)) = beside(captured, (steps, (params, results)))?;
+        let parts = function.zip(steps.into_statements());
+        let Some(((function, statements), ((params, results), captured))) = parts.zip(Some((
+            names, captured,
+        ))) else {
             return Ok(());
         };
         let body = Body {
-            params: entered.params,
-            results: entered.results,
+            params,
+            results,
             captured,
-            has_defer: inner.has_defer,
+            has_defer,
             block: TypedBlock {
                 at: self.at(block.open),
                 end: self.at(block.close),

@@ -1,9 +1,10 @@
 //! Statements as they become typed.
 
+use crate::joining::{first_of, kept, push_all, pushed, take_first};
 use go_base::{NameId, NoMemory, Pos};
 use go_tree::{TypedArm, TypedBlock, TypedStmt};
 use std::alloc::Global;
-use typed_parts::with_last;
+use typed_parts::{beside, only, with_last};
 
 /// Where a statement stands.
 #[derive(Clone, Copy)]
@@ -71,19 +72,17 @@ impl Steps {
         self.ends = ends;
         if !is_sound {
             self.is_sound = false;
+        }
+        let Some((mut rest, labels)) = only(Some((statements, labels)), is_sound) else {
             return Ok(());
-        }
-        let mut rest = statements.into_iter();
-        let stmt = match rest.next() {
-            Some(stmt) => Some(Box::new(alloc, stmt)?),
-            None => None,
         };
-        self.statements
-            .push(TypedStmt::Labeled { at, labels, stmt })?;
-        for stmt in rest {
-            self.statements.push(stmt)?;
-        }
-        Ok(())
+        let stmt = take_first(alloc, &mut rest);
+        let (stmt, (rest, labels)) = beside(stmt, (rest, labels))?;
+        let put = pushed(
+            &mut self.statements,
+            TypedStmt::Labeled { at, labels, stmt },
+        );
+        push_all(&mut self.statements, kept(rest, put)?)
     }
 
     /// The statements, where all are sound.
@@ -94,7 +93,7 @@ impl Steps {
             is_sound,
             ends: _,
         } = self;
-        if is_sound { Some(statements) } else { None }
+        only(Some(statements), is_sound)
     }
 
     /// The statement of a list of at most one.
@@ -105,10 +104,7 @@ impl Steps {
             is_sound,
             ends: _,
         } = self;
-        let stmt = match statements.into_iter().next() {
-            Some(stmt) => Some(Box::new(alloc, stmt)?),
-            None => None,
-        };
+        let stmt = first_of(alloc, statements)?;
         Ok(First { is_sound, stmt })
     }
 }

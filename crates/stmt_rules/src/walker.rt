@@ -119,10 +119,15 @@ impl<'s> Walker<'s> {
     /// What the expressions of a list stand for.
     pub fn see_list(&mut self, exprs: &[ListedExpr]) -> Result<Vec<Seen>, NoMemory> {
         let mut list = Vec::new(self.alloc);
+        let pushed = self.push_seen(exprs, &mut list);
+        kept(list, pushed)
+    }
+
+    fn push_seen(&mut self, exprs: &[ListedExpr], list: &mut Vec<Seen>) -> Result<(), NoMemory> {
         for expr in exprs {
             list.push(self.see(&expr.expr)?)?;
         }
-        Ok(list)
+        Ok(())
     }
 
     /// The value or values of an expression that stands alone.
@@ -183,13 +188,18 @@ pub fn all_bodies(
     count: usize,
 ) -> Result<Bodies, NoMemory> {
     let mut all = Bodies::new(alloc);
+    let pushed = push_bodies(&mut all, bodies, count);
+    kept(all, pushed)
+}
+
+fn push_bodies(all: &mut Bodies, bodies: Vec<Option<Body>>, count: usize) -> Result<(), NoMemory> {
     for body in bodies {
         all.push(body)?;
     }
     for _ in all.len()..count {
         all.push(None)?;
     }
-    Ok(all)
+    Ok(())
 }
 
 /// Whether all parts of a list are sound, and values.
