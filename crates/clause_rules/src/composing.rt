@@ -7,9 +7,10 @@ use go_base::{NameId, NoMemory, Pos, Rule, VarId};
 use go_expr::see_decl;
 use go_syntax::{Decl, Expr, IfArm, Label, ListedExpr, Stmt, TypeSwitchStmt};
 use go_tree::{Comm, TypeCase, TypeClause, TypedArm, TypedCase, TypedClause, TypedExpr, TypedStmt};
+use std::alloc::Global;
 use stmt_rules::{First, Gathered, Steps, WalkedArm, WalkedBlock, Walker};
 use typed_operators::condition;
-use typed_parts::{only, with_last};
+use typed_parts::{beside, only, with_last};
 
 /// Labels whose statement begins.
 #[derive(Drop)]
@@ -136,10 +137,12 @@ pub fn finish_arm(
     body: WalkedBlock,
 ) -> WalkedArm {
     let ends = body.ends;
-    let arm = match only(condition.zip(body.block), init.is_sound) {
-        Some((condition, body)) => Some(TypedArm {
+    let is_sound = init.is_sound;
+    let parts = condition.zip(body.block).zip(Some(init.stmt));
+    let arm = match only(parts, is_sound) {
+        Some(((condition, body), init)) => Some(TypedArm {
             at: walker.at(word),
-            init: init.stmt,
+            init,
             condition,
             body,
         }),
@@ -193,8 +196,9 @@ pub fn see_cases(
 ) -> Result<Option<Vec<TypedCase>>, NoMemory> {
     let mut typed = Some(Vec::new(walker.alloc));
     for item in items {
-        let case = see_case(walker, &item.expr, tag, cases)?;
-        typed = with_last(typed, case)?;
+        let case = see_case(walker, &item.expr, tag, cases);
+        let (case, earlier) = beside(case, typed)?;
+        typed = with_last(earlier, case)?;
     }
     Ok(typed)
 }
@@ -209,10 +213,11 @@ pub fn finish_switch(
     close: Token,
 ) -> Option<TypedStmt> {
     let is_sound = init.is_sound && tag.is_sound();
-    let (clauses, tag) = only(clauses, is_sound).zip(Some(tag.expr))?;
+    let parts = clauses.zip(Some((init.stmt, tag.expr)));
+    let (clauses, (init, tag)) = only(parts, is_sound)?;
     Some(TypedStmt::Switch {
         at: walker.at(word),
-        init: init.stmt,
+        init,
         tag,
         clauses,
         end: walker.at(close),
@@ -247,25 +252,29 @@ pub fn finish_type_clause(
     variable: Option<VarId>,
     body: WalkedBlock,
 ) -> Result<Option<TypeClause>, NoMemory> {
-    let Some(body) = body.block else {
-        return Ok(None);
-    };
-    if !seen.is_sound {
-        return Ok(None);
+    let cases = sound_cases(walker.alloc, seen.cases.as_slice());
+    let (cases, body) = beside(cases, body.block)?;
+    match only(body.zip(Some(cases)), seen.is_sound) {
+        Some((body, cases)) => Ok(Some(TypeClause {
+            at,
+            is_default,
+            cases,
+            variable,
+            body,
+        })),
+        None => Ok(None),
     }
-    let mut cases = Vec::new(walker.alloc);
-    for case in seen.cases {
+}
+
+/// The cases that are sound.
+fn sound_cases(alloc: Global, seen: &[Option<TypeCase>]) -> Result<Vec<TypeCase>, NoMemory> {
+    let mut cases = Vec::new(alloc);
+    for case in seen {
         if let Some(case) = case {
-            cases.push(case)?;
+            cases.push(*case)?;
         }
     }
-    Ok(Some(TypeClause {
-        at,
-        is_default,
-        cases,
-        variable,
-        body,
-    }))
+    Ok(cases)
 }
 
 /// A type switch from its parts.
@@ -278,10 +287,12 @@ pub fn finish_type_switch(
     clauses: Option<Vec<TypeClause>>,
 ) -> Option<TypedStmt> {
     let is_bound = switch.binding.is_some() == matched.binding.is_some();
-    let (operand, clauses) = only(operand.zip(clauses), init.is_sound && is_bound)?;
+    let is_sound = init.is_sound && is_bound;
+    let parts = operand.zip(clauses).zip(Some(init.stmt));
+    let ((operand, clauses), init) = only(parts, is_sound)?;
     Some(TypedStmt::TypeSwitch {
         at: walker.at(switch.word),
-        init: init.stmt,
+        init,
         operand,
         clauses,
         end: walker.at(switch.close),
@@ -312,13 +323,16 @@ pub fn finish_for(
     body: WalkedBlock,
 ) -> Option<TypedStmt> {
     let is_sound = init.is_sound && condition.is_sound && post.is_sound;
-    let (body, condition) = only(body.block, is_sound).zip(Some(condition.condition))?;
+    let parts = body
+        .block
+        .zip(Some((condition.condition, (init.stmt, post.stmt))));
+    let (body, (condition, (init, post))) = only(parts, is_sound)?;
     Some(TypedStmt::For {
         at: walker.at(word),
         fresh: walker.fresh,
-        init: init.stmt,
+        init,
         condition,
-        post: post.stmt,
+        post,
         body,
     })
 }

@@ -84,7 +84,8 @@ fn range_targets(
         });
     }
     let sides = walker.sides(targets)?;
-    let parts = range_parts(walker, targets, &sides, ranged)?;
+    let parts = range_parts(walker, targets, &sides, ranged);
+    let (parts, sides) = beside(parts, sides)?;
     Ok(AskedTargets {
         targets: SeenTargets::Assign { sides, parts },
         is_sound: has_room,
@@ -141,8 +142,9 @@ fn range_parts(
             Some(target) => walker.pos(expr_start(&target.expr)),
             None => walker.pos(0),
         };
-        let part = range_part(walker, at, index, of, side)?;
-        parts = with_last(parts, part)?;
+        let part = range_part(walker, at, index, of, side);
+        let (part, earlier) = beside(part, parts)?;
+        parts = with_last(earlier, part)?;
     }
     Ok(parts)
 }
@@ -195,14 +197,25 @@ fn finish_targets(
     match targets {
         SeenTargets::None => Ok(Some(RangeTargets::None)),
         SeenTargets::Assign { sides, parts } => Ok(assigned_targets(sides, parts)),
-        SeenTargets::Define(lefts) => {
-            let targets = walker.declare_lefts(lefts.names.as_slice(), types)?;
-            Ok(Some(RangeTargets::Define {
-                key: new_variable(targets.first()),
-                value: new_variable(targets.get(1)),
-            }))
-        }
+        SeenTargets::Define(lefts) => declared_targets(walker, lefts, types),
     }
+}
+
+/// Declares the names of a range.
+fn declared_targets(
+    walker: &mut Walker<'_>,
+    lefts: Lefts,
+    types: &[Option<TypeId>],
+) -> Result<Option<RangeTargets>, NoMemory> {
+    let targets = walker.declare_lefts(lefts.names.as_slice(), types);
+    drop(lefts);
+    let targets = targets?;
+    let declared = RangeTargets::Define {
+        key: new_variable(targets.first()),
+        value: new_variable(targets.get(1)),
+    };
+    drop(targets);
+    Ok(Some(declared))
 }
 
 /// Whether a range declares its targets.
@@ -226,6 +239,7 @@ fn assigned_targets(sides: Vec<Side>, parts: Option<Vec<TypedExpr>>) -> Option<R
     let mut sides = sides.into_iter();
     let key = next_target(sides.next());
     let value = next_target(sides.next());
+    drop(sides);
     let ((key, value), parts) = key.zip(value).zip(parts)?;
     Some(RangeTargets::Assign { key, value, parts })
 }
