@@ -11,7 +11,7 @@ use go_tree::Values;
 use std::alloc::Global;
 use std::collections::BTreeMap;
 use stmt_rules::{Holder, Walker, mentions_from};
-use typed_parts::Seen;
+use typed_parts::{Seen, beside};
 use typed_primaries::{Into, Listed, values_into};
 
 /// The values of an initialisation.
@@ -50,19 +50,32 @@ pub struct Initials<'s> {
 /// The initialisations of all packages.
 pub fn find_initials<'s>(walker: &Walker<'s>) -> Result<Initials<'s>, NoMemory> {
     let mut places = BTreeMap::new(walker.alloc);
-    for (index, variable) in walker.scope.variables().iter().enumerate() {
-        places.insert(variable.at, index)?;
-    }
     let mut list = Vec::new(walker.alloc);
-    for file in files_in_order(walker)? {
-        push_file(walker, &mut list, &places, file)?;
-    }
+    let pushed = push_initials(walker, &mut list, &mut places);
+    drop(places);
+    let ((), list) = beside(pushed, list)?;
     let mut initials = Initials {
         list,
         of_variable: Vec::new(walker.alloc),
     };
-    initials.find_variables(walker.package_variables)?;
+    let found = initials.find_variables(walker.package_variables);
+    let ((), initials) = beside(found, initials)?;
     Ok(initials)
+}
+
+/// The initialisations of all files. The places of variables are found first.
+fn push_initials<'s>(
+    walker: &Walker<'s>,
+    list: &mut Vec<Initial<'s>>,
+    places: &mut BTreeMap<Pos, usize>,
+) -> Result<(), NoMemory> {
+    for (index, variable) in walker.scope.variables().iter().enumerate() {
+        places.insert(variable.at, index)?;
+    }
+    for file in files_in_order(walker)? {
+        push_file(walker, list, places, file)?;
+    }
+    Ok(())
 }
 
 /// The files, in the order of packages and names.
@@ -215,8 +228,8 @@ fn see_initial<'s>(
 ) -> Result<(), NoMemory> {
     let from = walker.scope.mention_count();
     let listed = listed_values(walker, initial)?;
-    initial.values = listed.values;
-    initial.types = listed.types;
+    drop(std::mem::replace(&mut initial.values, listed.values));
+    drop(std::mem::replace(&mut initial.types, listed.types));
     initial.is_seen = true;
     walker.read_by(Holder::Step(index), from)
 }
@@ -225,6 +238,12 @@ fn see_initial<'s>(
 fn listed_values<'s>(walker: &mut Walker<'s>, initial: &Initial<'s>) -> Result<Listed, NoMemory> {
     walker.enter_file(initial.file);
     let values = see_given(walker, initial.given)?;
+    let (intos, values) = beside(intos_of(walker, initial), values)?;
+    values_into(walker.scope.ground(), initial.at, values, &intos, true)
+}
+
+/// Where the values of an initialiser go.
+fn intos_of(walker: &Walker<'_>, initial: &Initial<'_>) -> Result<Vec<Into>, NoMemory> {
     let mut intos = Vec::new(walker.alloc);
     for variable in &initial.variables {
         intos.push(match walker.scope.variable(*variable) {
@@ -232,15 +251,14 @@ fn listed_values<'s>(walker: &mut Walker<'s>, initial: &Initial<'s>) -> Result<L
             _ => Into::Any,
         })?;
     }
-    values_into(walker.scope.ground(), initial.at, values, &intos, true)
+    Ok(intos)
 }
 
 fn see_given<'s>(walker: &mut Walker<'s>, given: Given<'s>) -> Result<Vec<Seen>, NoMemory> {
     match given {
         Given::One(value) => {
-            let mut list = Vec::new(walker.alloc);
-            list.push(walker.see(&value.expr)?)?;
-            Ok(list)
+            let seen = walker.see(&value.expr)?;
+            list_of(walker.alloc, seen)
         }
         Given::All(values) => walker.see_list(values),
     }
@@ -254,6 +272,16 @@ fn graph_of_initials<'s>(
     initials: &Initials<'s>,
 ) -> Result<Vec<Vec<usize>>, NoMemory> {
     let mut graph = Vec::new(walker.alloc);
+    let pushed = push_rows(walker, initials, &mut graph);
+    let ((), graph) = beside(pushed, graph)?;
+    Ok(graph)
+}
+
+fn push_rows<'s>(
+    walker: &mut Walker<'s>,
+    initials: &Initials<'s>,
+    graph: &mut Vec<Vec<usize>>,
+) -> Result<(), NoMemory> {
     for variable in 0..walker.package_variables {
         let mut row = Vec::new(walker.alloc);
         if let Some(index) = initials.of(variable) {
@@ -267,11 +295,11 @@ fn graph_of_initials<'s>(
         } else {
             let from = walker.scope.mention_count();
             walker.enter_file(initial.file);
-            let _ = see_given(walker, initial.given)?;
+            drop(see_given(walker, initial.given)?);
             graph.push(named_from(walker, initials, from)?)?;
         }
     }
-    Ok(graph)
+    Ok(())
 }
 
 /// The variables without a written type that were read from a mention on.
@@ -299,17 +327,31 @@ fn in_groups<'s>(
 ) -> Result<(), NoMemory> {
     let (components, cyclic) = groups_of(walker.alloc, graph)?;
     let mut group = Vec::new(walker.alloc);
+    let seen = see_groups(walker, initials, graph, &components, &cyclic, &mut group);
+    drop((components, (cyclic, group)));
+    seen
+}
+
+/// Types the groups in their order, the nodes of each of which are gathered first.
+fn see_groups<'s>(
+    walker: &mut Walker<'s>,
+    initials: &mut Initials<'s>,
+    graph: &[Vec<usize>],
+    components: &Components,
+    cyclic: &[bool],
+    group: &mut Vec<usize>,
+) -> Result<(), NoMemory> {
     let mut last = None;
     for node in &components.order {
         let number = components.of.get(*node).copied();
         if number != last {
-            see_group(walker, initials, graph, &components.of, &cyclic, &group)?;
-            group = Vec::new(walker.alloc);
+            see_group(walker, initials, graph, &components.of, cyclic, group)?;
+            group.clear();
             last = number;
         }
         group.push(*node)?;
     }
-    see_group(walker, initials, graph, &components.of, &cyclic, &group)
+    see_group(walker, initials, graph, &components.of, cyclic, group)
 }
 
 /// Types variables whose initialisers name each other.
@@ -499,6 +541,18 @@ fn groups_of(alloc: Global, graph: &[Vec<usize>]) -> Result<(Components, Vec<boo
         return Err(lost());
     }
     let components = components_of(alloc, graph)?;
-    let cyclic = on_themselves(alloc, graph, &components)?;
-    Ok((components, cyclic))
+    match on_themselves(alloc, graph, &components) {
+        Ok(cyclic) => Ok((components, cyclic)),
+        Err(error) => {
+            drop(components);
+            Err(NoMemory::from(error))
+        }
+    }
+}
+
+/// A list of one item.
+fn list_of<T: Drop>(alloc: Global, item: T) -> Result<Vec<T>, NoMemory> {
+    let mut list = Vec::new(alloc);
+    list.push(item)?;
+    Ok(list)
 }
