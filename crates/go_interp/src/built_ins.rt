@@ -1,10 +1,12 @@
 //! Built-in functions. Go specification, "Built-in functions".
 
 use crate::error::lost;
+use crate::joining::{beside, either, kept};
 use crate::machine::{Machine, Met, Turn};
 use code_plan::{Arg, BuiltinForm};
 use go_base::{Bytes, NoMemory};
 use go_value::{SliceValue, Value};
+use std::alloc::Global;
 use std::rc::Rc;
 use value_texts::push_printed;
 
@@ -72,8 +74,9 @@ impl<'a> Machine<'a> {
             },
             _ => match self.builtin(form) {
                 Ok(Some(value)) => {
-                    if let Some(to) = to {
-                        self.set(to, value);
+                    match to {
+                        Some(to) => self.set(to, value),
+                        None => drop(value),
                     }
                     Turn::Goes
                 }
@@ -84,9 +87,11 @@ impl<'a> Machine<'a> {
     }
 
     fn close(&mut self) -> Turn {
-        let Some(Value::Chan(chan)) = self.waiting.pop() else {
-            return Turn::WantsMemory;
+        let chan = match self.waiting.last() {
+            Some(Value::Chan(chan)) => *chan,
+            _ => return Turn::WantsMemory,
         };
+        self.waiting.clear();
         match self.sched.close(chan) {
             Ok(wakes) => self.completed(wakes),
             Err(error) => self.meet(Met::from(error)),
@@ -123,18 +128,22 @@ impl<'a> Machine<'a> {
 
     /// Takes the last value that is on its way, a slice.
     fn taken_slice(&mut self) -> Result<Rc<SliceValue>, NoMemory> {
-        match self.waiting.pop() {
-            Some(Value::Slice(slice)) => Ok(slice),
-            _ => Err(lost()),
-        }
+        let slice = match self.waiting.last() {
+            Some(Value::Slice(slice)) => slice.clone()?,
+            _ => return Err(lost()),
+        };
+        drop(self.waiting.pop());
+        Ok(slice)
     }
 
     /// Takes the last value that is on its way, a text.
     fn taken_text(&mut self) -> Result<Rc<Bytes>, NoMemory> {
-        match self.waiting.pop() {
-            Some(Value::Text(text)) => Ok(text),
-            _ => Err(lost()),
-        }
+        let text = match self.waiting.last() {
+            Some(Value::Text(text)) => text.clone()?,
+            _ => return Err(lost()),
+        };
+        drop(self.waiting.pop());
+        Ok(text)
     }
 
     fn append(&mut self, leaves: u32) -> Result<Value, Met> {
@@ -147,54 +156,74 @@ impl<'a> Machine<'a> {
 
     fn append_slice(&mut self, leaves: u32) -> Result<Value, Met> {
         let more = self.taken_slice()?;
-        let slice = self.taken_slice()?;
-        let items = self.elements(&more)?;
-        let appended = self.store.append(leaves, &slice, items.as_slice())?;
-        Ok(Value::slice(self.alloc, appended)?)
+        let (slice, more) = beside(self.taken_slice(), more)?;
+        let items = self.elements(&more);
+        drop(more);
+        let (items, slice) = beside(items, slice)?;
+        let appended = self.store.append(leaves, &slice, items.as_slice());
+        drop((slice, items));
+        Ok(Value::slice(self.alloc, appended?)?)
     }
 
     /// The elements of a slice.
     fn elements(&self, slice: &SliceValue) -> Result<Vec<Value>, Met> {
         let mut items = Vec::new(self.alloc);
+        let pushed = self.push_elements(&mut items, slice);
+        kept(items, pushed)
+    }
+
+    fn push_elements(&self, items: &mut Vec<Value>, slice: &SliceValue) -> Result<(), Met> {
         for index in 0..slice.len {
             let address = go_store::element(self.alloc, slice, i128::from(index))?;
-            items.push(self.store.load_at(self.alloc, &address)?)?;
+            let item = self.store.load_at(self.alloc, &address);
+            drop(address);
+            items.push(item?)?;
         }
-        Ok(items)
+        Ok(())
     }
 
     fn append_text(&mut self, leaves: u32) -> Result<Value, Met> {
         let text = self.taken_text()?;
-        let slice = self.taken_slice()?;
-        let mut items = Vec::new(self.alloc);
-        for byte in text.as_slice() {
-            items.push(Value::Int(i128::from(*byte)))?;
-        }
-        let appended = self.store.append(leaves, &slice, items.as_slice())?;
-        Ok(Value::slice(self.alloc, appended)?)
+        let (slice, text) = beside(self.taken_slice(), text)?;
+        let items = bytes_as_values(self.alloc, text.as_slice());
+        drop(text);
+        let (items, slice) = beside(items, slice)?;
+        let appended = self.store.append(leaves, &slice, items.as_slice());
+        drop((slice, items));
+        Ok(Value::slice(self.alloc, appended?)?)
     }
 
     fn copy_slice(&mut self) -> Result<Value, Met> {
         let from = self.taken_slice()?;
-        let to = self.taken_slice()?;
-        let count = self.store.copy_items(&to, &from)?;
-        Ok(Value::Int(i128::from(count)))
+        let (to, from) = beside(self.taken_slice(), from)?;
+        let count = self.store.copy_items(&to, &from);
+        drop((to, from));
+        Ok(Value::Int(i128::from(count?)))
     }
 
     fn copy_text(&mut self) -> Result<Value, Met> {
         let text = self.taken_text()?;
-        let to = self.taken_slice()?;
-        let count = to.len.min(text.len() as u64);
+        let (to, text) = beside(self.taken_slice(), text)?;
+        let count = self.put_bytes(&to, text.as_slice());
+        drop((to, text));
+        Ok(Value::Int(i128::from(count?)))
+    }
+
+    /// Puts as many bytes into a slice as it has room for. How many these are is answered.
+    fn put_bytes(&mut self, to: &SliceValue, bytes: &[u8]) -> Result<u64, Met> {
+        let count = to.len.min(bytes.len() as u64);
         let mut index = 0u64;
-        for byte in text.as_slice() {
+        for byte in bytes {
             if index >= count {
                 break;
             }
-            let address = go_store::element(self.alloc, &to, i128::from(index))?;
-            self.store.put_int_at(&address, i128::from(*byte))?;
+            let address = go_store::element(self.alloc, to, i128::from(index))?;
+            let put = self.store.put_int_at(&address, i128::from(*byte));
+            drop(address);
+            put?;
             index = index.saturating_add(1);
         }
-        Ok(Value::Int(i128::from(count)))
+        Ok(count)
     }
 
     fn clear_map(&mut self) -> Result<Option<Value>, Met> {
@@ -208,26 +237,42 @@ impl<'a> Machine<'a> {
     }
 
     fn clear_slice(&mut self, zero: &Value) -> Result<Option<Value>, Met> {
-        let Some(Value::Slice(slice)) = self.waiting.pop() else {
-            return Err(Met::Memory);
-        };
-        for index in 0..slice.len {
-            let address = go_store::element(self.alloc, &slice, i128::from(index))?;
-            let value = zero.copy(self.alloc)?;
-            self.store.put_at(&address, value)?;
-        }
+        let slice = self.taken_slice()?;
+        let cleared = self.clear_elements(&slice, zero);
+        drop(slice);
+        cleared?;
         Ok(None)
+    }
+
+    fn clear_elements(&mut self, slice: &SliceValue, zero: &Value) -> Result<(), Met> {
+        for index in 0..slice.len {
+            let address = go_store::element(self.alloc, slice, i128::from(index))?;
+            let (value, address) = beside(zero.copy(self.alloc), address)?;
+            let put = self.store.put_at(&address, value);
+            drop(address);
+            put?;
+        }
+        Ok(())
     }
 
     fn delete(&mut self) -> Result<Option<Value>, Met> {
         let Some(key) = self.waiting.pop() else {
             return Err(Met::Memory);
         };
-        let Some(Value::Map(map)) = self.waiting.pop() else {
-            return Err(Met::Memory);
-        };
-        self.store.map_remove(&self.code.types, map, &key)?;
+        let removed = self.take_out(&key);
+        drop(key);
+        removed?;
         Ok(None)
+    }
+
+    /// Takes a key out of the map that is on its way.
+    fn take_out(&mut self, key: &Value) -> Result<(), Met> {
+        let map = match self.waiting.last() {
+            Some(Value::Map(map)) => *map,
+            _ => return Err(Met::Memory),
+        };
+        self.waiting.clear();
+        Ok(self.store.map_remove(&self.code.types, map, key)?)
     }
 
     fn print(&mut self, line: bool) -> Result<Option<Value>, NoMemory> {
@@ -252,13 +297,29 @@ impl<'a> Machine<'a> {
         };
         for _ in 0..self.waiting.len() {
             if let Some(other) = self.waiting.pop() {
-                if is_less(&best, &other)? == greatest {
-                    best = other;
-                }
+                let is_better = match is_less(&best, &other) {
+                    Ok(less) => Ok(less == greatest),
+                    Err(error) => Err(error),
+                };
+                best = either(best, other, is_better)?;
             }
         }
         Ok(best)
     }
+}
+
+/// Bytes as the values of a slice.
+fn bytes_as_values(alloc: Global, bytes: &[u8]) -> Result<Vec<Value>, NoMemory> {
+    let mut items = Vec::new(alloc);
+    let pushed = push_bytes(&mut items, bytes);
+    kept(items, pushed)
+}
+
+fn push_bytes(items: &mut Vec<Value>, bytes: &[u8]) -> Result<(), NoMemory> {
+    for byte in bytes {
+        items.push(Value::Int(i128::from(*byte)))?;
+    }
+    Ok(())
 }
 
 fn is_less(a: &Value, b: &Value) -> Result<bool, NoMemory> {

@@ -1,12 +1,13 @@
 //! Calls, and how functions are entered and left. Go specification, "Calls" and "Return statements".
 
 use crate::error::lost;
-use crate::frames::{Bound, Frame, FrameState, Later, Ready};
+use crate::frames::{Bound, Frame, FrameState, Goroutine, Later, Ready};
+use crate::joining::{kept, pushed, put};
 use crate::machine::{Machine, Met, Turn};
 use code_plan::{Arg, Callee, MethodName, PlannedCall, PlannedFunction, Role};
 use go_base::{Ending, NoMemory};
 use go_sched::Point;
-use go_value::{Fault, Part, Value};
+use go_value::{Address, Fault, Part, Value};
 
 /// The most frames of source functions that a goroutine has.
 const MAX_FRAMES: u32 = 100_000;
@@ -92,8 +93,7 @@ impl<'a> Machine<'a> {
         method: MethodName,
         args: &'a [Arg],
     ) -> Result<(Ready<'a>, u64), Met> {
-        let value = self.read(receiver)?;
-        let Value::Interface(dynamic) = value else {
+        let Value::Interface(dynamic) = self.look(receiver)? else {
             return Err(Met::Fault(Fault::NilPointer));
         };
         let function = self.method(dynamic.of, method)?;
@@ -138,30 +138,41 @@ impl<'a> Machine<'a> {
 
     /// Enters a function whose arguments are on their way.
     fn enter(&mut self, entry: Entry) -> Turn {
-        let Ok(function) = self.function(entry.function) else {
-            return Turn::WantsMemory;
+        match self.admitted(entry.function, entry.chain) {
+            Ok(function) => match self.push_frame(function, entry) {
+                Ok(()) => Turn::Goes,
+                Err(_) => Turn::WantsMemory,
+            },
+            Err(turn) => {
+                drop(entry);
+                turn
+            }
+        }
+    }
+
+    /// The function of a number, where it gets a frame: a tick is then spent on it. Else what the call came to.
+    fn admitted(&mut self, function: u32, chain: u64) -> Result<&'a PlannedFunction, Turn> {
+        let Ok(function) = self.function(function) else {
+            return Err(Turn::WantsMemory);
         };
-        if entry.chain > MAX_CHAIN {
-            return self.end(Ending::StackOverflow);
+        if chain > MAX_CHAIN {
+            return Err(self.end(Ending::StackOverflow));
         }
         match function.role {
-            Role::Exit => return self.exit(),
-            Role::Gosched => return self.switch(Point::Yield),
+            Role::Exit => return Err(self.exit()),
+            Role::Gosched => return Err(self.switch(Point::Yield)),
             Role::Source => {
                 if self.current.sources >= MAX_FRAMES {
-                    return self.end(Ending::StackOverflow);
+                    return Err(self.end(Ending::StackOverflow));
                 }
                 if self.ticks == 0 {
-                    return self.end(Ending::Bound);
+                    return Err(self.end(Ending::Bound));
                 }
                 self.ticks = self.ticks.saturating_sub(1);
             }
             Role::Wrapper | Role::Init => {}
         }
-        match self.push_frame(function, entry) {
-            Ok(()) => Turn::Goes,
-            Err(_) => Turn::WantsMemory,
-        }
+        Ok(function)
     }
 
     /// `os.Exit`.
@@ -176,15 +187,8 @@ impl<'a> Machine<'a> {
     }
 
     fn push_frame(&mut self, function: &'a PlannedFunction, entry: Entry) -> Result<(), NoMemory> {
-        self.current.stack.enter(function.slots)?;
-        let mut slot = function.params;
-        for _ in 0..self.waiting.len() {
-            slot = slot.saturating_sub(1);
-            match self.waiting.pop() {
-                Some(value) => self.current.stack.set(slot, value),
-                None => return Err(lost()),
-            }
-        }
+        let put = self.put_arguments(function);
+        let entry = kept(entry, put)?;
         self.put_bound(function.params, entry.bound)?;
         if function.role == Role::Source {
             self.current.sources = self.current.sources.saturating_add(1);
@@ -205,19 +209,42 @@ impl<'a> Machine<'a> {
         })
     }
 
+    /// Makes room for the slots of a function, and gives its parameters the arguments that are on their way.
+    fn put_arguments(&mut self, function: &'a PlannedFunction) -> Result<(), NoMemory> {
+        self.current.stack.enter(function.slots)?;
+        let mut slot = function.params;
+        for _ in 0..self.waiting.len() {
+            slot = slot.saturating_sub(1);
+            match self.waiting.pop() {
+                Some(value) => self.current.stack.set(slot, value),
+                None => return Err(lost()),
+            }
+        }
+        Ok(())
+    }
+
     /// Gives the free variables of the top frame their values.
     fn put_bound(&mut self, first: u32, bound: Bound) -> Result<(), NoMemory> {
         match bound {
-            Bound::Nothing => {}
-            Bound::Receiver(receiver) => self.current.stack.set(first, receiver),
-            Bound::Captured(captured) => {
-                let mut slot = first;
-                for address in captured.as_slice() {
-                    let address = address.copy()?;
-                    self.current.stack.set(slot, Value::Pointer(address));
-                    slot = slot.saturating_add(1);
-                }
+            Bound::Nothing => Ok(()),
+            Bound::Receiver(receiver) => {
+                self.current.stack.set(first, receiver);
+                Ok(())
             }
+            Bound::Captured(captured) => {
+                let put = self.put_captured(first, captured.as_slice());
+                drop(captured);
+                put
+            }
+        }
+    }
+
+    fn put_captured(&mut self, first: u32, captured: &[Address]) -> Result<(), NoMemory> {
+        let mut slot = first;
+        for address in captured {
+            let address = address.copy()?;
+            self.current.stack.set(slot, Value::Pointer(address));
+            slot = slot.saturating_add(1);
         }
         Ok(())
     }
@@ -237,30 +264,47 @@ impl<'a> Machine<'a> {
             [value] => Ok(Some(self.read(value)?)),
             _ => {
                 let mut parts = Vec::new(self.alloc);
-                for value in values {
-                    parts.push(Part::plain(self.read(value)?))?;
-                }
+                let pushed = self.push_parts(&mut parts, values);
+                let parts = kept(parts, pushed)?;
                 Ok(Some(Value::parts(self.alloc, parts)?))
             }
         }
     }
 
+    fn push_parts(&self, parts: &mut Vec<Part>, values: &[Arg]) -> Result<(), NoMemory> {
+        for value in values {
+            parts.push(Part::plain(self.read(value)?))?;
+        }
+        Ok(())
+    }
+
     fn leave(&mut self, value: Option<Value>) -> Turn {
-        let Some(frame) = self.current.pop() else {
-            return Turn::WantsMemory;
-        };
+        match self.left() {
+            Some(to) => {
+                self.give_result(to, value);
+                Turn::Goes
+            }
+            None => {
+                drop(value);
+                Turn::WantsMemory
+            }
+        }
+    }
+
+    /// The top frame goes. The slot of the frame below that gets its results.
+    pub fn left(&mut self) -> Option<Option<u32>> {
+        let frame = self.current.pop()?;
         if frame.function.role == Role::Source {
             self.current.sources = self.current.sources.saturating_sub(1);
         }
-        if let Some(value) = value {
-            self.give_result(frame.to, value);
-        }
-        Turn::Goes
+        let to = frame.to;
+        drop(frame);
+        Some(to)
     }
 
     /// The frame on top gets the result of a call, where it wants it.
-    fn give_result(&mut self, to: Option<u32>, value: Value) {
-        if let Some(to) = to {
+    fn give_result(&mut self, to: Option<u32>, value: Option<Value>) {
+        if let Some((to, value)) = to.zip(value) {
             self.current.stack.set(to, value);
         }
     }
@@ -291,7 +335,7 @@ impl<'a> Machine<'a> {
 
     /// Makes a call that was put off.
     pub fn make_later(&mut self, later: Later<'a>, deferred: bool) -> Turn {
-        self.waiting = later.arguments;
+        put(&mut self.waiting, later.arguments);
         self.call_ready(later.ready, later.chain, deferred, None)
     }
 
@@ -315,10 +359,14 @@ impl<'a> Machine<'a> {
     }
 
     fn put_off(&mut self, later: Later<'a>) -> Turn {
-        let Some(top) = &mut self.current.top else {
-            return Turn::WantsMemory;
+        let put_off = match &mut self.current.top {
+            Some(top) => pushed(&mut top.defers, later),
+            None => {
+                drop(later);
+                Err(lost())
+            }
         };
-        match top.defers.push(later) {
+        match put_off {
             Ok(()) => Turn::Goes,
             Err(_) => Turn::WantsMemory,
         }
@@ -334,10 +382,11 @@ impl<'a> Machine<'a> {
 
     fn start(&mut self, later: Later<'a>) -> Turn {
         if self.sched.spawn().is_err() {
+            drop(later);
             return Turn::WantsMemory;
         }
-        let goroutine = crate::frames::Goroutine::new(self.alloc, Some(later));
-        if self.goroutines.push(goroutine).is_err() {
+        let goroutine = Goroutine::new(self.alloc, Some(later));
+        if pushed(&mut self.goroutines, goroutine).is_err() {
             return Turn::WantsMemory;
         }
         self.switch(Point::After)

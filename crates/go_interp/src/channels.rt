@@ -2,6 +2,7 @@
 
 use crate::error::lost;
 use crate::frames::Goroutine;
+use crate::joining::{beside, kept, nothing, put};
 use crate::machine::{Machine, Met, Turn};
 use code_plan::{Arg, PlannedCase, Step};
 use go_base::{Ending, GoId, NoMemory};
@@ -97,15 +98,23 @@ impl<'a> Machine<'a> {
     #[inline(never)]
     pub fn receive(&mut self, channel: &Arg, zero: &Value, comma_ok: bool, to: u32) -> Turn {
         match self.received(channel) {
-            Ok(Received::Done { value, wakes }) => match self.arrived(value, zero, comma_ok) {
-                Ok(value) => {
-                    self.set(to, value);
-                    self.completed(wakes)
-                }
-                Err(_) => Turn::WantsMemory,
-            },
+            Ok(Received::Done { value, wakes }) => {
+                let arrived = self.arrived(value, zero, comma_ok);
+                self.give_and_wake(to, beside(arrived, wakes))
+            }
             Ok(Received::Blocks) => self.block(),
             Err(met) => self.meet(met),
+        }
+    }
+
+    /// Gives a register a value; those that waited go on.
+    fn give_and_wake(&mut self, to: u32, given: Result<(Value, Wakes), NoMemory>) -> Turn {
+        match given {
+            Ok((value, wakes)) => {
+                self.set(to, value);
+                self.completed(wakes)
+            }
+            Err(_) => Turn::WantsMemory,
         }
     }
 
@@ -122,10 +131,7 @@ impl<'a> Machine<'a> {
         comma_ok: bool,
     ) -> Result<Value, NoMemory> {
         let ok = value.is_some();
-        let value = match value {
-            Some(value) => value,
-            None => zero.copy(self.alloc)?,
-        };
+        let value = self.or_zero(value, zero)?;
         if comma_ok {
             return self.with_ok(value, ok);
         }
@@ -141,13 +147,10 @@ impl<'a> Machine<'a> {
                     value,
                     wakes,
                 },
-            ) => match self.select_value(cases, Some(index), value) {
-                Ok(value) => {
-                    self.set(to, value);
-                    self.completed(wakes)
-                }
-                Err(_) => Turn::WantsMemory,
-            },
+            ) => {
+                let value = self.select_value(cases, Some(index), value);
+                self.give_and_wake(to, beside(value, wakes))
+            }
             Ok(Selected::Default) => match self.select_value(cases, None, None) {
                 Ok(value) => {
                     self.set(to, value);
@@ -162,10 +165,18 @@ impl<'a> Machine<'a> {
 
     fn selected(&mut self, blocking: bool, cases: &[PlannedCase]) -> Result<Selected, Met> {
         let mut ops = Cases::new(self.alloc);
+        let pushed = self.push_operations(&mut ops, cases);
+        let ops = kept(ops, pushed)?;
+        let selected = self.sched.select(&ops, !blocking);
+        drop(ops);
+        Ok(selected?)
+    }
+
+    fn push_operations(&self, ops: &mut Cases, cases: &[PlannedCase]) -> Result<(), NoMemory> {
         for case in cases {
             ops.push(self.operation(case)?)?;
         }
-        Ok(self.sched.select(&ops, !blocking)?)
+        Ok(())
     }
 
     fn operation(&self, case: &PlannedCase) -> Result<ChanOp, NoMemory> {
@@ -188,16 +199,28 @@ impl<'a> Machine<'a> {
         chosen: Option<u32>,
         value: Option<Value>,
     ) -> Result<Value, NoMemory> {
-        let ok = value.is_some();
+        let mut value = value;
         let mut parts = Vec::new(self.alloc);
+        let pushed = self.push_selected(&mut parts, cases, chosen, &mut value);
+        drop(value);
+        Value::parts(self.alloc, kept(parts, pushed)?)
+    }
+
+    fn push_selected(
+        &self,
+        parts: &mut Vec<Part>,
+        cases: &[PlannedCase],
+        chosen: Option<u32>,
+        value: &mut Option<Value>,
+    ) -> Result<(), NoMemory> {
+        let ok = value.is_some();
         let index = match chosen {
             Some(index) => i128::from(index),
             None => -1,
         };
         parts.push(Part::plain(Value::Int(index)))?;
         parts.push(Part::plain(Value::Truth(ok)))?;
-        self.push_received(&mut parts, cases, chosen, value)?;
-        Value::parts(self.alloc, parts)
+        self.push_received(parts, cases, chosen, value)
     }
 
     fn push_received(
@@ -205,9 +228,8 @@ impl<'a> Machine<'a> {
         parts: &mut Vec<Part>,
         cases: &[PlannedCase],
         chosen: Option<u32>,
-        value: Option<Value>,
+        value: &mut Option<Value>,
     ) -> Result<(), NoMemory> {
-        let mut value = value;
         let mut index = 0u32;
         for case in cases {
             if let PlannedCase::Receive { zero, .. } = case {
@@ -216,15 +238,20 @@ impl<'a> Machine<'a> {
                 } else {
                     None
                 };
-                let received = match received {
-                    Some(received) => received,
-                    None => zero.copy(self.alloc)?,
-                };
+                let received = self.or_zero(received, zero)?;
                 parts.push(Part::plain(received))?;
             }
             index = index.saturating_add(1);
         }
         Ok(())
+    }
+
+    /// A value, or the zero value where there is none.
+    pub fn or_zero(&self, value: Option<Value>, zero: &Value) -> Result<Value, NoMemory> {
+        match value {
+            Some(value) => Ok(value),
+            None => zero.copy(self.alloc),
+        }
     }
 
     /// A goroutine that waited goes on with what its operation gave.
@@ -235,27 +262,40 @@ impl<'a> Machine<'a> {
             result: outcome,
         } = wake;
         let place = goroutine.number as usize;
-        let Some(step) = self.waits_at(place) else {
-            return Err(lost());
-        };
-        let given = match outcome {
-            WakeResult::SendOnClosed => return self.wake_with_fault(place),
-            WakeResult::Sent => self.woken_value(step, index, None)?,
-            WakeResult::Received(value) => self.woken_value(step, index, value)?,
-        };
+        match outcome {
+            WakeResult::SendOnClosed => {
+                self.waits_at(place)?;
+                self.wake_with_fault(place)
+            }
+            WakeResult::Sent => self.wake_with(place, index, None),
+            WakeResult::Received(value) => self.wake_with(place, index, value),
+        }
+    }
+
+    fn wake_with(
+        &mut self,
+        place: usize,
+        index: u32,
+        value: Option<Value>,
+    ) -> Result<(), NoMemory> {
+        let (step, value) = beside(self.waits_at(place), value)?;
+        let given = self.woken_value(step, index, value)?;
         match self.goroutines.get_mut(place) {
             Some(goroutine) => {
                 go_on_with(goroutine, given);
                 Ok(())
             }
-            None => Err(lost()),
+            None => {
+                drop(given);
+                Err(lost())
+            }
         }
     }
 
     fn wake_with_fault(&mut self, place: usize) -> Result<(), NoMemory> {
         match self.goroutines.get_mut(place) {
             Some(goroutine) => {
-                goroutine.fault = Some(go_value::Fault::SendOnClosed);
+                put(&mut goroutine.fault, Some(go_value::Fault::SendOnClosed));
                 go_on_with(goroutine, None);
                 Ok(())
             }
@@ -264,10 +304,15 @@ impl<'a> Machine<'a> {
     }
 
     /// The instruction at which a goroutine waits.
-    fn waits_at(&self, place: usize) -> Option<&'a Step> {
-        let top = self.goroutines.get(place)?.top.as_ref()?;
+    fn waits_at(&self, place: usize) -> Result<&'a Step, NoMemory> {
+        let Some(Goroutine { top: Some(top), .. }) = self.goroutines.get(place) else {
+            return Err(lost());
+        };
         let steps: &'a [Step] = top.steps;
-        steps.get(top.step as usize)
+        match steps.get(top.step as usize) {
+            Some(step) => Ok(step),
+            None => Err(lost()),
+        }
     }
 
     /// The register and the value that an instruction gets when what it waited for has happened.
@@ -287,7 +332,7 @@ impl<'a> Machine<'a> {
             Step::Select { cases, to, .. } => {
                 Ok(Some((*to, self.select_value(cases, Some(index), value)?)))
             }
-            _ => Ok(None),
+            _ => Ok(nothing(value)),
         }
     }
 }

@@ -1,5 +1,6 @@
 //! Frames and goroutines.
 
+use crate::joining::{kept, nothing, push_some, put};
 use crate::stack::RegStack;
 use code_plan::{BuiltinForm, PlannedFunction, Step};
 use go_base::{NoMemory, Text};
@@ -69,6 +70,26 @@ pub(crate) struct Frame<'a> {
     pub chain: u64,
 }
 
+impl Thrown {
+    /// The value that a panic carries.
+    pub fn into_value(self) -> Option<Value> {
+        match self {
+            Thrown::Value(value) => Some(value),
+            Thrown::Fault(text) => nothing(text),
+        }
+    }
+}
+
+impl FrameState {
+    /// What a frame panics with.
+    pub fn into_thrown(self) -> Option<Thrown> {
+        match self {
+            FrameState::Panicking(thrown) => Some(thrown),
+            _ => None,
+        }
+    }
+}
+
 impl<'a> Frame<'a> {
     /// The frame stands at the beginning of a block.
     pub fn stand_at(&mut self, block: u32, steps: &'a [Step]) {
@@ -107,17 +128,16 @@ impl<'a> Goroutine<'a> {
 
     /// Puts a frame on top.
     pub fn push(&mut self, frame: Frame<'a>) -> Result<(), NoMemory> {
-        if let Some(top) = self.top.take() {
-            self.below.push(top)?;
-        }
-        self.top = Some(frame);
+        let pushed = push_some(&mut self.below, self.top.take());
+        let frame = kept(frame, pushed)?;
+        put(&mut self.top, Some(frame));
         Ok(())
     }
 
     /// Takes the top frame.
     pub fn pop(&mut self) -> Option<Frame<'a>> {
         let top = self.top.take();
-        self.top = self.below.pop();
+        put(&mut self.top, self.below.pop());
         self.stack.leave();
         top
     }

@@ -10,6 +10,7 @@ mod calling;
 mod channels;
 mod error;
 mod frames;
+mod joining;
 mod machine;
 mod making;
 mod places;

@@ -2,6 +2,7 @@
 
 use crate::error::lost;
 use crate::frames::Goroutine;
+use crate::joining::put;
 use code_plan::{Arg, MethodName, MethodOf, Plan, PlannedFunction};
 use go_base::{Ending, NoMemory, TypeId};
 use go_sched::Sched;
@@ -51,6 +52,7 @@ pub(crate) struct Machine<'a> {
 }
 
 /// What a call that may meet a fault makes of it.
+#[derive(Drop)]
 pub(crate) enum Met {
     Fault(Fault),
     Memory,
@@ -197,7 +199,7 @@ impl<'a> Machine<'a> {
 
     /// The run ends.
     pub fn end(&mut self, ending: Ending) -> Turn {
-        self.ending = Some(ending);
+        put(&mut self.ending, Some(ending));
         Turn::Ends
     }
 

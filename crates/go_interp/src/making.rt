@@ -1,6 +1,7 @@
 //! Maps, slices, conversions, interfaces and function values.
 
 use crate::frames::Bound;
+use crate::joining::{beside, kept, list_of_two};
 use crate::machine::{Machine, Met, Turn};
 use code_plan::{Arg, Bounds, ConvertForm, CutForm, Step};
 use go_base::{ChanId, FuncId, MapId, NoMemory, TypeId};
@@ -62,10 +63,7 @@ impl<'a> Machine<'a> {
         let key = self.look(key)?;
         let found = self.store.map_get(self.alloc, &self.code.types, map, key)?;
         let is_there = found.is_some();
-        let value = match found {
-            Some(value) => value,
-            None => zero.copy(self.alloc)?,
-        };
+        let value = self.or_zero(found, zero)?;
         if comma_ok {
             return Ok(self.with_ok(value, is_there)?);
         }
@@ -74,16 +72,15 @@ impl<'a> Machine<'a> {
 
     /// A value and whether there was one.
     pub fn with_ok(&self, value: Value, ok: bool) -> Result<Value, NoMemory> {
-        let mut parts = Vec::new(self.alloc);
-        parts.push(Part::plain(value))?;
-        parts.push(Part::plain(Value::Truth(ok)))?;
+        let ok = Part::plain(Value::Truth(ok));
+        let parts = list_of_two(self.alloc, Part::plain(value), ok)?;
         Value::parts(self.alloc, parts)
     }
 
     fn updated(&mut self, map: &Arg, key: &Arg, value: &Arg) -> Result<(), Met> {
         let map = self.map(map)?;
         let key = self.read(key)?;
-        let value = self.read(value)?;
+        let (value, key) = beside(self.read(value), key)?;
         Ok(self.store.map_put(&self.code.types, map, key, value)?)
     }
 
@@ -156,8 +153,10 @@ impl<'a> Machine<'a> {
             return self.text_between(operand, low, &bounds.high);
         }
         let slice = self.to_be_cut(form, operand)?;
-        let high = self.bound(&bounds.high, i128::from(slice.len))?;
-        let max = self.bound(&bounds.max, i128::from(slice.cap))?;
+        let high = self.bound(&bounds.high, i128::from(slice.len));
+        let (high, slice) = beside(high, slice)?;
+        let max = self.bound(&bounds.max, i128::from(slice.cap));
+        let (max, slice) = beside(max, slice)?;
         let part = slice_of(slice, low, high, max)?;
         Ok(Value::slice(self.alloc, part)?)
     }
@@ -197,13 +196,15 @@ impl<'a> Machine<'a> {
             }
             ConvertForm::BytesToText => {
                 let slice = self.slice(operand)?;
-                let text = text_of_bytes(self.alloc, &self.store, &slice)?;
-                Ok(Value::text(self.alloc, text)?)
+                let text = text_of_bytes(self.alloc, &self.store, &slice);
+                drop(slice);
+                Ok(Value::text(self.alloc, text?)?)
             }
             ConvertForm::RunesToText => {
                 let slice = self.slice(operand)?;
-                let text = text_of_runes(self.alloc, &self.store, &slice)?;
-                Ok(Value::text(self.alloc, text)?)
+                let text = text_of_runes(self.alloc, &self.store, &slice);
+                drop(slice);
+                Ok(Value::text(self.alloc, text?)?)
             }
             ConvertForm::TextToBytes | ConvertForm::TextToRunes => self.text_to_slice(
                 form, operand,
@@ -212,15 +213,17 @@ impl<'a> Machine<'a> {
     }
 
     fn text_to_slice(&mut self, form: ConvertForm, operand: &Arg) -> Result<Value, Met> {
-        let Value::Text(text) = self.read(operand)? else {
-            return Err(Met::Memory);
+        let text = match self.look(operand)? {
+            Value::Text(text) => text.clone()?,
+            _ => return Err(Met::Memory),
         };
         let slice = if form == ConvertForm::TextToBytes {
-            bytes_of_text(self.alloc, &mut self.store, &text)?
+            bytes_of_text(self.alloc, &mut self.store, &text)
         } else {
-            runes_of_text(self.alloc, &mut self.store, &text)?
+            runes_of_text(self.alloc, &mut self.store, &text)
         };
-        Ok(Value::slice(self.alloc, slice)?)
+        drop(text);
+        Ok(Value::slice(self.alloc, slice?)?)
     }
 
     #[inline(never)]
@@ -242,11 +245,17 @@ impl<'a> Machine<'a> {
 
     fn made_closure(&self, function: FuncId, args: &[Arg]) -> Result<Value, Met> {
         let mut captured = Vec::new(self.alloc);
-        for arg in args {
-            captured.push(self.address(arg)?.copy()?)?;
-        }
+        let pushed = self.push_addresses(&mut captured, args);
+        let captured = kept(captured, pushed)?;
         let closure = FuncValue::Closure { function, captured };
         Ok(Value::function(self.alloc, closure)?)
+    }
+
+    fn push_addresses(&self, addresses: &mut Vec<Address>, args: &[Arg]) -> Result<(), NoMemory> {
+        for arg in args {
+            addresses.push(self.address(arg)?.copy()?)?;
+        }
+        Ok(())
     }
 
     #[inline(never)]
@@ -268,7 +277,8 @@ impl<'a> Machine<'a> {
         receiver: &Arg,
     ) -> Result<Value, Met> {
         let receiver = self.read(receiver)?;
-        if is_interface && matches!(receiver, Value::NilInterface) {
+        if is_interface && matches!(&receiver, Value::NilInterface) {
+            drop(receiver);
             return Err(Met::Fault(Fault::NilPointer));
         }
         Ok(go_value::bind(self.alloc, target, receiver)?)
@@ -298,12 +308,27 @@ impl<'a> Machine<'a> {
         comma_ok: bool,
     ) -> Result<Value, Met> {
         let value = self.read(operand)?;
-        let held = self.as_type(&value, wanted)?;
+        let asserted = self.asserted_value(&value, wanted, zero, comma_ok);
+        drop(value);
+        asserted
+    }
+
+    fn asserted_value(
+        &mut self,
+        value: &Value,
+        wanted: TypeId,
+        zero: &Value,
+        comma_ok: bool,
+    ) -> Result<Value, Met> {
+        let held = self.as_type(value, wanted)?;
+        if comma_ok {
+            let is_held = held.is_some();
+            let held = self.or_zero(held, zero)?;
+            return Ok(self.with_ok(held, is_held)?);
+        }
         match held {
-            Some(held) if comma_ok => Ok(self.with_ok(held, true)?),
             Some(held) => Ok(held),
-            None if comma_ok => Ok(self.with_ok(zero.copy(self.alloc)?, false)?),
-            None => Err(Met::Fault(assertion_fault(&value, wanted))),
+            None => Err(Met::Fault(assertion_fault(value, wanted))),
         }
     }
 
@@ -336,15 +361,15 @@ impl<'a> Machine<'a> {
         match &**function {
             FuncValue::Nil => Ok(None),
             FuncValue::Closure { function, captured } => {
-                let bound = self.captured(captured.as_slice())?;
-                Ok(Some((function_number(*function)?, bound)))
+                let number = function_number(*function)?;
+                Ok(Some((number, self.captured(captured.as_slice())?)))
             }
             FuncValue::Bound {
                 target: BoundTarget::Function(function),
                 receiver,
             } => {
-                let bound = Bound::Receiver(receiver.copy(self.alloc)?);
-                Ok(Some((function_number(*function)?, bound)))
+                let number = function_number(*function)?;
+                Ok(Some((number, Bound::Receiver(receiver.copy(self.alloc)?))))
             }
             _ => Err(crate::error::lost()),
         }
@@ -355,9 +380,14 @@ impl<'a> Machine<'a> {
             return Ok(Bound::Nothing);
         }
         let mut copies = Vec::new(self.alloc);
-        for address in captured {
-            copies.push(address.copy()?)?;
-        }
-        Ok(Bound::Captured(copies))
+        let pushed = push_copies(&mut copies, captured);
+        Ok(Bound::Captured(kept(copies, pushed)?))
     }
+}
+
+fn push_copies(copies: &mut Vec<Address>, addresses: &[Address]) -> Result<(), NoMemory> {
+    for address in addresses {
+        copies.push(address.copy()?)?;
+    }
+    Ok(())
 }

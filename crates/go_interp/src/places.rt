@@ -49,12 +49,18 @@ impl<'a> Machine<'a> {
 
     fn stored(&mut self, at: &Arg, value: &Arg) -> Result<(), Met> {
         let address = self.address(at)?.copy()?;
+        let stored = self.stored_at(&address, value);
+        drop(address);
+        stored
+    }
+
+    fn stored_at(&mut self, address: &Address, value: &Arg) -> Result<(), Met> {
         if let Value::Int(number) = self.look(value)? {
             let number = *number;
-            return Ok(self.store.put_int_at(&address, number)?);
+            return Ok(self.store.put_int_at(address, number)?);
         }
         let value = self.read(value)?;
-        Ok(self.store.put_at(&address, value)?)
+        Ok(self.store.put_at(address, value)?)
     }
 
     pub fn field_address(&mut self, operand: &Arg, field: u32, to: u32) -> Turn {

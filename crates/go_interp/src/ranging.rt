@@ -1,6 +1,7 @@
 //! Ranges over texts and maps. Go specification, "For statements with range clause".
 
 use crate::error::lost;
+use crate::joining::{beside, kept, list_of, pushed, put};
 use crate::machine::{Machine, Met, Turn};
 use code_plan::Arg;
 use go_base::{MapId, NoMemory};
@@ -58,11 +59,13 @@ impl<'a> Machine<'a> {
 
     /// Whether there is a next turn, its key or index, and its value.
     fn turn(&self, there: bool, key: Value, value: Value) -> Result<Value, NoMemory> {
-        let mut parts = Vec::new(self.alloc);
-        parts.push(Part::plain(Value::Truth(there)))?;
-        parts.push(Part::plain(key))?;
-        parts.push(Part::plain(value))?;
-        Value::parts(self.alloc, parts)
+        let (key, value) = (Part::plain(key), Part::plain(value));
+        let there = list_of(self.alloc, Part::plain(Value::Truth(there)));
+        let (mut parts, (key, value)) = beside(there, (key, value))?;
+        let put = pushed(&mut parts, key);
+        let (mut parts, value) = kept((parts, value), put)?;
+        let put = pushed(&mut parts, value);
+        Value::parts(self.alloc, kept(parts, put)?)
     }
 
     pub fn next_text(&mut self, range: u32, to: u32) -> Turn {
@@ -105,7 +108,8 @@ impl<'a> Machine<'a> {
                 None => Err(Met::Memory),
             },
             None => {
-                let (key, value) = (key.copy(self.alloc)?, value.copy(self.alloc)?);
+                let key = key.copy(self.alloc)?;
+                let (value, key) = beside(value.copy(self.alloc), key)?;
                 Ok(self.turn(false, key, value)?)
             }
         }
@@ -115,7 +119,7 @@ impl<'a> Machine<'a> {
     fn keep_left(&mut self, range: u32, numbers: Vec<u64>) {
         if let Some(Value::Iter(state)) = self.current.stack.get_mut(range) {
             if let RangeState::Map { left, .. } = &mut **state {
-                *left = numbers;
+                put(left, numbers);
             }
         }
     }

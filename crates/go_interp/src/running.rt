@@ -6,6 +6,7 @@ ghost use Rattle.go_interp.specs.Output.{HasWritten};
 
 use crate::error::{RunError, lost};
 use crate::frames::Goroutine;
+use crate::joining::{beside, kept, list_of};
 use crate::machine::{Machine, Turn};
 use code_plan::{Plan, plan};
 use go_base::{Ending, NoMemory, Sink, SinkError};
@@ -51,24 +52,28 @@ fn run_plan<O: Sink>(
     ensures later { O.faults out.old ≤ O.faults out.new }
 {
     match start(alloc, code, plan, choices, bound) {
-        Ok(machine) => drive(machine, out),
+        Ok(machine) => {
+            let mut machine = machine;
+            let ending = drive(&mut machine, out);
+            drop(machine);
+            ending
+        }
         Err(_) => Err(RunError::OutOfMemory),
     }
 }
 
 /// Lets a machine go on to its end.
-fn drive<O: Sink>(machine: Machine<'_>, out: &mut O) -> Result<Ending, RunError>
+fn drive<O: Sink>(machine: &mut Machine<'_>, out: &mut O) -> Result<Ending, RunError>
     ensures written { HasWritten (O.written out.old) (O.written out.new) }
     ensures fault { IsErrOf result RunError.WriteFault → HasFaulted (O.faults out.old) (O.faults out.new) }
     ensures later { O.faults out.old ≤ O.faults out.new }
 {
-    let mut machine = machine;
     for _ in 0..u64::MAX {
         match machine.make_steps() {
-            Turn::Goes => write_piece(&mut machine, out)?,
+            Turn::Goes => write_piece(machine, out)?,
             Turn::Ends => return finish(machine, out),
             Turn::WantsMemory => {
-                write(&mut machine, out)?;
+                write(machine, out)?;
                 return Err(RunError::OutOfMemory);
             }
         }
@@ -85,17 +90,18 @@ fn start<'a>(
     bound: u64,
 ) -> Result<Machine<'a>, NoMemory> {
     let mut store = Store::new(alloc);
-    for value in plan.variables.as_slice() {
-        store.make_cell(value.copy(alloc)?)?;
-    }
-    let mut goroutines = Vec::new(alloc);
-    goroutines.push(Goroutine::new(alloc, None))?;
+    let made = make_variables(alloc, plan, &mut store);
+    let store = kept(store, made)?;
+    let goroutines = list_of(alloc, Goroutine::new(alloc, None));
+    let (goroutines, store) = beside(goroutines, store)?;
+    let sched = Sched::new(alloc, choices);
+    let (sched, (goroutines, store)) = beside(sched, (goroutines, store))?;
     Ok(Machine {
         alloc,
         code,
         plan,
         store,
-        sched: Sched::new(alloc, choices)?,
+        sched,
         goroutines,
         current: Goroutine::new(alloc, None),
         started: 0,
@@ -105,6 +111,14 @@ fn start<'a>(
         waiting: Vec::new(alloc),
         implemented: IndexMap::new(alloc),
     })
+}
+
+/// Makes the cells of the variables of packages.
+fn make_variables(alloc: Global, plan: &Plan, store: &mut Store) -> Result<(), NoMemory> {
+    for value in plan.variables.as_slice() {
+        store.make_cell(value.copy(alloc)?)?;
+    }
+    Ok(())
 }
 
 /// Writes the output that is kept, where it is long.
@@ -138,13 +152,12 @@ fn write<O: Sink>(machine: &mut Machine<'_>, out: &mut O) -> Result<(), RunError
 }
 
 /// Writes the rest of the output.
-fn finish<O: Sink>(machine: Machine<'_>, out: &mut O) -> Result<Ending, RunError>
+fn finish<O: Sink>(machine: &mut Machine<'_>, out: &mut O) -> Result<Ending, RunError>
     ensures written { HasWritten (O.written out.old) (O.written out.new) }
     ensures fault { IsErrOf result RunError.WriteFault → HasFaulted (O.faults out.old) (O.faults out.new) }
     ensures later { O.faults out.old ≤ O.faults out.new }
 {
-    let mut machine = machine;
-    write(&mut machine, out)?;
+    write(machine, out)?;
     match machine.ending.take() {
         Some(ending) => Ok(ending),
         None => Err(without_ending()),

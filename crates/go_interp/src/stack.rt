@@ -1,5 +1,6 @@
 //! The slots of a goroutine's frames, in one stack.
 
+use crate::joining::put;
 use go_base::NoMemory;
 use go_value::Value;
 use std::alloc::Global;
@@ -67,8 +68,9 @@ impl RegStack {
 
     /// Gives a slot of the top frame a value.
     pub fn set(&mut self, slot: u32, value: Value) {
-        if let Some(place) = self.slots.get_mut(self.base.saturating_add(slot as usize)) {
-            *place = Some(value);
+        match self.slots.get_mut(self.base.saturating_add(slot as usize)) {
+            Some(place) => put(place, Some(value)),
+            None => drop(value),
         }
     }
 
@@ -76,7 +78,7 @@ impl RegStack {
     pub fn set_int(&mut self, slot: u32, number: i128) {
         match self.slots.get_mut(self.base.saturating_add(slot as usize)) {
             Some(Some(Value::Int(old))) => *old = number,
-            Some(place) => *place = Some(Value::Int(number)),
+            Some(place) => put(place, Some(Value::Int(number))),
             None => {}
         }
     }

@@ -2,6 +2,7 @@
 
 use crate::error::lost;
 use crate::frames::{FrameState, Thrown};
+use crate::joining::put;
 use crate::machine::{Machine, Met, Turn};
 use code_plan::{Arg, PlannedFunction, Role};
 use go_base::{Ending, NoMemory, Text};
@@ -33,7 +34,11 @@ impl<'a> Machine<'a> {
                 let dynamic = Rc::new(self.alloc, Dynamic { of, value })?;
                 Ok(Thrown::Value(Value::Interface(dynamic)))
             }
-            None => Ok(Thrown::Fault(self.shown(b"runtime error: ", text.as_slice())?)),
+            None => {
+                let shown = self.shown(b"runtime error: ", text.as_slice());
+                drop(text);
+                Ok(Thrown::Fault(shown?))
+            }
         }
     }
 
@@ -55,10 +60,11 @@ impl<'a> Machine<'a> {
     }
 
     pub fn panic_with(&mut self, value: Value) -> Turn {
-        match value {
-            Value::NilInterface => self.meet(Met::Fault(Fault::PanicNil)),
-            value => self.throw(Thrown::Value(value)),
+        if matches!(&value, Value::NilInterface) {
+            drop(value);
+            return self.meet(Met::Fault(Fault::PanicNil));
         }
+        self.throw(Thrown::Value(value))
     }
 
     /// The top frame panics. Where there is none, the run ends.
@@ -72,7 +78,7 @@ impl<'a> Machine<'a> {
                 top.stand_at(number, block.steps.as_slice());
             }
         }
-        top.state = FrameState::Panicking(thrown);
+        put(&mut top.state, FrameState::Panicking(thrown));
         Turn::Goes
     }
 
@@ -87,16 +93,26 @@ impl<'a> Machine<'a> {
     fn panic_line(&self, thrown: Thrown) -> Result<Text, NoMemory> {
         match thrown {
             Thrown::Fault(text) => Ok(text),
-            Thrown::Value(Value::Interface(dynamic)) => {
-                let names = &self.code.names;
-                let labels = &self.code.packages;
-                let types = &self.code.types;
-                let known = self.plan.error_string;
-                let text = panic_text(self.alloc, names, labels, types, known, &dynamic)?;
-                self.shown(b"", text.as_slice())
+            Thrown::Value(value) => {
+                let line = self.value_line(&value);
+                drop(value);
+                line
             }
-            Thrown::Value(_) => Err(lost()),
         }
+    }
+
+    fn value_line(&self, value: &Value) -> Result<Text, NoMemory> {
+        let Value::Interface(dynamic) = value else {
+            return Err(lost());
+        };
+        let names = &self.code.names;
+        let labels = &self.code.packages;
+        let types = &self.code.types;
+        let known = self.plan.error_string;
+        let text = panic_text(self.alloc, names, labels, types, known, dynamic)?;
+        let shown = self.shown(b"", text.as_slice());
+        drop(text);
+        shown
     }
 
     /// The top frame begins to make its deferred calls.
@@ -104,7 +120,7 @@ impl<'a> Machine<'a> {
         match &mut self.current.top {
             Some(top) => {
                 if !top.defers.is_empty() {
-                    top.state = FrameState::Returning;
+                    put(&mut top.state, FrameState::Returning);
                 }
                 Turn::Goes
             }
@@ -121,9 +137,10 @@ impl<'a> Machine<'a> {
         if let Some(later) = top.defers.pop() {
             return self.make_later(later, true);
         }
-        match std::mem::replace(&mut top.state, FrameState::Running) {
-            FrameState::Panicking(thrown) => self.remove(thrown),
-            _ => Turn::Goes,
+        let state = std::mem::replace(&mut top.state, FrameState::Running);
+        match state.into_thrown() {
+            Some(thrown) => self.remove(thrown),
+            None => Turn::Goes,
         }
     }
 
@@ -131,21 +148,13 @@ impl<'a> Machine<'a> {
     fn remove(&mut self, thrown: Thrown) -> Turn {
         let height = self.current.below.len().saturating_add(1);
         for _ in 0..height {
-            self.drop_top();
+            self.left();
             match &self.current.top {
                 Some(top) if top.function.role == Role::Wrapper => {}
                 _ => return self.throw(thrown),
             }
         }
         self.throw(thrown)
-    }
-
-    fn drop_top(&mut self) {
-        if let Some(frame) = self.current.pop() {
-            if frame.function.role == Role::Source {
-                self.current.sources = self.current.sources.saturating_sub(1);
-            }
-        }
     }
 
     /// `recover`, called by the top frame.
@@ -160,13 +169,7 @@ impl<'a> Machine<'a> {
             return Value::NilInterface;
         };
         match self.current.below.get_mut(place) {
-            Some(frame) => match std::mem::replace(&mut frame.state, FrameState::Returning) {
-                FrameState::Panicking(Thrown::Value(value)) => value,
-                other => {
-                    frame.state = other;
-                    Value::NilInterface
-                }
-            },
+            Some(frame) => recovered(&mut frame.state).unwrap_or(Value::NilInterface),
             None => Value::NilInterface,
         }
     }
@@ -177,6 +180,17 @@ impl<'a> Machine<'a> {
             .below
             .iter()
             .rposition(|frame| frame.function.role != Role::Wrapper)
+    }
+}
+
+/// The value of a panic, which is then over.
+fn recovered(state: &mut FrameState) -> Option<Value> {
+    match state {
+        FrameState::Panicking(Thrown::Value(_)) => {
+            let before = std::mem::replace(state, FrameState::Returning);
+            before.into_thrown()?.into_value()
+        }
+        _ => None,
     }
 }
 
