@@ -11,7 +11,7 @@ pub record State : Type 0 where
   pub channels : List Chan
   -- how many goroutines were made
   pub goroutines : ℕ
-  -- those that are runnable, ascending
+  -- those that are runnable
   pub runnable : List ℕ
   pub current : GoId
   -- the choices that are to be taken, and those that were, where they are recorded, with the room for more

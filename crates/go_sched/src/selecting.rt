@@ -8,7 +8,8 @@ use go_value::{Fault, Value};
 
 impl Sched {
     /// A `select` of the current goroutine: a choice among the cases that are ready, else the default, else it waits on
-    /// all cases. `SendOnClosed` exactly where the case chosen sends on a closed channel. After an error all is as before.
+    /// all cases. `SendOnClosed` exactly where the case chosen sends on a closed channel; the choice is taken then, and
+    /// nothing else has changed. After want of memory all is as before.
     pub fn select(&mut self, cases: &Cases, has_default: bool) -> Result<Selected, SchedError> {
         let count = self.count_ready(cases.as_slice());
         if count > 0 {
