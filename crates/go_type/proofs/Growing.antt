@@ -99,7 +99,7 @@ module _ (p : TypeId → Bool) where
 -- ---- what stays of settled types
 
 module _ (old later : Table) (before : IsHeld old) (after : IsHeld later) (grows : Grows old later) (p : TypeId → Bool) (settled : AreSettled old p) where
-  term_of : (x : TypeId) → p x ≡ true → (t : TypeTerm) × (term_at old x ≡ Some t)
+  pub term_of : (x : TypeId) → p x ≡ true → (t : TypeTerm) × (term_at old x ≡ Some t)
   term_of x h = some_term old.terms x.number (ltb-true _ _ (settled.held x h))
 
   pub same_term_at : (x : TypeId) → p x ≡ true → term_at later x ≡ term_at old x

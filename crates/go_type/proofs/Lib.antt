@@ -21,3 +21,4 @@ pub mod Reaching
 pub mod Held
 pub mod Spots
 pub mod InlineTypes
+pub mod Settled

@@ -1,9 +1,10 @@
 -- The sizes that are known of types.
-use Rattle.std.specs.Prelude.{◌≡◌, ℕ, min, Bool, Option, Some}
+use Rattle.std.specs.Prelude.{◌≡◌, ℕ, min, Bool, false, ◌↔◌, Option, Some}
 use Rattle.indexmap.specs.IndexMap.{get}
 use Rattle.go_base.specs.declared.ids.TypeId.{TypeId}
 use Rattle.go_type.specs.Sizes.{leaves_to, nests_within}
 use Rattle.go_type.specs.Table.{Table}
+use Rattle.type_sizes.specs.Nesting.{IsNestedAbove}
 use Rattle.type_sizes.specs.declared.sizes.Asked.{Asked}
 use Rattle.type_sizes.specs.declared.sizes.Size.{Size}
 use Rattle.type_sizes.specs.declared.sizes.Sizes.{Sizes}
@@ -18,7 +19,7 @@ leaves_within depth types id = min 1048577 (leaves_to depth types id)
 
 -- the limits are a nesting of 1,000 and 1,048,576 leaves
 pub record IsSizeOf (types : Table) (id : TypeId) (size : Size) : Type 0 where
-  pub nests : size.nests ≡ nests_within 1000 types id
+  pub nests : (size.nests ≡ false) ↔ IsNestedAbove 1000 types id
   pub leaves : size.leaves ≡ leaves_within 1000 types id
 
 abbrev pub AreNested : Table → (Asked → Option Bool) → Type 0

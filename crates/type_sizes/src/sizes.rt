@@ -1,12 +1,14 @@
 //! The sizes of types, of which each is looked at once for each depth. Without that a type would be looked at again for
 //! each way to it.
 
-ghost use Rattle.std.specs.Prelude.{◌≡◌, ◌&&◌, ◌≤◌, ◌+◌, ◌*◌, max, min, IfOk};
+ghost use Rattle.std.specs.Prelude.{◌≡◌, ◌&&◌, ◌≤◌, ◌+◌, ◌*◌, max, min, IfOk, false, ◌↔◌};
 ghost use Rattle.go_type.specs.Table.{Table};
 ghost use Rattle.std.specs.List.{list_all, sum_by};
 ghost use Rattle.go_type.specs.Sizes.{nests_within, nests_as_part, leaves_to};
 ghost use Rattle.type_sizes.specs.Known.{AreSizes, IsSizeOf, leaves_within};
+ghost use Rattle.type_sizes.specs.Nesting.{IsNestedAbove};
 
+use crate::nesting::has_nesting;
 use go_base::{NoMemory, TypeId};
 use go_type::{Field, MethodType, TypeTerm, Types};
 use indexmap::IndexMap;
@@ -24,7 +26,8 @@ const TOO_MANY: u64 = MOST_LEAVES + 1;
 /// How large a type is.
 #[derive(Clone, Copy, Debug, PartialEq, Eq)]
 pub struct Size {
-    /// Whether its nesting is at most the greatest.
+    /// Whether its nesting is at most the greatest. A type without a nesting, as `type T struct { p *[1]T }`, is within
+    /// every limit.
     pub nests: bool,
     /// Its leaves, or 1,048,577 where it has more than the most. Elements and fields that are deeper than the greatest
     /// nesting count 1.
@@ -62,9 +65,22 @@ impl Sizes {
         ensures size { IfOk result (IsSizeOf types.now id) }
         ensures kept { AreSizes types.now self.new }
     {
-        let nests = self.nests(types, id, MOST_NESTING)?;
+        let nests = self.nests_enough(types, id)?;
         let leaves = self.leaves(types, id, MOST_NESTING)?;
         Ok(Size { nests, leaves })
+    }
+
+    /// Whether the nesting of a type is not above the greatest.
+    fn nests_enough(&mut self, types: &Types, id: TypeId) -> Result<bool, NoMemory>
+        requires { AreSizes types.now self.old }
+        ensures answer { IfOk result (λ b. (b ≡ false) ↔ IsNestedAbove 1000 types.now id) }
+        ensures kept { AreSizes types.now self.new }
+    {
+        if self.nests(types, id, MOST_NESTING)? {
+            return Ok(true);
+        }
+        let has_nesting = has_nesting(types, id)?;
+        Ok(!has_nesting)
     }
 
     #[cycle(nests)]

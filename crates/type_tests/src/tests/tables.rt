@@ -5,7 +5,7 @@ use crate::shapes::{at, build, empty, hold, method, struct_of};
 use go_base::{NameId, TypeId};
 use go_type::{
     ALL_BASIC, Basic, EXPORTED, MAX_NESTING, SelectError, TypeTerm, Types, basic, find_selector,
-    is_nested_within, leaves_up_to,
+    leaves_up_to,
 };
 use std::alloc::Global;
 use std::process::Abort;
@@ -66,8 +66,6 @@ fn sizes(rt: HostRuntime) -> Result<(), Fail> {
     let matrix = matrix(&rt, &mut types, 1_025)?;
     let leaves = leaves_up_to(&types, matrix, 2_000_000, MAX_NESTING);
     assert_eq!(rt; leaves, 1_049_600);
-    assert!(rt; is_nested_within(&types, matrix, 3));
-    assert!(rt; !is_nested_within(&types, matrix, 2));
     Ok(())
 }
 
