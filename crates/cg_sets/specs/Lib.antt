@@ -1,4 +1,12 @@
+pub mod Answering
 pub mod Asking
 pub mod Candidates
+pub mod ClassLists
+pub mod Classes
+pub mod Embedding
 pub mod Graphs
+pub mod Implementing
 pub mod InOrder
+pub mod Numbering
+pub mod Reaching
+pub mod Rules

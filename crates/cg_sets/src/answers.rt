@@ -1,15 +1,27 @@
 //! The candidates of every group: what each value stands for in it.
 
-use crate::candidates::{Candidate, Goal};
+ghost use Rattle.std.specs.Prelude.{◌≡◌, ◌++◌, ◌==◌, ℕ, IfOk, IfSome, None, OnOk, flat_map, length, option_to_list};
+ghost use Rattle.cg_nodes.specs.declared.nodes.Group.TheVariants as group_of;
+ghost use Rattle.cg_nodes.specs.declared.nodes.Selector.{Selector};
+ghost use Rattle.cg_numbers.specs.Numbered.{Extends, IsAt};
+ghost use Rattle.cg_sets.specs.Answering as answering;
+ghost use Rattle.cg_sets.specs.Answering.{AreAnswers, ListsMade, OfFunctions, OfGroup, OfGroups, OfValues, Puts};
+ghost use Rattle.cg_sets.specs.Candidates.{IsBase, ArePointed};
+ghost use Rattle.cg_sets.specs.Classes.{AreClasses};
+ghost use Rattle.cg_sets.specs.Implementing.{AreFound};
+ghost use Rattle.cg_solve.specs.Tables.{row};
+ghost use Rattle.go_tree.specs.declared.program.Program.{Program};
+
+use crate::candidates::{Candidate, Placed};
 use crate::classes::{ClassMethod, Classes, classes_of};
-use crate::implementing::Implementing;
-use cg_nodes::{Group, Node, Selector, Value, is_interface};
+use crate::implementing::{Implementing, offers};
+use crate::placing::{base_of, of_function, of_value};
+use cg_nodes::{Group, Selector};
 use cg_numbers::Numbers;
 use cg_solve::Table;
-use go_base::{FuncId, NoMemory, TypeId};
-use go_tree::{FunctionForm, Program};
+use go_base::{FuncId, NoMemory};
+use go_tree::Program;
 use std::alloc::Global;
-use tree_facts::is_in_program;
 
 /// The candidates, by the number of the group.
 #[derive(Drop)]
@@ -22,126 +34,105 @@ pub fn answers_of(
     alloc: Global,
     program: &Program,
     numbers: &mut Numbers,
-) -> Result<Answers, NoMemory> {
-    let classes = classes_of(alloc, program, numbers)?;
+) -> Result<Answers, NoMemory>
+    ensures answers { ListsMade program.now numbers.old → IfOk result (λ found. AreAnswers program.now numbers.new (row found.rows)) }
+    ensures pointed { OnOk result (ArePointed numbers.new.likeness.types (IsBase program.now numbers.new.likeness.types numbers.new.likeness.bares)) }
+    ensures extends { OnOk result (Extends numbers.old numbers.new) }
+{
     let mut answers = Answers {
         rows: Table::new(alloc),
     };
+    answers.add_values(alloc, program, numbers)?;
     answers.add_functions(alloc, program, numbers)?;
-    answers.add_values(alloc, program, numbers, &classes)?;
+    let classes = classes_of(alloc, program, numbers)?;
+    numbers.laws();
     answers.add_selected(alloc, numbers, &classes)?;
     Ok(answers)
 }
 
 impl Answers {
-    /// The declared functions and the literals, each for itself. Those named `init` are no values.
-    fn add_functions(
-        &mut self,
-        alloc: Global,
-        program: &Program,
-        numbers: &mut Numbers,
-    ) -> Result<(), NoMemory> {
-        for (number, decl) in program.functions.as_slice().iter().enumerate() {
-            let function = FuncId {
-                number: number as u64,
-            };
-            if is_value(decl.form) && is_in_program(program, function) {
-                let value = numbers.value(Value::Function(function))?;
-                let goal = Goal::Function(function);
-                let candidate = plain(numbers, value, goal, 0)?;
-                self.add_signed(alloc, numbers, decl.signature, candidate)?;
-            }
-        }
-        Ok(())
-    }
-
     /// The method values and method expressions that were met.
     fn add_values(
         &mut self,
         alloc: Global,
         program: &Program,
         numbers: &mut Numbers,
-        classes: &Classes,
-    ) -> Result<(), NoMemory> {
+    ) -> Result<(), NoMemory>
+        ensures puts { ListsMade program.now numbers.old → OnOk result (Puts numbers.new (row self.old.rows) (row self.new.rows) (OfValues program.now numbers.old.likeness numbers.old.values.keys (length numbers.old.values.keys))) }
+        ensures extends { OnOk result (Extends numbers.old numbers.new) }
+    {
         for number in 0..numbers.values().len() {
-            if let Some(value) = numbers.values().get(number).copied() {
-                self.add_value(alloc, program, numbers, classes, number, value)?;
-            }
+            let placed = of_value(alloc, program, numbers, number)?;
+            self.put(alloc, placed)?;
         }
         Ok(())
     }
 
-    fn add_value(
+    /// The declared functions and the literals, each for itself.
+    fn add_functions(
         &mut self,
         alloc: Global,
         program: &Program,
         numbers: &mut Numbers,
-        classes: &Classes,
-        number: usize,
-        value: Value,
-    ) -> Result<(), NoMemory> {
-        match value {
-            Value::Class(_) | Value::Function(_) => Ok(()),
-            Value::Bound(function) => {
-                let functions = program.functions.as_slice();
-                let Some(decl) = functions.get(function.number as usize) else {
-                    return Ok(());
-                };
-                let goal = Goal::Function(function);
-                let candidate = plain(numbers, number, goal, 1)?;
-                self.add_signed(alloc, numbers, decl.signature, candidate)
-            }
-            Value::BoundSelector {
-                at,
-                selector,
-                signature,
-            } => {
-                let of = numbers.node(Node::Operand(at))?;
-                let group = numbers.group(Group::Selected(selector))?;
-                let goal = Goal::Group { of, group };
-                let candidate = plain(numbers, number, goal, 0)?;
-                self.add_signed(alloc, numbers, signature, candidate)
-            }
-            Value::Unbound {
-                selector,
-                signature,
-            } => {
-                let found = unbound(program, numbers, classes, number, selector, signature)?;
-                match found {
-                    Some(candidate) => self.add_signed(alloc, numbers, signature, candidate),
-                    None => Ok(()),
-                }
-            }
+    ) -> Result<(), NoMemory>
+        ensures puts { OnOk result (Puts numbers.new (row self.old.rows) (row self.new.rows) (OfFunctions program.now numbers.old.likeness (length program.now.functions))) }
+        ensures extends { OnOk result (Extends numbers.old numbers.new) }
+    {
+        for number in 0..program.functions.len() as u64 {
+            let placed = of_function(program, numbers, FuncId { number })?;
+            self.put(alloc, placed)?;
         }
+        Ok(())
     }
 
-    /// A candidate where functions of a signature are called.
-    fn add_signed(
-        &mut self,
-        alloc: Global,
-        numbers: &mut Numbers,
-        signature: TypeId,
-        candidate: Candidate,
-    ) -> Result<(), NoMemory> {
-        let group = numbers.group(Group::Signed(signature))?;
-        self.rows.put(alloc, group, candidate)
+    fn put(&mut self, alloc: Global, placed: Option<Placed>) -> Result<(), NoMemory>
+        ensures { OnOk result ((k : ℕ) → row self.new.rows k ≡ row self.old.rows k ++ answering.placed_in k placed) }
+    {
+        match placed {
+            Some(placed) => self.rows.put(alloc, placed.group, placed.candidate),
+            None => Ok(()),
+        }
     }
 
     /// The methods that selectors select.
     fn add_selected(
         &mut self,
         alloc: Global,
-        numbers: &mut Numbers,
+        numbers: &Numbers,
         classes: &Classes,
-    ) -> Result<(), NoMemory> {
+    ) -> Result<(), NoMemory>
+        ensures puts { OnOk result ((p : Program) → AreClasses p numbers.now classes.now → Puts numbers.now (row self.old.rows) (row self.new.rows) (OfGroups p numbers.now.likeness numbers.now.groups.keys (length numbers.now.groups.keys))) }
+    {
         let mut implementing = Implementing::new(alloc);
         for number in 0..numbers.groups().len() {
-            if let Some(Group::Selected(selector)) = numbers.groups().get(number).copied() {
-                let place = implementing.find(alloc, &numbers.likeness, classes, selector.of)?;
-                let list = implementing.list(place);
-                self.add_classes(alloc, classes, number, selector, list)?;
-            }
+            self.add_group(alloc, numbers, classes, &mut implementing, number)?;
         }
+        Ok(())
+    }
+
+    fn add_group(
+        &mut self,
+        alloc: Global,
+        numbers: &Numbers,
+        classes: &Classes,
+        implementing: &mut Implementing,
+        group: usize,
+    ) -> Result<(), NoMemory>
+        ensures puts { OnOk result ((p : Program) → AreClasses p numbers.now classes.now → AreFound p numbers.now classes.now implementing.old → Puts numbers.now (row self.old.rows) (row self.new.rows) (OfGroup p numbers.now.likeness numbers.now.groups.keys group)) }
+        ensures found { OnOk result ((p : Program) → AreClasses p numbers.now classes.now → AreFound p numbers.now classes.now implementing.old → AreFound p numbers.now classes.now implementing.new) }
+    {
+        classes.laws();
+        let Some(selector) = selector_at(numbers, group) else {
+            return Ok(());
+        };
+        if !offers(&numbers.likeness.types, selector) {
+            return Ok(());
+        }
+        let Some(name) = classes.name(selector.name, selector.package) else {
+            return Ok(());
+        };
+        let place = implementing.find(alloc, numbers, classes, selector.of)?;
+        self.add_classes(alloc, classes, group, name, implementing.list(place))?;
         Ok(())
     }
 
@@ -150,123 +141,67 @@ impl Answers {
         alloc: Global,
         classes: &Classes,
         group: usize,
-        selector: Selector,
-        list: &[usize],
-    ) -> Result<(), NoMemory> {
-        let Some(name) = classes.name(selector.name, selector.package) else {
-            return Ok(());
-        };
-        for class in list {
-            match (classes.values.get(*class), classes.method(*class, name)) {
-                (Some(value), Some(method)) => {
-                    self.rows.put(alloc, group, of_class(*value, method))?;
-                }
-                _ => {}
-            }
+        name: usize,
+        places: &[usize],
+    ) -> Result<(), NoMemory>
+        ensures { OnOk result ((k : ℕ) → row self.new.rows k ≡ row self.old.rows k ++ answering.if_so (group == k) (flat_map (answering.class_candidate classes.now name) places.now)) }
+    {
+        for place in places {
+            self.add_class(alloc, classes, group, name, *place)?;
         }
         Ok(())
     }
-}
 
-/// Whether a function may stand as a value.
-fn is_value(form: FunctionForm) -> bool {
-    match form {
-        FunctionForm::Function | FunctionForm::Literal { .. } => true,
-        FunctionForm::Method | FunctionForm::Init | FunctionForm::PackageInit => false,
+    fn add_class(
+        &mut self,
+        alloc: Global,
+        classes: &Classes,
+        group: usize,
+        name: usize,
+        place: usize,
+    ) -> Result<(), NoMemory>
+        ensures { OnOk result ((k : ℕ) → row self.new.rows k ≡ row self.old.rows k ++ answering.if_so (group == k) (answering.class_candidate classes.now name place)) }
+    {
+        match class_candidate(classes, name, place) {
+            Some(candidate) => self.rows.put(alloc, group, candidate),
+            None => Ok(()),
+        }
     }
 }
 
-/// A candidate that hands on all arguments, and whose receiver, if it has one, is known where the value is made.
-fn plain(
-    numbers: &mut Numbers,
-    value: usize,
-    goal: Goal,
-    base: usize,
-) -> Result<Candidate, NoMemory> {
-    Ok(Candidate {
-        value,
-        goal,
-        skip: 0,
-        base,
-        receiver: numbers.node(Node::Nothing)?,
-    })
+/// The selector of the group of a number. None where that is of a signature.
+fn selector_at(numbers: &Numbers, group: usize) -> Option<Selector>
+    ensures some { IfSome result (λ s. IsAt numbers.now.groups.keys group (group_of.Selected s)) }
+    ensures none { result ≡ None → (s : Selector) → IsAt numbers.now.groups.keys group (group_of.Selected s) → ⊥ }
+{
+    match numbers.groups().get(group).copied() {
+        Some(Group::Selected(selector)) => Some(selector),
+        _ => None,
+    }
 }
 
-/// What a class stands for. A method of an embedded interface has no receiver of its own to be handed.
-fn of_class(value: usize, method: ClassMethod) -> Candidate {
-    let base = match method.goal {
-        Goal::Function(_) => 1,
-        Goal::Group { .. } | Goal::First { .. } => 0,
-    };
+/// The candidate of the class at a place, by the method of the name of a number.
+fn class_candidate(classes: &Classes, name: usize, place: usize) -> Option<Candidate>
+    ensures { option_to_list result ≡ answering.class_candidate classes.now name place }
+{
+    match classes.method(place, name) {
+        Some(method) => match classes.list.values.get(place) {
+            Some(value) => Some(of_class(*value, method)),
+            None => None,
+        },
+        None => None,
+    }
+}
+
+/// What a class stands for.
+fn of_class(value: usize, method: ClassMethod) -> Candidate
+    ensures { result ≡ answering.of_class value method }
+{
     Candidate {
         value,
-        goal: method.goal,
+        goal: method.aiming.goal,
         skip: 0,
-        base,
-        receiver: method.receiver,
-    }
-}
-
-/// What a method expression stands for: its first argument is the receiver.
-fn unbound(
-    program: &Program,
-    numbers: &mut Numbers,
-    classes: &Classes,
-    value: usize,
-    selector: Selector,
-    signature: TypeId,
-) -> Result<Option<Candidate>, NoMemory> {
-    if is_interface(&numbers.likeness.types, selector.of) {
-        let group = numbers.group(Group::Selected(selector))?;
-        return Ok(Some(Candidate {
-            value,
-            goal: Goal::First { group },
-            skip: 1,
-            base: 0,
-            receiver: numbers.node(Node::Nothing)?,
-        }));
-    }
-    let Some(method) = method_of(classes, selector) else {
-        return Ok(None);
-    };
-    let Goal::Function(function) = method.goal else {
-        return Ok(Some(Candidate {
-            value,
-            goal: method.goal,
-            skip: 1,
-            base: 0,
-            receiver: method.receiver,
-        }));
-    };
-    let receiver = if takes(program, numbers, function, selector.of) {
-        numbers.node(Node::Argument(Group::Signed(signature), 0))?
-    } else {
-        method.receiver
-    };
-    Ok(Some(Candidate {
-        value,
-        goal: method.goal,
-        skip: 1,
-        base: 1,
-        receiver,
-    }))
-}
-
-/// The method that a selector selects of a class.
-fn method_of(classes: &Classes, selector: Selector) -> Option<ClassMethod> {
-    let class = classes.types.get_index_of(&selector.of)?;
-    let name = classes.name(selector.name, selector.package)?;
-    classes.method(class, name)
-}
-
-/// Whether a method's receiver has a type.
-fn takes(program: &Program, numbers: &Numbers, function: FuncId, of: TypeId) -> bool {
-    let functions = program.functions.as_slice();
-    let Some(decl) = functions.get(function.number as usize) else {
-        return false;
-    };
-    match decl.receiver {
-        Some(receiver) => numbers.likeness.bare(receiver) == of,
-        None => false,
+        base: base_of(method.aiming.goal),
+        receiver: method.aiming.receiver,
     }
 }

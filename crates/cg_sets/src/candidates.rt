@@ -21,3 +21,10 @@ pub struct Candidate {
     pub base: usize,
     pub receiver: usize,
 }
+
+/// A candidate, and the number of the group that it belongs to.
+#[derive(Clone, Copy)]
+pub struct Placed {
+    pub group: usize,
+    pub candidate: Candidate,
+}

@@ -1,7 +1,9 @@
 //! The way from a value to a method of it, through embedded fields. Go specification, "Struct types" and "Selectors".
 
+ghost use Rattle.std.specs.Prelude.{◌≡◌};
+ghost use Rattle.cg_sets.specs.Embedding as embedding;
+
 use cg_nodes::{Node, is_function};
-use cg_numbers::Likeness;
 use go_base::{FuncId, TypeId};
 use go_tree::FunctionDecl;
 use go_type::{TypeTerm, Types};
@@ -16,7 +18,9 @@ pub struct Embedded {
 }
 
 /// The last embedded field on a path. None where the path is empty.
-pub fn last_embedded(types: &Types, class: TypeId, path: &[u32]) -> Option<Embedded> {
+pub fn last_embedded(types: &Types, class: TypeId, path: &[u32]) -> Option<Embedded>
+    ensures { result ≡ embedding.last_on types.now (embedding.pointed types.now class) path.now }
+{
     let mut within = pointed(types, class);
     let mut last = None;
     for field in path {
@@ -32,18 +36,24 @@ pub fn last_embedded(types: &Types, class: TypeId, path: &[u32]) -> Option<Embed
 }
 
 /// What a pointer type points to, and any other type as it is.
-pub fn pointed(types: &Types, of: TypeId) -> TypeId {
+fn pointed(types: &Types, of: TypeId) -> TypeId
+    ensures { result ≡ embedding.pointed types.now of }
+{
     match types.get(of) {
         Some(TypeTerm::Pointer(base)) => *base,
         _ => of,
     }
 }
 
-fn is_pointer(types: &Types, of: TypeId) -> bool {
+fn is_pointer(types: &Types, of: TypeId) -> bool
+    ensures { result ≡ embedding.is_pointer types.now of }
+{
     matches!(types.get(of), Some(TypeTerm::Pointer(_)))
 }
 
-fn field_type(types: &Types, of: TypeId, field: u32) -> Option<TypeId> {
+fn field_type(types: &Types, of: TypeId, field: u32) -> Option<TypeId>
+    ensures { result ≡ embedding.field_type types.now of field }
+{
     match types.underlying_term(of) {
         Some(TypeTerm::Struct(fields)) => match fields.as_slice().get(field as usize) {
             Some(field) => Some(field.of),
@@ -53,25 +63,43 @@ fn field_type(types: &Types, of: TypeId, field: u32) -> Option<TypeId> {
     }
 }
 
-/// The type of a method's receiver, where that is a function type.
-pub fn function_receiver(
+/// The type of a method's receiver.
+pub fn receiver_type(functions: &[FunctionDecl], function: FuncId) -> Option<TypeId>
+    ensures { result ≡ embedding.receiver_type functions.now function }
+{
+    match functions.get(function.number as usize) {
+        Some(decl) => decl.receiver,
+        None => None,
+    }
+}
+
+/// Where a method's receiver comes from, if it is of a function type.
+#[tactic(auto, unfolding(crate::specs::Embedding::receiver_of))]
+pub fn receiver_of(
     types: &Types,
     functions: &[FunctionDecl],
+    class: TypeId,
+    path: &[u32],
     function: FuncId,
-) -> Option<TypeId> {
-    let decl = functions.get(function.number as usize)?;
-    let receiver = decl.receiver?;
-    if is_function(types, receiver) {
-        return Some(receiver);
+) -> Node
+    ensures { result ≡ embedding.receiver_of types.now functions.now class path.now function }
+{
+    match receiver_type(functions, function) {
+        Some(receiver) if is_function(types, receiver) => {
+            let last = last_embedded(types, class, path);
+            receiver_node(types, class, last, receiver)
+        }
+        _ => Node::Nothing,
     }
-    None
 }
 
 /// Where a receiver of a function type comes from: the last embedded field, what a pointer that is loaded points to, or
 /// what was put into an interface.
-pub fn receiver_node(likeness: &Likeness, class: TypeId, path: &[u32], receiver: TypeId) -> Node {
-    let types = &likeness.types;
-    match last_embedded(types, class, path) {
+#[tactic(auto, unfolding(crate::specs::Embedding::receiver_on))]
+fn receiver_node(types: &Types, class: TypeId, last: Option<Embedded>, receiver: TypeId) -> Node
+    ensures { result ≡ embedding.receiver_on types.now class receiver last }
+{
+    match last {
         Some(last) => {
             if is_pointer(types, last.of) {
                 return Node::Ptr(receiver);

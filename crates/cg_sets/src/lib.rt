@@ -4,17 +4,20 @@
 //! of a signature. What a value stands for in a group is found once, however many calls choose from it.
 #![tactic(auto)]
 
+mod aiming;
 mod answers;
 mod asking;
 mod by_class;
 mod by_reach;
 mod candidates;
+mod class_list;
 mod classes;
 mod edges;
 mod embedding;
 mod error;
 mod implementing;
 mod laws;
+mod placing;
 
 pub use answers::{Answers, answers_of};
 pub use asking::{Asked, Question, edges_of, put_answer, target_number};

@@ -1,0 +1,7 @@
+use Rattle.cg_solve.specs.Tables.{row}
+use Rattle.cg_sets.specs.Rules.{row_rule}
+use Rattle.cg_sets.proofs.RowRules.{RulesBelow}
+use Rattle.cg_sets.proofs.by_class.all_rules.Given as goal
+
+abbrev pub invariant-loop-group : goal.invariant-loop-group
+invariant-loop-group l = RulesBelow row_rule (row l.all.rows) l.group l.rules.items
