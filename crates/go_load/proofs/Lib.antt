@@ -1,6 +1,8 @@
 pub mod Steps
 pub mod Texts
 pub mod ReadLines
+pub mod ModLines
+pub mod ModAnswers
 pub mod Stopping
 pub mod Modules
 pub mod Governing
@@ -24,3 +26,7 @@ pub mod FindingSteps
 pub mod Written
 pub mod Finishing
 pub mod Starting
+pub mod Directories
+pub mod InOrder
+pub mod OneProject
+pub mod OneReading

@@ -1,6 +1,7 @@
 pub mod Words
 pub mod Versions
 pub mod GoMod
+pub mod GoModLines
 pub mod Lines
 pub mod Places
 pub mod Listing
@@ -12,6 +13,7 @@ pub mod Imports
 pub mod Projects
 pub mod GoPaths
 pub mod Programs
+pub mod OneReading
 pub mod Finding
 pub mod Entries
 pub mod FileReading

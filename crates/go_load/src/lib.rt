@@ -11,6 +11,7 @@ mod found;
 mod go_mod;
 mod import_paths;
 mod imports;
+mod laws;
 mod links;
 mod listing;
 mod loader;
@@ -25,4 +26,5 @@ mod words;
 
 pub use error::LoadError;
 pub use go_base::Target;
+pub use laws::{go_mod_of_lines, one_project, one_reading};
 pub use loading::{from_text, load};
