@@ -21,7 +21,8 @@ use Rattle.driver.specs.Generating.{IsGenerated}
 use Rattle.program_work.specs.Outputs.{Comes, Finishes, IsUnfinished}
 use Rattle.driver.specs.Performing.{IsUsage, outcome_of}
 use Rattle.program_work.specs.Stopping.{outcome_at}
-use Rattle.driver.specs.WholeAnswer.{Answers, Becomes, HasProgram, IsRight, Works, generated, loaded, on_generated, on_loaded}
+use Rattle.driver.specs.Reporting.{Becomes, IsSaidOf}
+use Rattle.driver.specs.WholeAnswer.{Answers, HasProgram, IsRight, Works, generated, loaded, on_generated, on_loaded}
 use Rattle.program_work.specs.Working.{IsResult, broken, done, outside, ran, served, worked}
 use Rattle.program_work.proofs.Written.{finished_stops, finishes_as, unfinished_as}
 
@@ -129,3 +130,8 @@ pub write_fault_was : (before now : ℕ) (outcome result : Outcome) (P : Type 0)
 write_fault_was before now outcome result P (inl same) h e = inl (h (cc))
 write_fault_was before now outcome result P (inr (inl fault)) h e = inr fault.1
 write_fault_was before now outcome result P (inr (inr memory)) h e = cc
+
+-- what is said in place of an answer is one
+pub said_answers : (words : List (List ℕ)) (files : Option Tree) (outcome : Outcome) (old new : Option (List ℕ)) → Answers words files outcome old new → (said : Outcome) → IsSaidOf outcome said → Answers words files said old new
+said_answers words files outcome old new a said (inl same) = subst (λ (o : Outcome). Answers words files o old new) (sym same) a
+said_answers words files outcome old new a said (inr memory) = subst (λ (o : Outcome). Answers words files o old new) (sym memory) (unfinished words files outcome old new a)

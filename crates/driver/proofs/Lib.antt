@@ -1,3 +1,4 @@
 mod Checked
 mod Generated
 mod Answering
+pub mod Reported

@@ -3,3 +3,4 @@ pub mod Lines
 pub mod Status
 pub mod WholeAnswer
 pub mod Performing
+pub mod Reporting

@@ -5,7 +5,7 @@ ghost use Rattle.command_line.specs.CommandLine.{command_of};
 ghost use Rattle.command_line.specs.declared.command.Command.TheVariants as commands;
 ghost use Rattle.go_base.specs.Devices.{HasFaulted};
 ghost use Rattle.driver.specs.Performing.{IsUsage, outcome_of};
-ghost use Rattle.driver.specs.WholeAnswer.{Answers};
+ghost use Rattle.driver.specs.WholeAnswer.{Answers, AsksToLoad};
 
 use crate::checking::check_and_work;
 use crate::generating::generate;
@@ -28,6 +28,7 @@ pub fn perform<F: Files, O: Sink>(
     ensures files_later { F.faults files.old ≤ F.faults files.new }
     ensures out_later { O.faults out.old ≤ O.faults out.new }
     ensures same { F.tree files.new ≡ F.tree files.old }
+    ensures untouched { (AsksToLoad (map string_bytes words.now) → ⊥) → files.new ≡ files.old }
 {
     match read_words(alloc, words) {
         Err(CommandError::BadWord(word)) => bad_word(alloc, word),

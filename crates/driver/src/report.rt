@@ -3,7 +3,7 @@
 ghost use Rattle.std.specs.Prelude.{◌≡◌, ◌≤◌, IfOk, string_bytes};
 ghost use Rattle.go_base.specs.Devices.{HasFaulted};
 ghost use Rattle.driver.specs.Lines.{line_for, ending_line as line_for_ending, panic_line as line_for_panic, refused_line, usage_line};
-ghost use Rattle.driver.specs.WholeAnswer.{Reports, Becomes};
+ghost use Rattle.driver.specs.Reporting.{Reports, Becomes, IsSaidOf};
 
 use go_base::{Ending, Place, Rule, Sink, SinkError};
 use program_work::Outcome;
@@ -12,7 +12,7 @@ use std::alloc::{AllocError, Global};
 /// Writes the outcome's line to standard error, and says what the call has come to then.
 pub fn report<E: Sink>(alloc: Global, outcome: Outcome, err: &mut E) -> Outcome
     ensures becomes { Becomes (E.faults err.old) (E.faults err.new) outcome result }
-    ensures reports { Reports result (E.faults err.old) (E.faults err.new) (E.written err.old) (E.written err.new) }
+    ensures reports { Reports (IsSaidOf outcome) result (E.faults err.old) (E.faults err.new) (E.written err.old) (E.written err.new) }
     ensures later { E.faults err.old ≤ E.faults err.new }
 {
     match line(alloc, &outcome) {
@@ -25,7 +25,7 @@ pub fn report<E: Sink>(alloc: Global, outcome: Outcome, err: &mut E) -> Outcome
 fn write_line<E: Sink>(outcome: Outcome, line: &str, err: &mut E) -> Outcome
     requires { line.now ≡ line_for outcome }
     ensures becomes { Becomes (E.faults err.old) (E.faults err.new) outcome result }
-    ensures reports { Reports result (E.faults err.old) (E.faults err.new) (E.written err.old) (E.written err.new) }
+    ensures reports { Reports (λ said. said ≡ outcome) result (E.faults err.old) (E.faults err.new) (E.written err.old) (E.written err.new) }
     ensures later { E.faults err.old ≤ E.faults err.new }
 {
     if line.is_empty() {
