@@ -46,3 +46,30 @@ fn accepts(rt: HostRuntime) -> Result<(), Fail> {
     }
     Ok(())
 }
+
+// Arrays of one element, each of the one before it: the last has a nesting of one more than their number.
+fn chain(rt: &impl AllocGlobal, count: usize, end: &str) -> Result<String, NoMemory> {
+    let alloc = rt.alloc();
+    let mut text = String::from_str(alloc, "package main\n\ntype t0 [1]int\n")?;
+    for number in 1..count {
+        let line = format!(in alloc; "type t{number} [1]t{}\n", number - 1)?;
+        text.push_str(&line)?;
+    }
+    text.push_str(end)?;
+    Ok(text)
+}
+
+#[test]
+fn limits_nesting(rt: HostRuntime) -> Result<(), Fail> {
+    let kept = chain(&rt, 999, "\nfunc main() { var x t998; _ = x }\n")?;
+    let (code, err) = check(&rt, &kept)?;
+    assert!(rt; err.bytes().is_empty());
+    assert_eq!(rt; code, 0);
+    let declared = chain(&rt, 1_000, "\nfunc main() {}\n")?;
+    let (_, err) = check(&rt, &declared)?;
+    assert_eq!(rt; err.bytes(), b"x.go:1002:11: type too large (N11)\n");
+    let local = chain(&rt, 999, "\nfunc main() { var x [1]t998; _ = x }\n")?;
+    let (_, err) = check(&rt, &local)?;
+    assert_eq!(rt; err.bytes(), b"x.go:1003:21: type too large (N11)\n");
+    Ok(())
+}

@@ -137,6 +137,7 @@ pub fn see_case(
 ) -> Result<Option<TypedCase>, NoMemory> {
     let seen = walker.see(expr)?;
     let at = seen.at;
+    let is_constant = seen.is_constant();
     let case = match tag {
         Tag::Truth => truth_case(walker.scope.ground(), seen)?,
         Tag::Of(Some(of)) => case_value(walker.scope.ground(), of, seen)?,
@@ -148,6 +149,9 @@ pub fn see_case(
     let Some(case) = case else {
         return Ok(None);
     };
+    if !is_constant {
+        return Ok(Some(case));
+    }
     let is_new = is_new_value(walker, at, &case, cases);
     let (is_new, case) = beside(is_new, case)?;
     Ok(is_new.then_some(case))

@@ -30,11 +30,23 @@ const WORKS: &[(&str, &str)] = &[
 const TEXT: &str =
     "package main\ntype main.I interface{M()}\ntype main.A struct{}\nmethod main.A.M (main.A).M\nmethod *main.A.M promote (*main.A).M\n";
 
-// The status of a call, and what is on standard output.
-fn call(rt: &impl AllocGlobal, line: &str) -> Result<(u8, MemSink), NoMemory> {
+// Programs that put the address of a variable of a package into an interface, and what is on standard output.
+const RUNS: &[(&str, &str)] = &[
+    (
+        "package main\n\ntype I interface{ M() }\ntype T int\n\nfunc (t *T) M() { *t = 5 }\n\nvar t T\n\nfunc main() {\n\tvar i I = &t\n\ti.M()\n\tprintln(t)\n}\n",
+        "5\n",
+    ),
+    (
+        "package main\n\ntype I interface{ M() }\ntype E struct{ n int }\n\nfunc (e *E) M() { e.n = 7 }\n\nvar v struct{ E }\n\nfunc main() {\n\tvar i interface{} = &v\n\ti.(I).M()\n\tprintln(v.n)\n}\n",
+        "7\n",
+    ),
+];
+
+// The status of a call on a file, and what is on standard output.
+fn call(rt: &impl AllocGlobal, source: &str, line: &str) -> Result<(u8, MemSink), NoMemory> {
     let alloc = rt.alloc();
     let mut files = MemFiles::new(alloc, &[])?;
-    files.add("i.go", CALL.as_bytes())?;
+    files.add("i.go", source.as_bytes())?;
     let mut out = MemSink::new(alloc, &[])?;
     let mut err = MemSink::new(alloc, &[])?;
     let words: Vec<String> = line
@@ -48,7 +60,7 @@ fn call(rt: &impl AllocGlobal, line: &str) -> Result<(u8, MemSink), NoMemory> {
 #[test]
 fn works(rt: HostRuntime) -> Result<(), Fail> {
     for (line, out) in WORKS {
-        let (code, written) = call(&rt, line)?;
+        let (code, written) = call(&rt, CALL, line)?;
         assert_eq!(rt; written.bytes(), out.as_bytes(), "{line:?}");
         assert_eq!(rt; code, 0, "{line:?}");
     }
@@ -57,8 +69,18 @@ fn works(rt: HostRuntime) -> Result<(), Fail> {
 
 #[test]
 fn prints_code(rt: HostRuntime) -> Result<(), Fail> {
-    let (code, written) = call(&rt, "-build=NF i.go")?;
+    let (code, written) = call(&rt, CALL, "-build=NF i.go")?;
     assert!(rt; written.bytes().starts_with(TEXT.as_bytes()));
     assert_eq!(rt; code, 0);
+    Ok(())
+}
+
+#[test]
+fn runs(rt: HostRuntime) -> Result<(), Fail> {
+    for (source, out) in RUNS {
+        let (code, written) = call(&rt, source, "-run i.go")?;
+        assert_eq!(rt; written.bytes(), out.as_bytes(), "{source:?}");
+        assert_eq!(rt; code, 0, "{source:?}");
+    }
     Ok(())
 }

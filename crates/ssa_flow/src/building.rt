@@ -111,8 +111,13 @@ impl<'a> Workshop<'a> {
     fn make(&mut self, function: FuncId, decl: &FunctionDecl, form: Form) -> Result<(), NoMemory> {
         let types = self.take_types()?;
         let builder = Builder::new(self.alloc, self.program, types, function, form)?;
-        let built = build_function(builder, function, decl)?;
-        push_made(&built.types, &built.function, &mut self.dynamic)?;
+        let built = build_function(builder, &self.labels, function, decl)?;
+        push_made(
+            self.program,
+            &built.types,
+            &built.function,
+            &mut self.dynamic,
+        )?;
         self.keep(function.number, built)
     }
 
@@ -296,11 +301,12 @@ fn hold_pointers(program: &Program, types: &mut Types) -> Result<(), NoMemory> {
 /// The code of a function.
 fn build_function(
     builder: Builder<'_>,
+    labels: &Labels,
     function: FuncId,
     decl: &FunctionDecl,
 ) -> Result<Built, NoMemory> {
     let mut builder = builder;
-    let header = header_of(&mut builder, function, decl)?;
+    let header = header_of(&mut builder, labels, function, decl)?;
     let builder = lowered(builder, decl)?;
     builder.finish(header)
 }
@@ -308,12 +314,13 @@ fn build_function(
 /// What a function is but its blocks.
 fn header_of(
     builder: &mut Builder<'_>,
+    labels: &Labels,
     function: FuncId,
     decl: &FunctionDecl,
 ) -> Result<Header, NoMemory> {
     let signature = signature_of(builder, decl.signature)?;
     let params = param_types(builder, decl, &signature)?;
-    let name = function_name(builder.allocator(), builder.program(), function)?;
+    let name = function_name(builder.allocator(), builder.program(), labels, function)?;
     let free = free_types(builder)?;
     Ok(Header {
         name,

@@ -1,23 +1,26 @@
 //! Which unnamed struct types are put into interfaces.
 
-use go_base::{NoMemory, TypeId};
+use go_base::{NoMemory, TypeId, VarId};
+use go_tree::Program;
 use go_type::{TypeTerm, Types};
 use indexmap::IndexSet;
 use ssa_ir::{Block, Function, Op, Operand};
 
 /// Adds the unnamed struct types, and pointers to such, of values that a function puts into interfaces.
 pub(crate) fn push_made(
+    program: &Program,
     types: &Types,
     function: &Function,
     dynamic: &mut IndexSet<TypeId>,
 ) -> Result<(), NoMemory> {
     for block in function.blocks.as_slice() {
-        push_of_block(types, function, block, dynamic)?;
+        push_of_block(program, types, function, block, dynamic)?;
     }
     Ok(())
 }
 
 fn push_of_block(
+    program: &Program,
     types: &Types,
     function: &Function,
     block: &Block,
@@ -25,7 +28,7 @@ fn push_of_block(
 ) -> Result<(), NoMemory> {
     for instr in block.instrs.as_slice() {
         if let Op::MakeInterface { operand, .. } = &instr.op {
-            if let Some(of) = type_of(function, operand) {
+            if let Some(of) = type_of(program, types, function, operand) {
                 if is_unnamed_struct(types, of) {
                     dynamic.insert(of)?;
                 }
@@ -35,14 +38,26 @@ fn push_of_block(
     Ok(())
 }
 
-fn type_of(function: &Function, operand: &Operand) -> Option<TypeId> {
+fn type_of(
+    program: &Program,
+    types: &Types,
+    function: &Function,
+    operand: &Operand,
+) -> Option<TypeId> {
     match operand {
         Operand::Param(number) => function.params.as_slice().get(*number as usize).copied(),
         Operand::Free(number) => function.free.as_slice().get(*number as usize).copied(),
         Operand::Register(number) => function.registers.as_slice().get(*number as usize).copied(),
         Operand::Constant { of, .. } => Some(*of),
-        Operand::Function(_) | Operand::Variable(_) => None,
+        Operand::Variable(variable) => pointer_to(program, types, *variable),
+        Operand::Function(_) => None,
     }
+}
+
+/// The type of pointers to a variable of a package.
+fn pointer_to(program: &Program, types: &Types, variable: VarId) -> Option<TypeId> {
+    let variable = program.variables.as_slice().get(variable.number as usize)?;
+    types.find(&TypeTerm::Pointer(variable.of))
 }
 
 /// Whether a type is an unnamed struct type, or a pointer to one.

@@ -55,6 +55,14 @@ impl Seen {
             None => Seen { at, meaning: None },
         }
     }
+
+    /// Whether it is a constant.
+    pub fn is_constant(&self) -> bool {
+        match &self.meaning {
+            Some(Meaning::Value(expr)) => matches!(&expr.kind, ExprKind::ConstOf(_)),
+            _ => false,
+        }
+    }
 }
 
 /// The value or values that a part stands for. `WrongKindOfName` at a type, and `BadBuiltInCall` at a built-in function.

@@ -117,8 +117,13 @@ fn entry_key(
         ground.report(at, Rule::BadCompositeLiteral);
         return Ok(None);
     };
+    let is_constant = key.is_constant();
     let key = part_value(ground, key, of)?;
-    let is_new = keys.add(ground.alloc, &key);
+    let is_new = if is_constant {
+        keys.add(ground.alloc, &key)
+    } else {
+        Ok(true)
+    };
     let (is_new, key) = beside(is_new, key)?;
     if !is_new {
         ground.report(at, Rule::BadCompositeLiteral);
@@ -127,7 +132,7 @@ fn entry_key(
 }
 
 impl Keys {
-    /// Adds a key where it is a constant. False where that has come.
+    /// Adds a constant as it is a key. False where that has come.
     fn add(&mut self, alloc: Global, key: &Option<TypedExpr>) -> Result<bool, NoMemory> {
         let Some(key) = key else {
             return Ok(true);
