@@ -7,7 +7,7 @@ use go_base::{FuncId, NoMemory, Text};
 use go_tree::Program;
 use std::alloc::Global;
 use std::marker::Model;
-use tree_facts::function_name;
+use tree_facts::{function_name, labels};
 
 /// The names of all functions, by number.
 #[derive(Drop)]
@@ -46,9 +46,10 @@ impl FunctionNames {
 fn texts_of(alloc: Global, program: &Program) -> Result<Vec<Text>, NoMemory>
     ensures { IfOk result (λ texts. AreNames program.now texts.items) }
 {
+    let labels = labels(alloc, &program.packages)?;
     let mut texts = Vec::new(alloc);
     for number in 0..program.functions.len() as u64 {
-        texts.push(function_name(alloc, program, FuncId { number })?)?;
+        texts.push(function_name(alloc, program, &labels, FuncId { number })?)?;
     }
     Ok(texts)
 }

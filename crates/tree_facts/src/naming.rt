@@ -25,14 +25,21 @@ pub fn labels(alloc: Global, packages: &Packages) -> Result<Labels, NoMemory>
 
 /// What a function is called: `LABEL.f`, `(LABEL.T).m`, `(*LABEL.T).m`, `LABEL.init#k` for the k-th function named `init`,
 /// `LABEL.init` for what initialises a package; a literal as the function in which it stands, with `$k` for the k-th there.
-pub fn function_name(alloc: Global, program: &Program, function: FuncId) -> Result<Text, NoMemory>
-    ensures { IfOk result (λ text. text ≡ function_text (record { names = program.now.names; labels = map (λ p. p.label) program.now.packages; types = program.now.types }) program.now.functions function.number) }
+/// `labels` are those of the packages, by number.
+pub fn function_name(
+    alloc: Global,
+    program: &Program,
+    labels: &Labels,
+    function: FuncId,
+) -> Result<Text, NoMemory>
+    ensures { IfOk result (λ text. text ≡ function_text
+        (record { names = program.now.names; labels = labels.now; types = program.now.types })
+        program.now.functions function.number) }
 {
-    let labels = labels(alloc, &program.packages)?;
     let functions = program.functions.as_slice();
     let namer = Namer {
         names: &program.names,
-        labels: &labels,
+        labels,
         types: &program.types,
     };
     let mut text = Vec::new(alloc);
