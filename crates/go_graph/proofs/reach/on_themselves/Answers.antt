@@ -2,7 +2,7 @@ use Rattle.std.proofs.Common.{◌≡◌, ◌<◌, ◌+◌, ◌∙◌, sym, ap, s
 use Rattle.std.proofs.lemmas.List.{length-map}
 use Rattle.go_graph.specs.Graph.{next}
 use Rattle.go_graph.specs.Marks.{marked, has_component}
-use Rattle.go_graph.proofs.Steps.{row_read}
+use Rattle.go_graph.proofs.Ends.{row_read}
 use Rattle.go_graph.proofs.MarkLaws.{marks_more, on_marks, targets_below, index_read}
 use Rattle.go_graph.proofs.reach.on_themselves.Goals as goal
 
