@@ -47,6 +47,37 @@ def commented(size):
     return text + "x" * (size - len(text) - 3) + "*/\n"
 
 
+def fields(count):
+    """A struct of so many fields, of which the last is set and read."""
+    lines = "".join(f"\tf{n} int\n" for n in range(count))
+    last = f"s.f{count - 1}"
+    return f"package main\ntype S struct {{\n{lines}}}\nfunc main() {{ var s S; {last} = 7; if {last} != 7 {{ panic(1) }} }}\n"
+
+
+def variables(count):
+    """So many variables, each of which needs the next."""
+    lines = "".join(f"var v{n} = v{n + 1} + 1\n" for n in range(count - 1))
+    return f"package main\n{lines}var v{count - 1} = 1\nfunc main() {{ if v0 != {count} {{ panic(v0) }} }}\n"
+
+
+def imports(count):
+    """So many names for one package."""
+    lines = "".join(f'import e{n} "errors"\n' for n in range(count))
+    used = "".join(f"var _ = e{n}.New\n" for n in range(count))
+    return f"package main\n{lines}{used}func main() {{}}\n"
+
+
+def packages(count, last):
+    """Packages in a row, each of which imports the next, and the last one what is given."""
+    files = {"go.mod": "module m\n\ngo 1.21\n", "a.go": 'package main\nimport "m/p0"\nfunc main() { _ = p0.V }\n'}
+    for n in range(count):
+        after = n + 1 if n + 1 < count else last
+        use = "" if after is None else f'import "m/p{after}"\n'
+        value = "0" if after is None else f"p{after}.V + 1"
+        files[f"p{n}/a.go"] = f"package p{n}\n{use}var V = {value}\n"
+    return files
+
+
 def many(names, of):
     return {name: of for name in names}
 
@@ -58,6 +89,12 @@ def cases():
     yield "2,000 embedded pointers", {"a.go": embedded(2_000)}, ["a.go"], "", 0
     yield "1,048,576 leaves", {"a.go": leaves(1_048_576)}, ["a.go"], "", 0
     yield "one leaf more", {"a.go": leaves(1_048_577)}, ["a.go"], "a.go:2:7: type too large (N11)", 1
+    yield "100,000 fields", {"a.go": fields(100_000)}, ["-run", "a.go"], "", 0
+    yield "50,000 variables in a row", {"a.go": variables(50_000)}, ["-run", "a.go"], "", 0
+    yield "20,000 imports", {"a.go": imports(20_000)}, ["a.go"], "", 0
+    yield "10,000 packages in a row", packages(10_000, None), ["-run", "."], "", 0
+    cycle = "p0/a.go:2:8: import cycle (M9)"
+    yield "10,000 packages in a cycle", packages(10_000, 0), ["."], cycle, 1
     yield "390 parentheses", {"a.go": parentheses(390)}, ["a.go"], "", 0
     yield "a file of 4 MiB", {"a.go": main, "b.go": commented(4 * MIB)}, ["."], "", 0
     yield "a byte more", {"a.go": main, "b.go": commented(4 * MIB + 1)}, ["."], "b.go:1:1: file too large (M5)", 1
@@ -72,7 +109,9 @@ def failure(binary, files, words, wanted, status):
     """What is wrong with a case; nothing where it is as wanted."""
     with tempfile.TemporaryDirectory() as room:
         for name, text in files.items():
-            pathlib.Path(room, name).write_text(text)
+            path = pathlib.Path(room, name)
+            path.parent.mkdir(exist_ok=True)
+            path.write_text(text)
         try:
             done = subprocess.run([binary, *words], cwd=room, capture_output=True, timeout=120)
         except subprocess.TimeoutExpired:
