@@ -1,8 +1,9 @@
 //! Goroutines and switch points. Go specification, "Go statements".
 
-ghost use Rattle.std.specs.Prelude.{◌≡◌, IfOk, IfSome, IfNone, OnOk, OnErr, Some, None, length, false, true};
+ghost use Rattle.std.specs.Prelude.{◌≤◌, length, map};
+ghost use Rattle.std.specs.Vec.{vec_capacity};
 ghost use Rattle.go_sched.specs.Channels.{chan_of};
-ghost use Rattle.go_sched.specs.Goroutines.{state_of, started, spawned, with_new_chan, meant, queue_length, size_of};
+ghost use Rattle.go_sched.specs.Standing.{AreHeld, lists_of, Rises, Rises-prop};
 
 use crate::channels::Channel;
 use go_base::{ChanId, GoId, NoMemory};
@@ -17,24 +18,44 @@ pub enum SchedError {
 }
 
 impl From<NoMemory> for SchedError {
+    ghost use Rattle.std.specs.Prelude.{◌≡◌};
+    ghost use Rattle.go_sched.specs.declared.scheduling.SchedError.TheVariants.{OutOfMemory};
+
+    ghost from_gives = { λ _ e. e ≡ OutOfMemory };
+
     fn from(_: NoMemory) -> SchedError {
         SchedError::OutOfMemory
     }
 }
 
 impl From<AllocError> for SchedError {
+    ghost use Rattle.std.specs.Prelude.{◌≡◌};
+    ghost use Rattle.go_sched.specs.declared.scheduling.SchedError.TheVariants.{OutOfMemory};
+
+    ghost from_gives = { λ _ e. e ≡ OutOfMemory };
+
     fn from(_: AllocError) -> SchedError {
         SchedError::OutOfMemory
     }
 }
 
 impl<T: Drop> From<AllocFailed<T>> for SchedError {
+    ghost use Rattle.std.specs.Prelude.{◌≡◌};
+    ghost use Rattle.go_sched.specs.declared.scheduling.SchedError.TheVariants.{OutOfMemory};
+
+    ghost from_gives = { λ _ e. e ≡ OutOfMemory };
+
     fn from(_: AllocFailed<T>) -> SchedError {
         SchedError::OutOfMemory
     }
 }
 
 impl From<ValueError> for SchedError {
+    ghost use Rattle.std.specs.Prelude.{◌≡◌};
+    ghost use Rattle.go_sched.specs.Goroutines.{error_of};
+
+    ghost from_gives = { λ given e. e ≡ error_of given };
+
     fn from(error: ValueError) -> SchedError {
         match error {
             ValueError::Fault(fault) => SchedError::Fault(fault),
@@ -61,15 +82,22 @@ pub struct Sched {
     pub(crate) used: usize,
     pub(crate) records: bool,
     pub(crate) taken: Vec<u32>,
-    /// The numbers of those that are runnable, ascending.
+    /// The numbers of those that are runnable, ascending, with room for all.
     pub(crate) runnable: Vec<u64>,
-    /// For each goroutine the channels at which it waits.
+    /// For each goroutine the channels in whose lists it stands.
     pub(crate) waits: Vec<Vec<ChanId>>,
     pub(crate) current: GoId,
     pub(crate) channels: Vec<Channel>,
+    ghost ascending: { Rises 0 (length waits.items) runnable.items } by { Rises-prop 0 (length waits.items) runnable.items },
+    ghost room: { length waits.items ≤ vec_capacity runnable },
+    ghost standing: { AreHeld (map chan_of channels.items) (lists_of waits.items) },
 }
 
 impl Sched {
+    ghost use Rattle.std.specs.Prelude.{◌≡◌, ◌↔◌, ◌≤◌, ◌<◌, IsTrue, slice_get, IfOk, OnErr, IfSome, IfNone, OnOk, Some, None, length, false, true};
+    ghost use Rattle.go_sched.specs.Goroutines.{state_of, started, spawned, with_new_chan, meant, size_of, queue_length, made_runnable, stopped, below};
+    ghost use Rattle.go_sched.specs.Choices.{next_at, switched, candidates, cyclic_after, from_place, next_among, switched_among};
+
     /// Goroutine 0, which is current and runnable, no channels, and the choices that are to be taken.
     pub fn new(alloc: Global, choices: &[u32]) -> Result<Sched, NoMemory>
         ensures { IfOk result (λ made. state_of made ≡ started choices.now false) }
@@ -118,7 +146,12 @@ impl Sched {
         ensures err { OnErr result (state_of self.new ≡ state_of self.old) }
     {
         let number = self.waits.len() as u64;
-        self.runnable.reserve(1)?;
+        let more = self
+            .waits
+            .len()
+            .saturating_add(1)
+            .saturating_sub(self.runnable.len());
+        self.runnable.reserve(more)?;
         self.waits.push(Vec::new(self.alloc))?;
         self.runnable.push_reserved(number);
         Ok(GoId { number })
@@ -163,53 +196,99 @@ impl Sched {
     }
 
     /// Where a goroutine stands among those that are runnable, or would stand.
-    fn place(&self, goroutine: GoId) -> usize {
+    fn place(&self, goroutine: GoId) -> usize
+        ensures { result ≡ below goroutine.number (state_of self.now).runnable }
+    {
         self.runnable
             .as_slice()
             .partition_point(|number| *number < goroutine.number)
     }
 
-    fn is_runnable_at(&self, place: usize, goroutine: GoId) -> bool {
-        self.runnable.get(place).copied() == Some(goroutine.number)
+    /// The place behind a goroutine among those that are runnable.
+    fn place_behind(&self, goroutine: GoId) -> usize
+        ensures within { result ≤ length (state_of self.now).runnable }
+        ensures first { from_place result (state_of self.now).runnable ≡
+            cyclic_after goroutine.number (state_of self.now).runnable }
+    {
+        self.runnable
+            .as_slice()
+            .partition_point(|number| *number <= goroutine.number)
     }
 
-    /// Takes a goroutine out of those that are runnable.
-    pub(crate) fn stop(&mut self, goroutine: GoId) {
-        let place = self.place(goroutine);
-        if self.is_runnable_at(place, goroutine) && place < self.runnable.len() {
+    /// Whether a goroutine stands at a place among those that are runnable.
+    fn is_at(&self, place: usize, goroutine: GoId) -> bool
+        ensures { IsTrue result ↔ (slice_get (state_of self.now).runnable place ≡ Some goroutine.number) }
+    {
+        match self.runnable.get(place) {
+            Some(number) => *number == goroutine.number,
+            None => false,
+        }
+    }
+
+    /// The current goroutine is runnable no more.
+    pub(crate) fn stop(&mut self)
+        ensures { state_of self.new ≡ stopped (state_of self.old) }
+    {
+        let place = self.place(self.current);
+        if self.is_at(place, self.current) {
             self.runnable.remove(place);
         }
     }
 
     /// Puts a goroutine among those that are runnable.
-    pub(crate) fn start(&mut self, goroutine: GoId) -> Result<(), NoMemory> {
+    pub(crate) fn start(&mut self, goroutine: GoId)
+        requires { goroutine.number < (state_of self.old).goroutines }
+        ensures { state_of self.new ≡ made_runnable goroutine (state_of self.old) }
+    {
         let place = self.place(goroutine);
-        if !self.is_runnable_at(place, goroutine) && place <= self.runnable.len() {
-            self.runnable.insert(place, goroutine.number)?;
+        if !self.is_at(place, goroutine) {
+            let _has_room = self.runnable.insert(place, goroutine.number).is_ok();
         }
-        Ok(())
     }
 
     /// Chooses the goroutine that runs next: among the current one, where it is runnable, and those that are runnable
     /// after it, in cyclic order. Under `Yield` the current one stands last. None exactly where none is runnable.
-    pub fn switch(&mut self, point: Point) -> Option<GoId> {
-        if point == Point::Ended {
-            self.stop(self.current);
+    pub fn switch(&mut self, point: Point) -> Option<GoId>
+        ensures next { result ≡ next_at point (state_of self.old) }
+        ensures after { state_of self.new ≡ switched point (state_of self.old) }
+    {
+        if let Point::Ended = point {
+            self.stop();
         }
+        let first = self.first_place(point);
+        self.go_on_from(first)
+    }
+
+    /// Where the candidates begin among those that are runnable, in cyclic order.
+    fn first_place(&self, point: Point) -> usize
+        ensures within { result ≤ length (state_of self.now).runnable }
+        ensures first { from_place result (state_of self.now).runnable ≡ candidates point (state_of self.now) }
+    {
+        match point {
+            Point::Yield => self.place_behind(self.current),
+            Point::After | Point::Blocked | Point::Ended => self.place(self.current),
+        }
+    }
+
+    /// Chooses among those that are runnable, in cyclic order from a place on.
+    fn go_on_from(&mut self, first: usize) -> Option<GoId>
+        requires { first ≤ length (state_of self.old).runnable }
+        ensures next { result ≡ next_among (from_place first (state_of self.old).runnable) (state_of self.old) }
+        ensures after { state_of self.new ≡
+            switched_among (from_place first (state_of self.old).runnable) (state_of self.old) }
+    {
         let count = self.runnable.len();
         if count == 0 {
             return None;
         }
-        let place = self.place(self.current);
-        let first = if point == Point::Yield {
-            place.saturating_add(1)
-        } else {
-            place
-        };
         let chosen = self.pick(count as u64) as usize;
         let at = first.saturating_add(chosen) % count;
-        let number = self.runnable.get(at).copied()?;
-        self.current = GoId { number };
-        Some(self.current)
+        match self.runnable.get(at) {
+            Some(number) => {
+                self.current = GoId { number: *number };
+                Some(self.current)
+            }
+            None => None,
+        }
     }
 }
