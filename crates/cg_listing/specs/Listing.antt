@@ -1,5 +1,6 @@
 -- The listing of a call graph.
-use Rattle.std.specs.Prelude.{◌≡◌, ◌⊎◌, ℕ, nat_le, Bool, false, List, [], ◌++◌, length, map, flat_map, decimal, Option, Some, None, slice_get, unwrap_or, if◌then◌else◌, IsPermutation, codes}
+use Rattle.std.specs.Prelude.{◌≡◌, ◌⊎◌, ℕ, nat_le, Bool, false, List, [], ◌++◌, length, map, flat_map, decimal, Option}
+use Rattle.std.specs.Prelude.{Some, None, slice_get, unwrap_or, if◌then◌else◌, IsPermutation, codes}
 use Rattle.std.specs.List.Sorted.{IsSortedBy}
 use Rattle.std.specs.declared.cmp.Ordering.{Ordering}
 use Rattle.std.specs.Ordering.{is_lt, nat_cmp, ordering_then}
@@ -51,7 +52,8 @@ is_within files site = within site.offset (slice_get files site.file)
 
 abbrev pub text_in : ℕ → Option SourceFile → List ℕ
 text_in offset None = []
-text_in offset (Some file) = if nat_le offset (length file.bytes) then place_text (place_in file.path file.bytes offset) else []
+text_in offset (Some file) =
+    if nat_le offset (length file.bytes) then place_text (place_in file.path file.bytes offset) else []
 
 -- path, line and column; nothing where there is no such place
 abbrev pub site_text : List SourceFile → Pos → List ℕ
@@ -67,16 +69,25 @@ pub record Line : Type 0 where
   pub callee : List ℕ
 
 abbrev pub line_by : (ℕ → List ℕ) → List SourceFile → Edge → Line
-line_by name files e = record { caller = name e.caller.number; path = path_of files e.site.file; site = e.site; callee = name e.callee.number }
+line_by name files e =
+    record {
+      caller = name e.caller.number;
+      path = path_of files e.site.file;
+      site = e.site;
+      callee = name e.callee.number;
+    }
 
 -- by the bytes of the caller and of the path, then by offset, then by the bytes of the callee
 abbrev pub line_cmp : Line → Line → Ordering
 line_cmp a b =
-    ordering_then (slice_cmp nat_cmp a.caller b.caller) (ordering_then (slice_cmp nat_cmp a.path b.path) (ordering_then (nat_cmp a.site.offset b.site.offset) (slice_cmp nat_cmp a.callee b.callee)))
+    ordering_then (slice_cmp nat_cmp a.caller b.caller)
+    (ordering_then (slice_cmp nat_cmp a.path b.path)
+    (ordering_then (nat_cmp a.site.offset b.site.offset) (slice_cmp nat_cmp a.callee b.callee)))
 
 -- caller, site and callee, with tabs between
 abbrev pub line_text : List SourceFile → Line → List ℕ
-line_text files line = line.caller ++ (codes "\t" ++ (site_text files line.site ++ (codes "\t" ++ (line.callee ++ codes "\n"))))
+line_text files line =
+    line.caller ++ (codes "\t" ++ (site_text files line.site ++ (codes "\t" ++ (line.callee ++ codes "\n"))))
 
 abbrev pub lines_text : List SourceFile → List Line → List ℕ
 lines_text files lines = flat_map (line_text files) lines
@@ -100,7 +111,8 @@ pub record Writes (files : List SourceFile) (p : Program) (edges : List Edge) (o
   pub listing : IsListing files p edges text
   pub appends : Appends old new text
 
-pub record WritesPart (files : List SourceFile) (p : Program) (edges : List Edge) (old new : Option (List ℕ)) : Type 0 where
+pub record WritesPart (files : List SourceFile) (p : Program) (edges : List Edge) (old new : Option (List ℕ)) :
+    Type 0 where
   pub text : List ℕ
   pub listing : IsListing files p edges text
   pub appends : AppendsFront old new text

@@ -7,7 +7,13 @@ use Rattle.cg_listing.specs.declared.rows.Row.{Row}
 use Rattle.cg_listing.specs.Listing.{Line, site_text}
 
 abbrev pub line_of_row : Row → Line
-line_of_row r = record { caller = r.caller.now; path = r.path.now; site = record { file = r.file; offset = r.offset }; callee = r.callee.now }
+line_of_row r =
+    record {
+      caller = r.caller.now;
+      path = r.path.now;
+      site = record { file = r.file; offset = r.offset };
+      callee = r.callee.now;
+    }
 
 -- if a site was named, this is its text
 abbrev pub IsNamed : List SourceFile → Option Pos → List ℕ → Type 0

@@ -1,4 +1,5 @@
--- Values, nodes and groups up to identity of types without the tags of fields: each in the one form that stands for all alike.
+-- Values, nodes and groups up to identity of types without the tags of fields: each in the one form that stands for all
+-- alike.
 use Rattle.std.specs.Prelude.{List, if◌then◌else◌}
 use Rattle.go_base.specs.declared.ids.TypeId.{TypeId}
 use Rattle.go_type.specs.Table.{Table, underlying_of}

@@ -55,10 +55,15 @@ Keeps s f (mention.Call at c) = (x : Site) × Has s.sites.items x × SiteAt s.nu
 -- P says what stands in which function
 pub record Collects (P : FuncId → Mention → Type 0) (s : Sites) : Type 0 where
   pub whole : (f : FuncId) (m : Mention) → P f m → Keeps s f m
-  pub sites : (x : Site) → Has s.sites.items x → (f : FuncId) × (at : Pos) × (c : Called) × P f (mention.Call at c) × SiteAt s.numbers x f at c
-  pub seeds : (x : Seed) → Has s.seeds.items x → (f : FuncId) × (v : Value) × P f (mention.Seed v) × SeedAt s.numbers x f v
-  pub flows : (x : Flow) → Has s.flows.items x → (f : FuncId) × (from : Node) × (to : Node) × P f (mention.Flow from to) × FlowAt s.numbers x from to
-  pub values : (v : Value) → Has s.numbers.values.keys v → (f : FuncId) × (u : Value) × P f (mention.Seed u) × (v ≡ like_value s.numbers.likeness.types s.numbers.likeness.bares u)
+  pub sites : (x : Site) → Has s.sites.items x
+      → (f : FuncId) × (at : Pos) × (c : Called) × P f (mention.Call at c) × SiteAt s.numbers x f at c
+  pub seeds : (x : Seed) → Has s.seeds.items x
+      → (f : FuncId) × (v : Value) × P f (mention.Seed v) × SeedAt s.numbers x f v
+  pub flows : (x : Flow) → Has s.flows.items x
+      → (f : FuncId) × (from : Node) × (to : Node) × P f (mention.Flow from to) × FlowAt s.numbers x from to
+  pub values : (v : Value) → Has s.numbers.values.keys v
+      → (f : FuncId) × (u : Value) × P f (mention.Seed u)
+      × (v ≡ like_value s.numbers.likeness.types s.numbers.likeness.bares u)
 
 abbrev pub Stands : Program → FuncId → Mention → Type 0
 Stands p f m = Contains (uses p f) m
@@ -84,9 +89,15 @@ all_met p = each_below (met_of p) (length p.functions)
 
 -- what is put down for something that was met
 abbrev pub Puts : Sites → Sites → FuncId → Mention → Type 0
-Puts old new f (mention.Seed v) = (x : Seed) × SeedAt new.numbers x f v × (new.seeds.items ≡ old.seeds.items ++ x ∷ []) × (new.sites.items ≡ old.sites.items) × (new.flows.items ≡ old.flows.items)
-Puts old new f (mention.Flow from to) = (x : Flow) × FlowAt new.numbers x from to × (new.flows.items ≡ old.flows.items ++ x ∷ []) × (new.sites.items ≡ old.sites.items) × (new.seeds.items ≡ old.seeds.items)
-Puts old new f (mention.Call at c) = (x : Site) × SiteAt new.numbers x f at c × (new.sites.items ≡ old.sites.items ++ x ∷ []) × (new.seeds.items ≡ old.seeds.items) × (new.flows.items ≡ old.flows.items)
+Puts old new f (mention.Seed v) =
+    (x : Seed) × SeedAt new.numbers x f v × (new.seeds.items ≡ old.seeds.items ++ x ∷ [])
+    × (new.sites.items ≡ old.sites.items) × (new.flows.items ≡ old.flows.items)
+Puts old new f (mention.Flow from to) =
+    (x : Flow) × FlowAt new.numbers x from to × (new.flows.items ≡ old.flows.items ++ x ∷ [])
+    × (new.sites.items ≡ old.sites.items) × (new.seeds.items ≡ old.seeds.items)
+Puts old new f (mention.Call at c) =
+    (x : Site) × SiteAt new.numbers x f at c × (new.sites.items ≡ old.sites.items ++ x ∷ [])
+    × (new.seeds.items ≡ old.seeds.items) × (new.flows.items ≡ old.flows.items)
 
 abbrev pub IsMade : Numbers → Mention → Value → Type 0
 IsMade n (mention.Seed u) v = v ≡ like_value n.likeness.types n.likeness.bares u

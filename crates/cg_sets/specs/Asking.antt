@@ -1,5 +1,6 @@
 -- What calls ask, and the edges that the answers give.
-use Rattle.std.specs.Prelude.{◌≡◌, ℕ, ◌+◌, ◌*◌, ◌/◌, ◌%◌, ◌==◌, Bool, true, false, List, [], ◌∷◌, ◌++◌, map, flat_map, Option, Some, None, if◌then◌else◌}
+use Rattle.std.specs.Prelude.{◌≡◌, ℕ, ◌+◌, ◌*◌, ◌/◌, ◌%◌, ◌==◌, Bool, true, false, List, [], ◌∷◌, ◌++◌, map, flat_map}
+use Rattle.std.specs.Prelude.{Option, Some, None, if◌then◌else◌}
 use Rattle.go_base.specs.declared.ids.FuncId.{FuncId}
 use Rattle.cg_solve.specs.declared.solving.Rule.{Rule}
 use Rattle.cg_solve.specs.LeastSets.{Derives}
@@ -78,11 +79,14 @@ answers_of (asked_of.Answer answer) = answer ∷ []
 
 -- each answer that is asked for is in the list
 abbrev pub AsksOf : List Question → List ℕ → Type 0
-AsksOf questions answers = (q : Question) → Has questions q → (answer : ℕ) → q.asked ≡ asked_of.Answer answer → Has answers answer
+AsksOf questions answers =
+    (q : Question) → Has questions q → (answer : ℕ) → q.asked ≡ asked_of.Answer answer → Has answers answer
 
 -- each answer that is asked for has all its functions
 abbrev pub AnswersAll : List Question → List Rule → (ℕ → List FuncId) → Type 0
-AnswersAll questions rules given = (q : Question) → Has questions q → (answer : ℕ) → q.asked ≡ asked_of.Answer answer → (f : FuncId) → Gives rules answer f → Has (given answer) f
+AnswersAll questions rules given =
+    (q : Question) → Has questions q → (answer : ℕ) → q.asked ≡ asked_of.Answer answer → (f : FuncId)
+    → Gives rules answer f → Has (given answer) f
 
 -- functions were put to an answer
 pub record Grows (rules : List Rule) (old new : ℕ → List FuncId) (answer : ℕ) : Type 0 where

@@ -9,4 +9,6 @@ pos_cmp a b = ordering_then (nat_cmp a.file b.file) (nat_cmp a.offset b.offset)
 
 -- by caller, site and callee
 abbrev pub edge_cmp : Edge → Edge → Ordering
-edge_cmp a b = ordering_then (nat_cmp a.caller.number b.caller.number) (ordering_then (pos_cmp a.site b.site) (nat_cmp a.callee.number b.callee.number))
+edge_cmp a b =
+    ordering_then (nat_cmp a.caller.number b.caller.number)
+    (ordering_then (pos_cmp a.site b.site) (nat_cmp a.callee.number b.callee.number))

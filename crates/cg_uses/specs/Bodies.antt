@@ -1,5 +1,6 @@
 -- What stands in a function, and in what initialises a package.
-use Rattle.std.specs.Prelude.{ℕ, ◌==◌, Bool, true, false, ◌&&◌, List, [], ◌∷◌, ◌++◌, Option, flat_map, length, slice_get, if◌then◌else◌}
+use Rattle.std.specs.Prelude.{ℕ, ◌==◌, Bool, true, false, ◌&&◌, List, [], ◌∷◌, ◌++◌, Option, flat_map, length}
+use Rattle.std.specs.Prelude.{slice_get, if◌then◌else◌}
 use Rattle.go_base.specs.declared.ids.FuncId.{FuncId}
 use Rattle.go_base.specs.declared.ids.VarId.{VarId}
 use Rattle.go_tree.specs.declared.functions.FunctionDecl.{FunctionDecl}
@@ -48,7 +49,8 @@ uses_of_some p f = uses_in_some (uses_if_body p f) (slice_get p.bodies f.number)
 
 -- the initialisers of a package's variables
 unfoldable pub step_uses : Setting → ℕ → InitStep → List Mention
-step_uses s pack step = if step.package == pack then initialises s step.variables (seen_values s.types step.values) else []
+step_uses s pack step =
+    if step.package == pack then initialises s step.variables (seen_values s.types step.values) else []
 
 abbrev pub is_init : FunctionForm → Bool
 is_init form_of.Init = true
@@ -56,18 +58,22 @@ is_init _ = false
 
 -- each function named `init` is called, at its name
 unfoldable pub init_uses : ℕ → ℕ → FunctionDecl → List Mention
-init_uses pack number d = if is_init d.form && (d.package == pack) then mention.Call d.at (called.Fixed (record { number = number })) ∷ [] else []
+init_uses pack number d =
+    if is_init d.form && (d.package == pack) then mention.Call d.at (called.Fixed (record { number = number })) ∷ []
+    else []
 
 -- what initialises a package
 unfoldable pub package_uses : Program → FuncId → ℕ → List Mention
-package_uses p f pack = flat_map (step_uses (setting p f []) pack) p.initialisers ++ each_from (init_uses pack) 0 p.functions
+package_uses p f pack =
+    flat_map (step_uses (setting p f []) pack) p.initialisers ++ each_from (init_uses pack) 0 p.functions
 
 unfoldable pub form_uses : Program → FuncId → FunctionDecl → FunctionForm → List Mention
 form_uses p f d form_of.PackageInit = package_uses p f d.package
 form_uses p f d _ = uses_of_some p f
 
 abbrev pub declared_uses : Program → FuncId → FunctionDecl → List Mention
-declared_uses p f d = if is_part_to (length p.functions) p.names p.functions f.number then form_uses p f d d.form else []
+declared_uses p f d =
+    if is_part_to (length p.functions) p.names p.functions f.number then form_uses p f d d.form else []
 
 -- what stands in a function: nothing where it is named `_`, or a literal in such a function
 unfoldable pub uses : Program → FuncId → List Mention

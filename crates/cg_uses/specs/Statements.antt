@@ -34,7 +34,8 @@ use Rattle.go_tree.specs.declared.stmts.Comm.TheVariants as comm_of
 use Rattle.go_tree.specs.declared.stmts.ReceiveInto.TheVariants as into_of
 use Rattle.go_tree.specs.declared.stmts.RangeTargets.TheVariants as range_of
 use Rattle.go_tree.specs.declared.stmts.TypedStmt.TheOpen as layers
-use Rattle.go_tree.specs.declared.stmts.TypedStmt.TheFolds.{fold-TypedStmt, fold-SelectClause, fold-TypeClause, fold-TypedArm, fold-TypedBlock, fold-TypedClause}
+use Rattle.go_tree.specs.declared.stmts.TypedStmt.TheFolds.{fold-TypedStmt, fold-SelectClause, fold-TypeClause}
+use Rattle.go_tree.specs.declared.stmts.TypedStmt.TheFolds.{fold-TypedArm, fold-TypedBlock, fold-TypedClause}
 use Rattle.go_tree.specs.declared.variables.Variable.{Variable}
 use Rattle.go_type.specs.Table.{Table}
 use Rattle.cg_nodes.specs.declared.nodes.Mention.{Mention}
@@ -109,7 +110,8 @@ module _ (s : Setting) where
 
   -- the first values of variables
   unfoldable pub initialises : List VarId → SeenValues → List Mention
-  initialises variables values = values.uses parts_of.Nothing ++ initialises_all (values.parts parts_of.Nothing) variables values.exprs
+  initialises variables values =
+      values.uses parts_of.Nothing ++ initialises_all (values.parts parts_of.Nothing) variables values.exprs
 
   -- variables with first values, where they are given any
   unfoldable pub declares : List VarId → Option Values → List Mention
@@ -141,7 +143,8 @@ module _ (s : Setting) where
   unfoldable pub sends : TypedExpr → TypedExpr → List Mention
   sends channel value = uses_here channel ++ (uses_here value ++ flow (node_here value) (node_of.Chan (expr value).of))
 
-  abbrev pub stored_with : expr_layers.ExprKind-F Callee Elements ExprKind Values EntryInit FieldInit ItemInit TypedExpr → List Mention
+  abbrev pub stored_with : expr_layers.ExprKind-F Callee Elements ExprKind Values EntryInit FieldInit ItemInit TypedExpr
+      → List Mention
   stored_with (expr_layers.ExprKind-F.MapIndex table key comma_ok) = stored_key parts_of.Nothing (expr key.value)
   stored_with _ = []
 
@@ -168,7 +171,9 @@ module _ (s : Setting) where
 
   -- the places are evaluated first
   unfoldable pub assigns_all : List Target → SeenValues → List Mention
-  assigns_all targets values = in_targets targets ++ (values.uses parts_of.Nothing ++ assigns (values.parts parts_of.Nothing) targets values.exprs)
+  assigns_all targets values =
+      in_targets targets
+      ++ (values.uses parts_of.Nothing ++ assigns (values.parts parts_of.Nothing) targets values.exprs)
 
   unfoldable pub defined : DefineTarget → Node
   defined (defined_of.New v) = variable_node v
@@ -185,7 +190,8 @@ module _ (s : Setting) where
   defines_all p targets xs = each_pair (defines_from p) targets xs
 
   unfoldable pub defines_each : List DefineTarget → SeenValues → List Mention
-  defines_each targets values = values.uses parts_of.Nothing ++ defines_all (values.parts parts_of.Nothing) targets values.exprs
+  defines_each targets values =
+      values.uses parts_of.Nothing ++ defines_all (values.parts parts_of.Nothing) targets values.exprs
 
   unfoldable pub defines_one : ℕ → DefineTarget → List Mention
   defines_one index (defined_of.New v) = defines parts_of.Received index v
@@ -210,7 +216,9 @@ module _ (s : Setting) where
 
   -- what one type of a switch over types gives
   abbrev pub case_node : TypedExpr → TypeId → Node
-  case_node operand id = if is_function s.types id then node_of.Boxed id else (if is_interface s.types id then node_here operand else node_of.Nothing)
+  case_node operand id =
+      if is_function s.types id then node_of.Boxed id
+      else (if is_interface s.types id then node_here operand else node_of.Nothing)
 
   -- what a clause of a switch over types gives its variable: the values of its function type that were put into
   -- interfaces, the operand's where it has one interface type, `nil`, several types or none
@@ -227,7 +235,10 @@ module _ (s : Setting) where
   unfoldable pub in_received : ReceiveInto → List Mention
   in_received into_of.Nothing = []
   in_received (into_of.Define targets) = receives_all targets.items
-  in_received (into_of.Assign targets parts) = in_targets targets.items ++ (uses_of parts_of.Received (seen_all s.types parts.items) ++ assigns parts_of.Received targets.items (seen_all s.types parts.items))
+  in_received (into_of.Assign targets parts) =
+      in_targets targets.items
+      ++ (uses_of parts_of.Received (seen_all s.types parts.items)
+      ++ assigns parts_of.Received targets.items (seen_all s.types parts.items))
 
   unfoldable pub in_comm : Comm → List Mention
   in_comm comm_of.Default = []
@@ -249,12 +260,19 @@ module _ (s : Setting) where
   unfoldable pub in_range_targets : Parts → RangeTargets → List Mention
   in_range_targets p range_of.None = []
   in_range_targets p (range_of.Define key value) = defines_if p 0 key ++ defines_if p 1 value
-  in_range_targets p (range_of.Assign key value parts) = in_target_if key ++ (in_target_if value ++ (uses_of p (seen_all s.types parts.items) ++ (assigns_part p key (slice_get parts.items 0) ++ assigns_part p value (slice_get parts.items 1))))
+  in_range_targets p (range_of.Assign key value parts) =
+      in_target_if key
+      ++ (in_target_if value
+      ++ (uses_of p (seen_all s.types parts.items)
+      ++ (assigns_part p key (slice_get parts.items 0) ++ assigns_part p value (slice_get parts.items 1))))
 
-  -- ---- one layer of each tree, where what is below it is seen already: a clause of a switch needs its tag, and one of a
+  -- ---- one layer of each tree, where what is below it is seen already: a clause of a switch needs its tag, and one of
+  -- a
   -- switch over types its operand
 
-  abbrev pub stmt_layer : layers.TypedStmt-F (List Mention) (List Mention) (TypedExpr → List Mention) (List Mention) (List Mention) (Option TypedExpr → List Mention) → List Mention
+  abbrev pub stmt_layer :
+      layers.TypedStmt-F (List Mention) (List Mention) (TypedExpr
+      → List Mention) (List Mention) (List Mention) (Option TypedExpr → List Mention) → List Mention
   stmt_layer (layers.TypedStmt-F.Const at) = []
   stmt_layer (layers.TypedStmt-F.TypeDecl at) = []
   stmt_layer (layers.TypedStmt-F.Var at variables values) = declares variables.items values
@@ -273,46 +291,79 @@ module _ (s : Setting) where
   stmt_layer (layers.TypedStmt-F.Fallthrough at) = []
   stmt_layer (layers.TypedStmt-F.Block block) = block
   stmt_layer (layers.TypedStmt-F.If at arms otherwise) = joined arms.items ++ if_given otherwise
-  stmt_layer (layers.TypedStmt-F.Switch at init tag clauses «end») = if_there init ++ (uses_in_some uses_here tag ++ flat_map (λ (y : Option TypedExpr → List Mention). y tag) clauses.items)
-  stmt_layer (layers.TypedStmt-F.TypeSwitch at init operand clauses «end») = if_there init ++ (uses_here operand ++ flat_map (λ (y : TypedExpr → List Mention). y operand) clauses.items)
+  stmt_layer (layers.TypedStmt-F.Switch at init tag clauses «end») =
+      if_there init
+      ++ (uses_in_some uses_here tag ++ flat_map (λ (y : Option TypedExpr → List Mention). y tag) clauses.items)
+  stmt_layer (layers.TypedStmt-F.TypeSwitch at init operand clauses «end») =
+      if_there init ++ (uses_here operand ++ flat_map (λ (y : TypedExpr → List Mention). y operand) clauses.items)
   stmt_layer (layers.TypedStmt-F.Select at clauses «end») = joined clauses.items
-  stmt_layer (layers.TypedStmt-F.For at fresh init condition post body) = if_there init ++ (uses_in_some uses_here condition ++ (if_there post ++ body))
-  stmt_layer (layers.TypedStmt-F.Range at fresh over operand targets body) = uses_here operand ++ (in_range_targets (range_parts over) targets ++ body)
+  stmt_layer (layers.TypedStmt-F.For at fresh init condition post body) =
+      if_there init ++ (uses_in_some uses_here condition ++ (if_there post ++ body))
+  stmt_layer (layers.TypedStmt-F.Range at fresh over operand targets body) =
+      uses_here operand ++ (in_range_targets (range_parts over) targets ++ body)
 
-  abbrev pub select_clause_layer : layers.SelectClause-F (List Mention) (List Mention) (TypedExpr → List Mention) (List Mention) (List Mention) (Option TypedExpr → List Mention) → List Mention
+  abbrev pub select_clause_layer :
+      layers.SelectClause-F (List Mention) (List Mention) (TypedExpr
+      → List Mention) (List Mention) (List Mention) (Option TypedExpr → List Mention) → List Mention
   select_clause_layer x = in_comm x.comm ++ x.body
 
-  abbrev pub type_clause_layer : layers.TypeClause-F (List Mention) (List Mention) (TypedExpr → List Mention) (List Mention) (List Mention) (Option TypedExpr → List Mention) → TypedExpr → List Mention
+  abbrev pub type_clause_layer :
+      layers.TypeClause-F (List Mention) (List Mention) (TypedExpr
+      → List Mention) (List Mention) (List Mention) (Option TypedExpr → List Mention) → TypedExpr → List Mention
   type_clause_layer x operand = binds_any operand x.cases.items x.variable ++ x.body
 
-  abbrev pub arm_layer : layers.TypedArm-F (List Mention) (List Mention) (TypedExpr → List Mention) (List Mention) (List Mention) (Option TypedExpr → List Mention) → List Mention
+  abbrev pub arm_layer :
+      layers.TypedArm-F (List Mention) (List Mention) (TypedExpr
+      → List Mention) (List Mention) (List Mention) (Option TypedExpr → List Mention) → List Mention
   arm_layer x = if_there x.init ++ (uses_here x.condition ++ x.body)
 
-  abbrev pub block_layer : layers.TypedBlock-F (List Mention) (List Mention) (TypedExpr → List Mention) (List Mention) (List Mention) (Option TypedExpr → List Mention) → List Mention
+  abbrev pub block_layer :
+      layers.TypedBlock-F (List Mention) (List Mention) (TypedExpr
+      → List Mention) (List Mention) (List Mention) (Option TypedExpr → List Mention) → List Mention
   block_layer x = joined x.statements.items
 
-  abbrev pub clause_layer : layers.TypedClause-F (List Mention) (List Mention) (TypedExpr → List Mention) (List Mention) (List Mention) (Option TypedExpr → List Mention) → Option TypedExpr → List Mention
+  abbrev pub clause_layer :
+      layers.TypedClause-F (List Mention) (List Mention) (TypedExpr
+      → List Mention) (List Mention) (List Mention) (Option TypedExpr → List Mention) → Option TypedExpr → List Mention
   clause_layer x tag = in_cases tag x.cases.items ++ x.body
 
   -- ---- whole trees
 
   unfoldable pub uses_in_block : TypedBlock → List Mention
-  uses_in_block = fold-TypedBlock (List Mention) (List Mention) (TypedExpr → List Mention) (List Mention) (List Mention) (Option TypedExpr → List Mention) stmt_layer select_clause_layer type_clause_layer arm_layer block_layer clause_layer
+  uses_in_block =
+      fold-TypedBlock (List Mention) (List Mention) (TypedExpr
+      → List Mention) (List Mention) (List Mention) (Option TypedExpr
+      → List Mention) stmt_layer select_clause_layer type_clause_layer arm_layer block_layer clause_layer
 
   unfoldable pub uses_in_stmt : TypedStmt → List Mention
-  uses_in_stmt = fold-TypedStmt (List Mention) (List Mention) (TypedExpr → List Mention) (List Mention) (List Mention) (Option TypedExpr → List Mention) stmt_layer select_clause_layer type_clause_layer arm_layer block_layer clause_layer
+  uses_in_stmt =
+      fold-TypedStmt (List Mention) (List Mention) (TypedExpr
+      → List Mention) (List Mention) (List Mention) (Option TypedExpr
+      → List Mention) stmt_layer select_clause_layer type_clause_layer arm_layer block_layer clause_layer
 
   unfoldable pub uses_in_select_clause : SelectClause → List Mention
-  uses_in_select_clause = fold-SelectClause (List Mention) (List Mention) (TypedExpr → List Mention) (List Mention) (List Mention) (Option TypedExpr → List Mention) stmt_layer select_clause_layer type_clause_layer arm_layer block_layer clause_layer
+  uses_in_select_clause =
+      fold-SelectClause (List Mention) (List Mention) (TypedExpr
+      → List Mention) (List Mention) (List Mention) (Option TypedExpr
+      → List Mention) stmt_layer select_clause_layer type_clause_layer arm_layer block_layer clause_layer
 
   unfoldable pub uses_in_type_clause : TypeClause → TypedExpr → List Mention
-  uses_in_type_clause = fold-TypeClause (List Mention) (List Mention) (TypedExpr → List Mention) (List Mention) (List Mention) (Option TypedExpr → List Mention) stmt_layer select_clause_layer type_clause_layer arm_layer block_layer clause_layer
+  uses_in_type_clause =
+      fold-TypeClause (List Mention) (List Mention) (TypedExpr
+      → List Mention) (List Mention) (List Mention) (Option TypedExpr
+      → List Mention) stmt_layer select_clause_layer type_clause_layer arm_layer block_layer clause_layer
 
   unfoldable pub uses_in_arm : TypedArm → List Mention
-  uses_in_arm = fold-TypedArm (List Mention) (List Mention) (TypedExpr → List Mention) (List Mention) (List Mention) (Option TypedExpr → List Mention) stmt_layer select_clause_layer type_clause_layer arm_layer block_layer clause_layer
+  uses_in_arm =
+      fold-TypedArm (List Mention) (List Mention) (TypedExpr
+      → List Mention) (List Mention) (List Mention) (Option TypedExpr
+      → List Mention) stmt_layer select_clause_layer type_clause_layer arm_layer block_layer clause_layer
 
   unfoldable pub uses_in_clause : TypedClause → Option TypedExpr → List Mention
-  uses_in_clause = fold-TypedClause (List Mention) (List Mention) (TypedExpr → List Mention) (List Mention) (List Mention) (Option TypedExpr → List Mention) stmt_layer select_clause_layer type_clause_layer arm_layer block_layer clause_layer
+  uses_in_clause =
+      fold-TypedClause (List Mention) (List Mention) (TypedExpr
+      → List Mention) (List Mention) (List Mention) (Option TypedExpr
+      → List Mention) stmt_layer select_clause_layer type_clause_layer arm_layer block_layer clause_layer
 
   abbrev pub uses_in_optional : Option (Box TypedStmt) → List Mention
   uses_in_optional stmt = uses_in_some (λ (x : Box TypedStmt). uses_in_stmt x.value) stmt

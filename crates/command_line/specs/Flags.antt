@@ -1,5 +1,6 @@
 -- The words of flags, as Go's package `flag` reads them: one or two dashes and a name, then optionally `=` and a value.
-use Rattle.std.specs.Prelude.{ℕ, List, Bool, ◌&&◌, not, ◌==◌, drop, Option, Some, None, if◌then◌else◌, codes, bytes_eq, nat_eq}
+use Rattle.std.specs.Prelude.{ℕ, List, Bool, ◌&&◌, not, ◌==◌, drop, Option, Some, None, if◌then◌else◌, codes, bytes_eq}
+use Rattle.std.specs.Prelude.{nat_eq}
 use Rattle.std.specs.List.{starts_with, before_first, after_first, list_any}
 use Rattle.command_line.specs.declared.flags.Flag.{Flag}
 use Rattle.command_line.specs.declared.flags.Flag.TheVariants as flags

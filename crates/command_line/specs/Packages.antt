@@ -1,5 +1,6 @@
 -- Package words: the paths of files and directories.
-use Rattle.std.specs.Prelude.{ℕ, ◌-◌, List, [], ◌∷◌, length, take, drop, Bool, ◌||◌, ◌==◌, if◌then◌else◌, codes, bytes_eq, nat_eq}
+use Rattle.std.specs.Prelude.{ℕ, ◌-◌, List, [], ◌∷◌, length, take, drop, Bool, ◌||◌, ◌==◌, if◌then◌else◌, codes}
+use Rattle.std.specs.Prelude.{bytes_eq, nat_eq}
 use Rattle.std.specs.List.{starts_with, ends_with, list_any, slice_split}
 use Rattle.go_base.specs.declared.target.Target.{Target}
 use Rattle.go_base.specs.declared.target.Target.TheVariants.{File, Dir}

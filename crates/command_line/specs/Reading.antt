@@ -1,5 +1,6 @@
 -- The command of words of which some have been read.
-use Rattle.std.specs.Prelude.{ℕ, ◌<◌, length, String, List, [], ◌∷◌, ◌++◌, map, filter_map, string_bytes, false, Option, Some, None, unwrap_or, option_copied, option_to_list, Result, Err}
+use Rattle.std.specs.Prelude.{ℕ, ◌<◌, length, String, List, [], ◌∷◌, ◌++◌, map, filter_map, string_bytes, false}
+use Rattle.std.specs.Prelude.{Option, Some, None, unwrap_or, option_copied, option_to_list, Result, Err}
 use Rattle.std.specs.List.{last_or}
 use Rattle.std.specs.declared.alloc.Global.{Global}
 use Rattle.command_line.specs.declared.command.Command.{Command}
@@ -7,7 +8,9 @@ use Rattle.command_line.specs.declared.command.Command.TheVariants as commands
 use Rattle.command_line.specs.declared.settings.Settings.{Settings}
 use Rattle.command_line.specs.declared.reader.Step.{Step}
 use Rattle.command_line.specs.declared.reader.Step.TheVariants.{Flags, Packages}
-use Rattle.command_line.specs.CommandLine.{Item, Package, items_of, alone, package_word, loaded, bad_in, package_in, build_in, callgraph_in, run_in, bound_in, choices_in, generate_in, beside_in}
+use Rattle.command_line.specs.CommandLine.{Item, Package, items_of, alone, package_word, loaded, bad_in, package_in}
+use Rattle.command_line.specs.CommandLine.{build_in, callgraph_in, run_in, bound_in, choices_in, generate_in}
+use Rattle.command_line.specs.CommandLine.{beside_in}
 use Rattle.command_line.specs.Packages.{target_of}
 
 -- the last that is said, in items or before them

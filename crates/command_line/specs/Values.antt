@@ -1,5 +1,6 @@
 -- The values of flags.
-use Rattle.std.specs.Prelude.{ℕ, ◌+◌, ◌-◌, ◌*◌, List, [], ◌∷◌, Bool, true, false, ◌||◌, ◌==◌, nat_le, Option, Some, None, option_map, option_and_then, if◌then◌else◌, codes, bytes_eq}
+use Rattle.std.specs.Prelude.{ℕ, ◌+◌, ◌-◌, ◌*◌, List, [], ◌∷◌, Bool, true, false, ◌||◌, ◌==◌, nat_le, Option, Some}
+use Rattle.std.specs.Prelude.{None, option_map, option_and_then, if◌then◌else◌, codes, bytes_eq}
 use Rattle.std.specs.Char.{is_ascii_digit}
 use Rattle.std.specs.List.{list_any, list_all, slice_split}
 use Rattle.command_line.specs.declared.command.Letters.{Letters}
@@ -50,8 +51,10 @@ graph_of text =
 -- a boolean, as Go's `strconv.ParseBool` reads one
 abbrev pub boolean_of : List ℕ → Option Bool
 boolean_of text =
-    if list_any (bytes_eq text) (codes "1" ∷ codes "t" ∷ codes "T" ∷ codes "TRUE" ∷ codes "true" ∷ codes "True" ∷ []) then Some true
-    else if list_any (bytes_eq text) (codes "0" ∷ codes "f" ∷ codes "F" ∷ codes "FALSE" ∷ codes "false" ∷ codes "False" ∷ []) then Some false
+    if list_any (bytes_eq text) (codes "1" ∷ codes "t" ∷ codes "T" ∷ codes "TRUE" ∷ codes "true" ∷ codes "True" ∷ [])
+    then Some true
+    else if list_any (bytes_eq text) (codes "0" ∷ codes "f" ∷ codes "F" ∷ codes "FALSE" ∷ codes "false" ∷ codes "False"
+    ∷ []) then Some false
     else None
 
 -- from 1 to 1,000
@@ -61,7 +64,8 @@ count_of text = option_and_then (λ n. if n == 0 then None else Some n) (up_to 1
 -- the numbers of the parts, where each is one
 abbrev pub choices_in : List (List ℕ) → Option (List ℕ)
 choices_in [] = Some []
-choices_in (part ∷ parts) = option_and_then (λ n. option_map (λ ns. n ∷ ns) (choices_in parts)) (up_to 4294967295 (number part))
+choices_in (part ∷ parts) =
+    option_and_then (λ n. option_map (λ ns. n ∷ ns) (choices_in parts)) (up_to 4294967295 (number part))
 
 -- `,`
 abbrev pub is_comma : ℕ → Bool

@@ -12,7 +12,8 @@ count_line word count = word ++ (decimal count ++ 10 ∷ [])
 -- how many types the program has, and how many edges its graphs
 abbrev pub counts_text : ℕ → ℕ → ℕ → ℕ → List ℕ
 counts_text count cha rta vta =
-    count_line (codes "gen ") count ++ (count_line (codes "cha ") cha ++ (count_line (codes "rta ") rta ++ count_line (codes "vta ") vta))
+    count_line (codes "gen ") count
+    ++ (count_line (codes "cha ") cha ++ (count_line (codes "rta ") rta ++ count_line (codes "vta ") vta))
 
 pub record Counts (count : ℕ) (text : List ℕ) : Type 0 where
   pub cha : ℕ

@@ -13,7 +13,8 @@ line text = text ++ 10 ∷ []
 
 abbrev pub refused_line : Place → Rule → List ℕ
 refused_line place rule =
-    line (place.path ++ codes ":" ++ decimal place.line ++ codes ":" ++ decimal place.column ++ codes ": " ++ text_of rule ++ codes " (" ++ code_of rule ++ codes ")")
+    line (place.path ++ codes ":" ++ decimal place.line ++ codes ":" ++ decimal place.column ++ codes ": "
+    ++ text_of rule ++ codes " (" ++ code_of rule ++ codes ")")
 
 abbrev pub usage_line : List ℕ → List ℕ
 usage_line word = line (codes "ssadump: bad command line at " ++ 34 ∷ word ++ 34 ∷ [])

@@ -20,16 +20,21 @@ use Rattle.program_work.specs.Working.{IsResult}
 
 -- a program is there: one that was loaded for a command, or the generated one
 pub data HasProgram (words : List (List ℕ)) (files : Option Tree) : Type 0 where
-  loaded : (command : LoadCommand) (sources : Sources) → command_of words ≡ Ok (commands.Load command) → IsLoaded files command.target sources → HasProgram words files
+  loaded : (command : LoadCommand) (sources : Sources) → command_of words ≡ Ok (commands.Load command)
+      → IsLoaded files command.target sources → HasProgram words files
   generated : (count : ℕ) → command_of words ≡ Ok (commands.Generate count) → HasProgram words files
 
 -- what is asked of a program comes to this outcome, with this on standard output
 pub data Works (words : List (List ℕ)) (files : Option Tree) (outcome : Outcome) (output : List ℕ) : Type 0 where
-  on_loaded : (command : LoadCommand) (sources : Sources) → command_of words ≡ Ok (commands.Load command) → IsLoaded files command.target sources → IsResult command (files_of sources) outcome output → Works words files outcome output
-  on_generated : (count : ℕ) → command_of words ≡ Ok (commands.Generate count) → IsGenerated count outcome output → Works words files outcome output
+  on_loaded : (command : LoadCommand) (sources : Sources) → command_of words ≡ Ok (commands.Load command)
+      → IsLoaded files command.target sources → IsResult command (files_of sources) outcome output
+      → Works words files outcome output
+  on_generated : (count : ℕ) → command_of words ≡ Ok (commands.Generate count) → IsGenerated count outcome output
+      → Works words files outcome output
 
 -- a loading rule is broken, and nothing is on standard output
-pub record Refuses (words : List (List ℕ)) (files : Option Tree) (place : Place) (rule : Rule) (output : List ℕ) : Type 0 where
+pub record Refuses (words : List (List ℕ)) (files : Option Tree) (place : Place) (rule : Rule) (output : List ℕ) :
+    Type 0 where
   pub command : LoadCommand
   pub asked : command_of words ≡ Ok (commands.Load command)
   pub breaks : Breaks files command.target place rule
@@ -40,7 +45,8 @@ pub record Refuses (words : List (List ℕ)) (files : Option Tree) (place : Plac
 abbrev pub IsRight : List (List ℕ) → Option Tree → Outcome → List ℕ → Type 0
 IsRight words files outcomes.Done output = Works words files outcomes.Done output
 IsRight words files (outcomes.Ended ending) output = Works words files (outcomes.Ended ending) output
-IsRight words files (outcomes.Refused place rule) output = Refuses words files place rule output ⊎ Works words files (outcomes.Refused place rule) output
+IsRight words files (outcomes.Refused place rule) output =
+    Refuses words files place rule output ⊎ Works words files (outcomes.Refused place rule) output
 IsRight words files (outcomes.Usage word) output = (command_of words ≡ Err word) × (output ≡ [])
 IsRight words files outcomes.ReadFault output = ⊥
 IsRight words files outcomes.WriteFault output = ⊥
@@ -70,7 +76,8 @@ pub record StopsInLine (old new : Option (List ℕ)) : Type 0 where
 -- What is on standard error then: the outcome's line, but a front of some line where standard error itself has failed
 -- or memory is wanted.
 abbrev pub Reports : Outcome → ℕ → ℕ → Option (List ℕ) → Option (List ℕ) → Type 0
-Reports outcomes.WriteFault before now old new = Appends old new (line_for outcomes.WriteFault) ⊎ (HasFaulted before now × StopsInLine old new)
+Reports outcomes.WriteFault before now old new =
+    Appends old new (line_for outcomes.WriteFault) ⊎ (HasFaulted before now × StopsInLine old new)
 Reports outcomes.OutOfMemory before now old new = StopsInLine old new
 Reports outcome before now old new = Appends old new (line_for outcome)
 

@@ -1,5 +1,6 @@
 -- Characters of source text. Go specification, "Source code representation".
-use Rattle.std.specs.Prelude.{ℕ, zero, suc, ◌-◌, List, [], ◌∷◌, Bool, false, Option, Some, None, is_some, unwrap_or, ◌==◌, ◌&&◌, ◌||◌, not, if◌then◌else◌}
+use Rattle.std.specs.Prelude.{ℕ, zero, suc, ◌-◌, List, [], ◌∷◌, Bool, false, Option, Some, None, is_some, unwrap_or}
+use Rattle.std.specs.Prelude.{◌==◌, ◌&&◌, ◌||◌, not, if◌then◌else◌}
 use Rattle.std.specs.List.{list_all}
 use Rattle.bstr.specs.Utf8.{decoded}
 use Rattle.unicode.specs.GeneralCategory.{general_category, general_category_eq}
@@ -44,8 +45,8 @@ is_exported name = passes is_capital (decoded name).char
 abbrev pub passing : (ℕ → Bool) → List ℕ → Option ℕ
 passing test text = if passes test (decoded text).char then Some (decoded text).size else None
 
--- The rests of a text at which its parts begin. `step` gives the number of bytes of the part at the head of a text; where
--- none stands there, one byte is passed. `left` bytes are left of a part that began before.
+-- The rests of a text at which its parts begin. `step` gives the number of bytes of the part at the head of a text;
+-- where none stands there, one byte is passed. `left` bytes are left of a part that began before.
 abbrev pub rests : (List ℕ → Option ℕ) → ℕ → List ℕ → List (List ℕ)
 rests step left [] = []
 rests step zero (byte ∷ bytes) = (byte ∷ bytes) ∷ rests step (unwrap_or (step (byte ∷ bytes)) 1 - 1) bytes

@@ -1,6 +1,7 @@
 -- How bytes are cut into pieces, which tokens they are, and where they cannot be cut. Go specification, "Lexical
 -- elements", "Semicolons".
-use Rattle.std.specs.Prelude.{◌≡◌, ℕ, ◌+◌, ◌-◌, ◌≤◌, List, [], ◌∷◌, ◌++◌, length, drop, Bool, true, false, Option, Some, None, ◌==◌, if◌then◌else◌, nat_eq, ◌⊎◌, ◌≢◌, take}
+use Rattle.std.specs.Prelude.{◌≡◌, ℕ, ◌+◌, ◌-◌, ◌≤◌, List, [], ◌∷◌, ◌++◌, length, drop, Bool, true, false, Option}
+use Rattle.std.specs.Prelude.{Some, None, ◌==◌, if◌then◌else◌, nat_eq, ◌⊎◌, ◌≢◌, take}
 use Rattle.std.specs.List.{list_any, starts_with}
 use Rattle.go_ast.specs.declared.token.Kind.{Kind}
 use Rattle.go_ast.specs.declared.token.Kind.TheVariants as kinds
@@ -73,7 +74,12 @@ abbrev pub place_after : Place → List ℕ → Option Kind → Place
 place_after place piece (Some kind) =
     record { at = place.at + length piece; last = place.at + length piece; wanted = ends_line kind }
 place_after place piece None =
-    record { at = place.at + length piece; last = place.last; wanted = if breaks_line piece then false else place.wanted }
+    record {
+      at = place.at + length piece;
+      last = place.last;
+      wanted = if breaks_line piece then false
+          else place.wanted;
+    }
 
 -- the tokens of the pieces from a place on; the end of the file ends a line
 abbrev pub tokens_from : Place → List (List ℕ) → List Token

@@ -1,5 +1,7 @@
 -- What literals hold and what they are worth. Go specification, "Integer literals", "Rune literals", "String literals".
-use Rattle.std.specs.Prelude.{ℕ, zero, suc, ◌+◌, ◌-◌, ◌*◌, List, [], ◌∷◌, length, take, drop, find, filter, flat_map, Bool, true, false, Option, Some, None, is_none, ◌==◌, ◌&&◌, ◌||◌, not, nat_lt, if◌then◌else◌, encode_utf8}
+use Rattle.std.specs.Prelude.{ℕ, zero, suc, ◌+◌, ◌-◌, ◌*◌, List, [], ◌∷◌, length, take, drop, find, filter, flat_map}
+use Rattle.std.specs.Prelude.{Bool, true, false, Option, Some, None, is_none, ◌==◌, ◌&&◌, ◌||◌, not, nat_lt}
+use Rattle.std.specs.Prelude.{if◌then◌else◌, encode_utf8}
 use Rattle.std.specs.Char.{digit_value}
 use Rattle.bstr.specs.Utf8.{decoded}
 use Rattle.go_ast.specs.Characters.{is_source_character, rests}
@@ -108,7 +110,8 @@ escape quote (letter ∷ text) =
     if letter == 120 then item_of 4 true (fixed_digits 16 2 0 text)
     else if letter == 117 then item_of 6 false (if_passes is_code_point (fixed_digits 16 4 0 text))
     else if letter == 85 then item_of 10 false (if_passes is_code_point (fixed_digits 16 8 0 text))
-    else if nat_lt (digit_value letter) 8 then item_of 4 true (if_passes is_one_byte (fixed_digits 8 3 0 (letter ∷ text)))
+    else if nat_lt (digit_value letter) 8
+    then item_of 4 true (if_passes is_one_byte (fixed_digits 8 3 0 (letter ∷ text)))
     else item_of 2 false (named_escape quote letter)
 
 -- the character at the head of a text

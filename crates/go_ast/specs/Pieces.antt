@@ -1,5 +1,6 @@
 -- The pieces of source text: white space, comments and tokens. Go specification, "Lexical elements".
-use Rattle.std.specs.Prelude.{◌≡◌, ℕ, ◌-◌, List, [], ◌∷◌, length, drop, Bool, true, false, Option, Some, None, is_some, is_none, ◌==◌, ◌&&◌, ◌||◌, not, nat_le, if◌then◌else◌}
+use Rattle.std.specs.Prelude.{◌≡◌, ℕ, ◌-◌, List, [], ◌∷◌, length, drop, Bool, true, false, Option, Some, None, is_some}
+use Rattle.std.specs.Prelude.{is_none, ◌==◌, ◌&&◌, ◌||◌, not, nat_le, if◌then◌else◌}
 use Rattle.std.specs.List.{list_all}
 use Rattle.go_ast.specs.declared.token.Kind.{Kind}
 use Rattle.go_ast.specs.declared.token.Kind.TheVariants as kinds
@@ -31,7 +32,8 @@ is_decimal byte = nat_le 48 byte && nat_le byte 57
 
 -- a byte that may begin a name: A to Z, a to z, `_`, or one beyond ASCII
 abbrev pub begins_word : ℕ → Bool
-begins_word byte = (nat_le 65 byte && nat_le byte 90) || (nat_le 97 byte && nat_le byte 122) || byte == 95 || nat_le 128 byte
+begins_word byte =
+    (nat_le 65 byte && nat_le byte 90) || (nat_le 97 byte && nat_le byte 122) || byte == 95 || nat_le 128 byte
 
 abbrev pub class_of_pair : ℕ → ℕ → Class
 class_of_pair a b =
@@ -63,7 +65,8 @@ closed_before (byte ∷ bytes) = TooLong
 -- a comment behind its `/*` ends with the first `*/`; `star` says whether a `*` stands before
 abbrev pub comment_extent : Bool → List ℕ → Extent
 comment_extent star [] = Open
-comment_extent star (byte ∷ bytes) = if star && byte == 47 then closed_before bytes else comment_extent (byte == 42) bytes
+comment_extent star (byte ∷ bytes) =
+    if star && byte == 47 then closed_before bytes else comment_extent (byte == 42) bytes
 
 -- a rune or string behind its quote ends with the first quote that no backslash escapes, on its line
 abbrev pub quoted_extent : ℕ → Bool → List ℕ → Extent

@@ -19,4 +19,8 @@ fails_next plan = nat_lt plan.calls last_count && list_any (λ number. number ==
 -- the plan after one more call
 abbrev pub after_call : CallPlan → CallPlan
 after_call plan =
-    record { calls = min (plan.calls + 1) last_count; fail = plan.fail; faults = plan.faults + (if fails_next plan then 1 else 0) }
+    record {
+      calls = min (plan.calls + 1) last_count;
+      fail = plan.fail;
+      faults = plan.faults + (if fails_next plan then 1 else 0);
+    }

@@ -1,5 +1,7 @@
 -- What files and sinks hold, and when they have failed.
-use Rattle.std.specs.Prelude.{◌≡◌, ℕ, ◌+◌, ◌-◌, ◌^◌, ◌<◌, ◌≤◌, min, List, [], ◌∷◌, ◌++◌, length, drop, map, Option, Some, None, is_some, Bool, true, false, ◌==◌, if◌then◌else◌, Result, Ok, Err, Vec, String, string_bytes, codes, bytes_eq, nat_eq, IsPermutation}
+use Rattle.std.specs.Prelude.{◌≡◌, ℕ, ◌+◌, ◌-◌, ◌^◌, ◌<◌, ◌≤◌, min, List, [], ◌∷◌, ◌++◌, length, drop, map, Option}
+use Rattle.std.specs.Prelude.{Some, None, is_some, Bool, true, false, ◌==◌, if◌then◌else◌, Result, Ok, Err, Vec}
+use Rattle.std.specs.Prelude.{String, string_bytes, codes, bytes_eq, nat_eq, IsPermutation}
 use Rattle.std.specs.Io.KnownBytes.{Appends}
 use Rattle.std.specs.List.{starts_with, list_any}
 use Rattle.std.specs.Option.{option_and_then}
@@ -67,7 +69,8 @@ is_directory files dir = list_any (λ file. is_some (rest_below dir file.0)) fil
 
 -- the answer of `list` over these files
 abbrev pub ListsTree : Tree → List ℕ → Result (Vec (String Global) Global) FileError → Type 0
-ListsTree files dir (Ok names) = (is_directory files dir ≡ true) × IsPermutation (names_in dir files) (map string_bytes names.items)
+ListsTree files dir (Ok names) =
+    (is_directory files dir ≡ true) × IsPermutation (names_in dir files) (map string_bytes names.items)
 ListsTree files dir (Err Absent) = is_directory files dir ≡ false
 ListsTree files dir (Err TooLarge) = ⊥
 ListsTree files dir (Err Failed) = Unit {0}
@@ -77,6 +80,7 @@ ListsTree files dir (Err OutOfMemory) = Unit {0}
 abbrev pub ReadsTree : Tree → List ℕ → ℕ → Result (Vec ℕ Global) FileError → Type 0
 ReadsTree files path limit (Ok bytes) = (file_at files path ≡ Some bytes.items) × (length bytes.items ≤ limit)
 ReadsTree files path limit (Err Absent) = file_at files path ≡ None
-ReadsTree files path limit (Err TooLarge) = (bytes : List ℕ) × (file_at files path ≡ Some bytes) × (limit < length bytes)
+ReadsTree files path limit (Err TooLarge) =
+    (bytes : List ℕ) × (file_at files path ≡ Some bytes) × (limit < length bytes)
 ReadsTree files path limit (Err Failed) = Unit {0}
 ReadsTree files path limit (Err OutOfMemory) = Unit {0}

@@ -1,5 +1,6 @@
 -- The order of faults, and the least of several.
-use Rattle.std.specs.Prelude.{◌≡◌, ℕ, Bool, false, ◌||◌, ◌&&◌, nat_lt, nat_eq, List, [], ◌∷◌, All, Contains, Option, Some, None, if◌then◌else◌}
+use Rattle.std.specs.Prelude.{◌≡◌, ℕ, Bool, false, ◌||◌, ◌&&◌, nat_lt, nat_eq, List, [], ◌∷◌, All, Contains, Option}
+use Rattle.std.specs.Prelude.{Some, None, if◌then◌else◌}
 use Rattle.go_base.specs.Rules.{row_of}
 use Rattle.go_faults.specs.declared.fault.Fault.{Fault}
 

@@ -9,4 +9,7 @@ use Rattle.go_grammar.specs.TypeReading.{Parsers, at_type}
 
 -- `T` or `*T` as a field, and the semicolon behind it
 abbrev pub embedded_line_in : Parsers → Reader
-embedded_line_in p = run (at_type p) (Node forms.EmbeddedFieldForm (maybe_word kinds.Star ⨟ Part sorts.TypeName ⨟ maybe_word kinds.Text) ⨟ end_of_line closes_braces)
+embedded_line_in p =
+    run (at_type p)
+    (Node forms.EmbeddedFieldForm (maybe_word kinds.Star ⨟ Part sorts.TypeName ⨟ maybe_word kinds.Text) ⨟ end_of_line
+    closes_braces)

@@ -13,7 +13,8 @@ use Rattle.go_grammar.specs.Reading.{Reader, Plan, Node, Either, Many, run}
 use Rattle.go_grammar.specs.Tests.{begins, begins_both, word, maybe_word, ◌⨟◌}
 use Rattle.go_grammar.specs.StmtReading as readings
 use Rattle.go_grammar.specs.StmtReading.{behind_list, expr, label}
-use Rattle.go_grammar.specs.View.{view_expr, view_stmt, view_binding, view_case_clause, view_listed_expr, ◌⊕◌, one, tree, if_some, each, token_if}
+use Rattle.go_grammar.specs.View.{view_expr, view_stmt, view_binding, view_case_clause, view_listed_expr, ◌⊕◌, one}
+use Rattle.go_grammar.specs.View.{tree, if_some, each, token_if}
 use Rattle.go_fragments.specs.declared.simples.Guard.{Guard}
 use Rattle.go_fragments.specs.declared.simples.GuardSuffix.{GuardSuffix}
 use Rattle.go_fragments.specs.declared.simples.HeaderParts.{HeaderParts}
@@ -34,8 +35,10 @@ abbrev pub view_simple : Simple → Forest
 view_simple (simples.Expr expr) = tree forms.ExprForm (boxed_expr expr)
 view_simple (simples.Send channel arrow value) = tree forms.SendForm (boxed_expr channel ⊕ one arrow ⊕ boxed_expr value)
 view_simple (simples.Step operand operator) = tree forms.StepForm (boxed_expr operand ⊕ one operator)
-view_simple (simples.Assign targets operator values) = tree forms.AssignForm (each view_listed_expr targets.items ⊕ one operator ⊕ each view_listed_expr values.items)
-view_simple (simples.Define targets operator values) = tree forms.DefineForm (each view_listed_expr targets.items ⊕ one operator ⊕ each view_listed_expr values.items)
+view_simple (simples.Assign targets operator values) =
+    tree forms.AssignForm (each view_listed_expr targets.items ⊕ one operator ⊕ each view_listed_expr values.items)
+view_simple (simples.Define targets operator values) =
+    tree forms.DefineForm (each view_listed_expr targets.items ⊕ one operator ⊕ each view_listed_expr values.items)
 
 abbrev pub view_init : Init → Forest
 view_init x = if_some boxed_stmt x.stmt ⊕ token_if x.semicolon
@@ -54,7 +57,9 @@ view_suffix x = one x.dot ⊕ one x.open_paren ⊕ one x.type_word ⊕ one x.clo
 
 -- what stands behind the targets of an assignment, where no target ends in another token than a comma
 abbrev pub IsSplitAt : Vec ListedExpr → Token → Vec ListedExpr → Type 0
-IsSplitAt targets operator values = behind_list (each view_listed_expr targets.items ⊕ one operator ⊕ each view_listed_expr values.items) ≡ Some (operator, each view_listed_expr values.items)
+IsSplitAt targets operator values =
+    behind_list (each view_listed_expr targets.items ⊕ one operator ⊕ each view_listed_expr values.items)
+    ≡ Some (operator, each view_listed_expr values.items)
 
 abbrev pub IsSplit : Simple → Type 0
 IsSplit (simples.Assign targets operator values) = IsSplitAt targets operator values
@@ -81,7 +86,8 @@ branch_plan =
     (Node forms.FallthroughForm (word kinds.FallthroughWord)))
 
 abbrev pub begins_branch : List Token → Bool
-begins_branch tokens = begins kinds.BreakWord tokens || begins kinds.ContinueWord tokens || begins kinds.FallthroughWord tokens
+begins_branch tokens =
+    begins kinds.BreakWord tokens || begins kinds.ContinueWord tokens || begins kinds.FallthroughWord tokens
 
 abbrev pub begins_decl_at : List Token → Bool
 begins_decl_at tokens = begins kinds.ConstWord tokens || begins kinds.TypeWord tokens || begins kinds.VarWord tokens

@@ -34,4 +34,5 @@ begins_sign (token ∷ rest) = begins_sign_by token.kind rest
 
 -- whether a type begins here that may stand as an operand
 abbrev pub begins_operand_type : Place → List Token → Bool
-begins_operand_type place tokens = is_next begins_bare tokens || (is_item place && (begins kinds.ChanWord tokens || begins kinds.Arrow tokens))
+begins_operand_type place tokens =
+    is_next begins_bare tokens || (is_item place && (begins kinds.ChanWord tokens || begins kinds.Arrow tokens))

@@ -1,5 +1,6 @@
 -- Reading expressions.
-use Rattle.std.specs.Prelude.{ℕ, zero, suc, ◌+◌, length, List, [], ◌∷◌, Option, Some, None, Bool, true, false, ◌&&◌, ◌||◌, not, if◌then◌else◌, nat_le, nat_lt}
+use Rattle.std.specs.Prelude.{ℕ, zero, suc, ◌+◌, length, List, [], ◌∷◌, Option, Some, None, Bool, true, false, ◌&&◌}
+use Rattle.std.specs.Prelude.{◌||◌, not, if◌then◌else◌, nat_le, nat_lt}
 use Rattle.go_ast.specs.declared.token.Kind.{Kind}
 use Rattle.go_ast.specs.declared.token.Kind.TheVariants as kinds
 use Rattle.go_ast.specs.declared.token.Token.{Token}
@@ -9,7 +10,8 @@ use Rattle.go_grammar.specs.Grammar as sorts
 use Rattle.go_grammar.specs.Grammar.{Sort, Context, precedence, is_sign, closes_braces}
 use Rattle.go_grammar.specs.Reading.{Reader, Plan, Before, Part, Node, Either, is_next, many_in, ◌>>=◌, run}
 use Rattle.go_grammar.specs.Tests.{begins, begins_both, ◌⨟◌, word, maybe, maybe_word, list_of, word_in, not_closed}
-use Rattle.go_grammar.specs.TypeReading.{Place, Plain, Header, Item, Parsers, signature_in, chan_plan, bare_in, begins_bare, at_type}
+use Rattle.go_grammar.specs.TypeReading.{Place, Plain, Header, Item, Parsers, signature_in, chan_plan, bare_in}
+use Rattle.go_grammar.specs.TypeReading.{begins_bare, at_type}
 
 -- ---- what an expression that was read may be used as
 
@@ -71,7 +73,8 @@ named_type (leaf name empty) = Some (node forms.TypeNameForm (leaf name empty) e
 named_type _ = None
 
 abbrev pub imported_type : Forest → Option Forest
-imported_type (node forms.NameForm (leaf package_name empty) (leaf dot (leaf name empty))) = Some (node forms.TypeNameForm (leaf package_name (leaf dot (leaf name empty))) empty)
+imported_type (node forms.NameForm (leaf package_name empty) (leaf dot (leaf name empty))) =
+    Some (node forms.TypeNameForm (leaf package_name (leaf dot (leaf name empty))) empty)
 imported_type _ = None
 
 abbrev pub literal_type_by : Form → Forest → Option Forest
@@ -141,11 +144,17 @@ at_element p _ = λ tokens. None
 abbrev pub element_in : Parsers → Reader
 element_in p tokens = p.value tokens >>= λ x.
     if begins kinds.Colon x.1
-    then (word_in kinds.Colon x.1 >>= λ colon. p.value colon.1 >>= λ y. Some (node forms.ElementForm (append x.0 (append colon.0 y.0)) empty, y.1))
+    then (word_in kinds.Colon x.1 >>= λ colon. p.value colon.1 >>= λ y. Some
+    (node forms.ElementForm (append x.0 (append colon.0 y.0)) empty, y.1))
     else Some (node forms.ElementForm x.0 empty, x.1)
 
 abbrev pub separated_in : Reader → Reader
-separated_in item tokens = item tokens >>= λ x. run (λ (sort : Sort) tokens. None) (Either (not_closed kinds.CloseBrace) (word kinds.Comma) (Before closes_braces)) x.1 >>= λ y. Some (append x.0 y.0, y.1)
+separated_in item tokens =
+    item tokens >>= λ x. run (λ (sort : Sort) tokens. None)
+    (Either (not_closed kinds.CloseBrace) (word kinds.Comma) (Before closes_braces)) x.1 >>= λ y. Some (
+      append x.0 y.0,
+      y.1,
+    )
 
 abbrev pub braces_in : Parsers → Reader
 braces_in p tokens = do
@@ -171,14 +180,22 @@ function_in p place tokens = do
   opened ← word_in kinds.FuncWord tokens
   signature ← signature_in p opened.1
   if begins kinds.OpenBrace signature.1
-      then (block_in p signature.1 >>= λ body. Some (node forms.LiteralFunctionForm (append opened.0 (append signature.0 body.0)) empty, body.1))
-      else (if is_item place then Some (node forms.TypeOperandForm (node forms.FunctionForm (append opened.0 signature.0) empty) empty, signature.1) else None)
+      then (block_in p signature.1 >>= λ body. Some
+      (node forms.LiteralFunctionForm (append opened.0 (append signature.0 body.0)) empty, body.1))
+      else (if is_item place
+      then Some (
+        node forms.TypeOperandForm (node forms.FunctionForm (append opened.0 signature.0) empty) empty,
+        signature.1,
+      ) else None)
 
 abbrev pub open_array_plan : Plan Sort
-open_array_plan = Node forms.OpenArrayForm (word kinds.OpenBracket ⨟ word kinds.Ellipsis ⨟ word kinds.CloseBracket ⨟ Part sorts.AnyType)
+open_array_plan =
+    Node forms.OpenArrayForm
+    (word kinds.OpenBracket ⨟ word kinds.Ellipsis ⨟ word kinds.CloseBracket ⨟ Part sorts.AnyType)
 
 abbrev pub open_array_in : Parsers → Reader
-open_array_in p tokens = run (at_type p) open_array_plan tokens >>= λ x. if begins kinds.OpenBrace x.1 then Some x else None
+open_array_in p tokens =
+    run (at_type p) open_array_plan tokens >>= λ x. if begins kinds.OpenBrace x.1 then Some x else None
 
 abbrev pub type_operand_of : Reader → Reader
 type_operand_of reader tokens = reader tokens >>= λ x. Some (node forms.TypeOperandForm x.0 empty, x.1)
@@ -188,7 +205,8 @@ abbrev pub type_operand_in : Parsers → Place → Reader
 type_operand_in p place tokens =
     if begins_both kinds.OpenBracket kinds.Ellipsis tokens then type_operand_of (open_array_in p) tokens else
     if is_next begins_bare tokens then type_operand_of (bare_in p) tokens else
-    if is_item place && (begins kinds.ChanWord tokens || begins kinds.Arrow tokens) then type_operand_of (run (at_type p) chan_plan) tokens else None
+    if is_item place && (begins kinds.ChanWord tokens || begins kinds.Arrow tokens)
+    then type_operand_of (run (at_type p) chan_plan) tokens else None
 
 abbrev pub operand_by : Parsers → Place → Kind → Token → Reader
 operand_by p place kinds.Int token rest = Some (node forms.IntForm (leaf token empty) empty, rest)
@@ -216,7 +234,10 @@ selector_in p left tokens = do
         opened ← word_in kinds.OpenParen dot.1
         form ← p.type_expr opened.1
         closed ← word_in kinds.CloseParen form.1
-        Some (node forms.AssertionForm (append left (append dot.0 (append opened.0 (append form.0 closed.0)))) empty, closed.1))
+        Some (
+          node forms.AssertionForm (append left (append dot.0 (append opened.0 (append form.0 closed.0)))) empty,
+          closed.1,
+        ))
       else (do
         name ← word_in kinds.Name dot.1
         Some (node forms.SelectorForm (append left (append dot.0 name.0)) empty, name.1))
@@ -228,18 +249,31 @@ slice_in p left opened low tokens = do
   if begins kinds.CloseBracket colon.1
       then (do
         closed ← word_in kinds.CloseBracket colon.1
-        Some (node forms.SliceExprForm (append left (append opened (append low (append colon.0 closed.0)))) empty, closed.1))
+        Some (
+          node forms.SliceExprForm (append left (append opened (append low (append colon.0 closed.0)))) empty,
+          closed.1,
+        ))
       else (do
         high ← p.expr Plain 1 colon.1
         if begins kinds.CloseBracket high.1
             then (do
               closed ← word_in kinds.CloseBracket high.1
-              Some (node forms.SliceExprForm (append left (append opened (append low (append colon.0 (append high.0 closed.0))))) empty, closed.1))
+              Some (
+                node forms.SliceExprForm
+                    (append left (append opened (append low (append colon.0 (append high.0 closed.0))))) empty,
+                closed.1,
+              ))
             else (do
               second ← word_in kinds.Colon high.1
               max ← p.expr Plain 1 second.1
               closed ← word_in kinds.CloseBracket max.1
-              Some (node forms.FullSliceForm (append left (append opened (append low (append colon.0 (append high.0 (append second.0 (append max.0 closed.0))))))) empty, closed.1)))
+              Some (
+                node forms.FullSliceForm
+                    (append left
+                    (append opened
+                    (append low (append colon.0 (append high.0 (append second.0 (append max.0 closed.0))))))) empty,
+                closed.1,
+              )))
 
 abbrev pub index_in : Parsers → Forest → Reader
 index_in p left tokens = do
@@ -256,10 +290,12 @@ at_items p _ = λ tokens. None
 
 abbrev pub arguments_plan : Plan Sort
 arguments_plan =
-    word kinds.OpenParen ⨟ maybe (not_closed kinds.CloseParen) (list_of (Part sorts.Item) ⨟ maybe_word kinds.Ellipsis ⨟ maybe_word kinds.Comma) ⨟ word kinds.CloseParen
+    word kinds.OpenParen ⨟ maybe (not_closed kinds.CloseParen)
+    (list_of (Part sorts.Item) ⨟ maybe_word kinds.Ellipsis ⨟ maybe_word kinds.Comma) ⨟ word kinds.CloseParen
 
 abbrev pub call_in : Parsers → Forest → Reader
-call_in p left tokens = run (at_items p) arguments_plan tokens >>= λ x. Some (node forms.CallForm (append left x.0) empty, x.1)
+call_in p left tokens =
+    run (at_items p) arguments_plan tokens >>= λ x. Some (node forms.CallForm (append left x.0) empty, x.1)
 
 abbrev pub suffix_at : Parsers → Forest → Kind → Reader
 suffix_at p left kinds.Dot tokens = selector_in p left tokens
@@ -273,10 +309,12 @@ suffix_in p left [] = None
 suffix_in p left (token ∷ rest) = suffix_at p left token.kind (token ∷ rest)
 
 abbrev pub suffix_turn : Parsers → Place → Left → Option (Turn Left)
-suffix_turn p place s = if begins_suffix place s.0 s.1 then (suffix_in p s.0 s.1 >>= λ x. Some (On x)) else Some (Done s)
+suffix_turn p place s =
+    if begins_suffix place s.0 s.1 then (suffix_in p s.0 s.1 >>= λ x. Some (On x)) else Some (Done s)
 
 abbrev pub primary_in : Parsers → Place → Reader
-primary_in p place tokens = operand_in p place tokens >>= λ x. if is_type_only x.0 then Some x else repeat (suffix_turn p place) (length x.1) x
+primary_in p place tokens =
+    operand_in p place tokens >>= λ x. if is_type_only x.0 then Some x else repeat (suffix_turn p place) (length x.1) x
 
 -- ---- operators
 
@@ -288,7 +326,8 @@ begins_sign_by kind rest = is_sign kind
 abbrev pub unary_by : Parsers → Place → Kind → Token → Reader
 unary_by p place kinds.Star token rest = p.expr place 6 rest >>= λ x. Some (starred token x.0, x.1)
 unary_by p place kind token rest =
-    if begins_sign_by kind rest then (p.expr (of_operand place) 6 rest >>= λ x. Some (unary_of token x.0, x.1)) else primary_in p place (token ∷ rest)
+    if begins_sign_by kind rest then (p.expr (of_operand place) 6 rest >>= λ x. Some (unary_of token x.0, x.1))
+    else primary_in p place (token ∷ rest)
 
 abbrev pub unary_in : Parsers → Place → Reader
 unary_in p place [] = None
@@ -297,7 +336,8 @@ unary_in p place (token ∷ rest) = unary_by p place token.kind token rest
 -- a binary operator that binds at least so tightly
 abbrev pub operator_at : ℕ → List Token → Option (Token × List Token)
 operator_at min [] = None
-operator_at min (token ∷ rest) = if nat_lt 0 (precedence token.kind) && nat_le min (precedence token.kind) then Some (token, rest) else None
+operator_at min (token ∷ rest) =
+    if nat_lt 0 (precedence token.kind) && nat_le min (precedence token.kind) then Some (token, rest) else None
 
 abbrev pub binary_by : Parsers → Place → Left → Option (Token × List Token) → Option (Turn Left)
 binary_by p place s None = Some (Done s)
@@ -309,7 +349,9 @@ abbrev pub binary_turn : Parsers → Place → ℕ → Left → Option (Turn Lef
 binary_turn p place min s = binary_by p place s (operator_at min s.1)
 
 abbrev pub binary_in : Parsers → Place → ℕ → Reader
-binary_in p place min tokens = unary_in p place tokens >>= λ x. if is_type_only x.0 then Some x else repeat (binary_turn p place min) (length x.1) x
+binary_in p place min tokens =
+    unary_in p place tokens >>= λ x. if is_type_only x.0 then Some x
+    else repeat (binary_turn p place min) (length x.1) x
 
 -- a key or a value: an expression, or a literal without its type
 abbrev pub value_in : Parsers → Reader

@@ -7,14 +7,16 @@ pub data Form : Type 0 where
   -- files and declarations
   FileForm ImportForm ImportSpecForm ConstForm TypeDeclForm VarForm FuncForm ValueSpecForm TypeSpecForm : Form
   -- types
-  TypeNameForm ParenTypeForm PointerForm SliceForm ArrayForm OpenArrayForm MapForm ChanForm ReceiveChanForm FunctionForm StructForm InterfaceForm : Form
+  TypeNameForm ParenTypeForm PointerForm SliceForm ArrayForm OpenArrayForm MapForm ChanForm ReceiveChanForm FunctionForm
+      StructForm InterfaceForm : Form
   SignatureForm ParamsForm ParamForm NamedFieldForm EmbeddedFieldForm MethodForm EmbeddedElementForm : Form
   -- expressions
   IntForm RuneForm TextForm NameForm ParenForm LiteralFunctionForm TypeOperandForm CompositeForm ElementForm : Form
   SelectorForm AssertionForm IndexForm SliceExprForm FullSliceForm CallForm UnaryForm BinaryForm : Form
   -- statements
   BlockForm LineForm LabeledForm ExprForm SendForm StepForm AssignForm DefineForm : Form
-  GoForm DeferForm ReturnForm BreakForm ContinueForm FallthroughForm IfForm ArmForm SwitchForm TypeSwitchForm CaseClauseForm : Form
+  GoForm DeferForm ReturnForm BreakForm ContinueForm FallthroughForm IfForm ArmForm SwitchForm TypeSwitchForm
+      CaseClauseForm : Form
   SelectForm CommClauseForm WhileForm ForForm RangeForm : Form
 
 -- trees side by side: a token, or a node with what is below it, and what stands behind

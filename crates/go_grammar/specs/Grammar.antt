@@ -179,7 +179,9 @@ abbrev pub var_decl : Shape Sort
 var_decl = Node forms.VarForm (word kinds.VarWord ⨟ group_of (Part VarSpec))
 
 abbrev pub func_decl : Shape Sort
-func_decl = Node forms.FuncForm (word kinds.FuncWord ⨟ maybe (Part Receiver) ⨟ word kinds.Name ⨟ Part Signature ⨟ maybe (Part Block))
+func_decl =
+    Node forms.FuncForm
+    (word kinds.FuncWord ⨟ maybe (Part Receiver) ⨟ word kinds.Name ⨟ Part Signature ⨟ maybe (Part Block))
 
 -- ---- types
 
@@ -207,12 +209,14 @@ abbrev pub bare_type : Shape Sort
 bare_type =
     Node forms.SliceForm (word kinds.OpenBracket ⨟ word kinds.CloseBracket ⨟ Part AnyType)
     ∣ Node forms.ArrayForm (word kinds.OpenBracket ⨟ Expr Plain ⨟ word kinds.CloseBracket ⨟ Part AnyType)
-    ∣ Node forms.MapForm (word kinds.MapWord ⨟ word kinds.OpenBracket ⨟ Part AnyType ⨟ word kinds.CloseBracket ⨟ Part AnyType)
+    ∣ Node forms.MapForm
+    (word kinds.MapWord ⨟ word kinds.OpenBracket ⨟ Part AnyType ⨟ word kinds.CloseBracket ⨟ Part AnyType)
     ∣ Node forms.StructForm (word kinds.StructWord ⨟ lines_of field)
     ∣ Node forms.InterfaceForm (word kinds.InterfaceWord ⨟ lines_of element)
 
 abbrev pub open_array : Shape Sort
-open_array = Node forms.OpenArrayForm (word kinds.OpenBracket ⨟ word kinds.Ellipsis ⨟ word kinds.CloseBracket ⨟ Part AnyType)
+open_array =
+    Node forms.OpenArrayForm (word kinds.OpenBracket ⨟ word kinds.Ellipsis ⨟ word kinds.CloseBracket ⨟ Part AnyType)
 
 -- ---- parameters
 
@@ -231,14 +235,19 @@ listed item last = Many (Node forms.ParamForm item ⨟ word kinds.Comma) ⨟ Nod
 -- all without names or all with names, and a comma behind the last where one likes
 abbrev pub params_of : Bool → Shape Sort
 params_of variadic =
-    Node forms.ParamsForm (word kinds.OpenParen ⨟ maybe ((listed (Part AnyType) (last_type variadic) ∣ listed (names ⨟ Part AnyType) (last_group variadic)) ⨟ maybe (word kinds.Comma)) ⨟ word kinds.CloseParen)
+    Node forms.ParamsForm
+    (word kinds.OpenParen ⨟ maybe
+    ((listed (Part AnyType) (last_type variadic) ∣ listed (names ⨟ Part AnyType) (last_group variadic)) ⨟ maybe
+    (word kinds.Comma)) ⨟ word kinds.CloseParen)
 
 -- ---- expressions
 
 -- operators of one level group to the left, and what binds tighter stands on their right
 abbrev pub binary : Level → Context → Shape Sort
 binary level context =
-    Node forms.BinaryForm (Part (Binary level context) ⨟ Sign (λ kind. precedence kind == number level) ⨟ Part (tighter level context)) ∣ Part (tighter level context)
+    Node forms.BinaryForm
+    (Part (Binary level context) ⨟ Sign (λ kind. precedence kind == number level) ⨟ Part (tighter level context)) ∣
+    Part (tighter level context)
 
 abbrev pub operand : Shape Sort
 operand =
@@ -254,11 +263,18 @@ operand =
 abbrev pub suffixed : Sort → Shape Sort
 suffixed left =
     Node forms.SelectorForm (Part left ⨟ word kinds.Dot ⨟ word kinds.Name)
-    ∣ Node forms.AssertionForm (Part left ⨟ word kinds.Dot ⨟ word kinds.OpenParen ⨟ Part AnyType ⨟ word kinds.CloseParen)
+    ∣ Node forms.AssertionForm
+    (Part left ⨟ word kinds.Dot ⨟ word kinds.OpenParen ⨟ Part AnyType ⨟ word kinds.CloseParen)
     ∣ Node forms.IndexForm (Part left ⨟ word kinds.OpenBracket ⨟ Expr Plain ⨟ word kinds.CloseBracket)
-    ∣ Node forms.SliceExprForm (Part left ⨟ word kinds.OpenBracket ⨟ maybe (Expr Plain) ⨟ word kinds.Colon ⨟ maybe (Expr Plain) ⨟ word kinds.CloseBracket)
-    ∣ Node forms.FullSliceForm (Part left ⨟ word kinds.OpenBracket ⨟ maybe (Expr Plain) ⨟ word kinds.Colon ⨟ Expr Plain ⨟ word kinds.Colon ⨟ Expr Plain ⨟ word kinds.CloseBracket)
-    ∣ Node forms.CallForm (Part left ⨟ word kinds.OpenParen ⨟ maybe (items ⨟ maybe (word kinds.Ellipsis) ⨟ maybe (word kinds.Comma)) ⨟ word kinds.CloseParen)
+    ∣ Node forms.SliceExprForm
+    (Part left ⨟ word kinds.OpenBracket ⨟ maybe (Expr Plain) ⨟ word kinds.Colon ⨟ maybe (Expr Plain) ⨟ word
+    kinds.CloseBracket)
+    ∣ Node forms.FullSliceForm
+    (Part left ⨟ word kinds.OpenBracket ⨟ maybe (Expr Plain) ⨟ word kinds.Colon ⨟ Expr Plain ⨟ word kinds.Colon ⨟
+    Expr Plain ⨟ word kinds.CloseBracket)
+    ∣ Node forms.CallForm
+    (Part left ⨟ word kinds.OpenParen ⨟ maybe (items ⨟ maybe (word kinds.Ellipsis) ⨟ maybe (word kinds.Comma)) ⨟
+    word kinds.CloseParen)
 
 -- ---- statements
 
@@ -276,10 +292,14 @@ without_define context =
 
 abbrev pub if_stmt : Shape Sort
 if_stmt =
-    Node forms.IfForm (Node forms.ArmForm (Part IfRest) ⨟ Many (Node forms.ArmForm (word kinds.ElseWord ⨟ Part IfRest)) ⨟ maybe (word kinds.ElseWord ⨟ Part Block))
+    Node forms.IfForm
+    (Node forms.ArmForm (Part IfRest) ⨟ Many (Node forms.ArmForm (word kinds.ElseWord ⨟ Part IfRest)) ⨟ maybe
+    (word kinds.ElseWord ⨟ Part Block))
 
 abbrev pub select_stmt : Shape Sort
-select_stmt = Node forms.SelectForm (word kinds.SelectWord ⨟ word kinds.OpenBrace ⨟ Many (Part CommClause) ⨟ word kinds.CloseBrace)
+select_stmt =
+    Node forms.SelectForm
+    (word kinds.SelectWord ⨟ word kinds.OpenBrace ⨟ Many (Part CommClause) ⨟ word kinds.CloseBrace)
 
 abbrev pub unlabeled : Shape Sort
 unlabeled =
@@ -304,7 +324,9 @@ label = word kinds.Name ⨟ word kinds.Colon
 
 abbrev pub grammar : Sort → Shape Sort
 grammar File =
-    Node forms.FileForm (word kinds.PackageWord ⨟ word kinds.Name ⨟ semicolon ⨟ Many (Part Import ⨟ semicolon) ⨟ Many (Part PackageDecl ⨟ semicolon))
+    Node forms.FileForm
+    (word kinds.PackageWord ⨟ word kinds.Name ⨟ semicolon ⨟ Many (Part Import ⨟ semicolon) ⨟ Many
+    (Part PackageDecl ⨟ semicolon))
 grammar Import = Node forms.ImportForm (word kinds.ImportWord ⨟ group_of (Part ImportSpec))
 grammar ImportSpec = Node forms.ImportSpecForm (maybe (word kinds.Name) ⨟ word kinds.Text)
 grammar PackageDecl = Part LocalDecl ∣ func_decl
@@ -312,7 +334,9 @@ grammar LocalDecl = const_decl ∣ type_decl ∣ var_decl
 -- a constant with no value has no type
 grammar ConstSpec = Node forms.ValueSpecForm (names ⨟ maybe (maybe (Part AnyType) ⨟ word kinds.Assign ⨟ exprs Plain))
 grammar TypeSpec = Node forms.TypeSpecForm (word kinds.Name ⨟ maybe (word kinds.Assign) ⨟ Part AnyType)
-grammar VarSpec = Node forms.ValueSpecForm (names ⨟ (Part AnyType ⨟ maybe (word kinds.Assign ⨟ exprs Plain) ∣ word kinds.Assign ⨟ exprs Plain))
+grammar VarSpec =
+    Node forms.ValueSpecForm
+    (names ⨟ (Part AnyType ⨟ maybe (word kinds.Assign ⨟ exprs Plain) ∣ word kinds.Assign ⨟ exprs Plain))
 -- the dot behind a name of a type belongs to it
 grammar TypeName = Node forms.TypeNameForm (word kinds.Name ⨟ (word kinds.Dot ⨟ word kinds.Name ∣ not_before is_dot))
 grammar AnyType = Part LongType ∣ Node forms.ParenTypeForm (word kinds.OpenParen ⨟ Part AnyType ⨟ word kinds.CloseParen)
@@ -320,14 +344,18 @@ grammar AnyType = Part LongType ∣ Node forms.ParenTypeForm (word kinds.OpenPar
 grammar LongType = Part TypeName ∣ pointer_to AnyType ∣ Part BareType ∣ chan_type ∣ function_type
 grammar BareType = bare_type
 -- the types that are no expressions; a function before braces is a literal
-grammar TypeOnly = pointer_to TypeOnly ∣ chan_type ∣ Node forms.FunctionForm (word kinds.FuncWord ⨟ Part Signature ⨟ not_before opens_braces)
+grammar TypeOnly =
+    pointer_to TypeOnly ∣ chan_type ∣ Node forms.FunctionForm
+    (word kinds.FuncWord ⨟ Part Signature ⨟ not_before opens_braces)
 grammar LiteralType = Part BareType ∣ open_array
 -- a list in parentheses is a list of results, and a result is as long as it can be
 grammar Signature = Node forms.SignatureForm (Part Params ⨟ (Part Results ∣ Part LongType ∣ not_before begins_type))
 grammar Params = params_of true
 grammar Results = params_of false
 grammar Receiver =
-    Node forms.ParamsForm (word kinds.OpenParen ⨟ Node forms.ParamForm (maybe (word kinds.Name) ⨟ Part AnyType) ⨟ maybe (word kinds.Comma) ⨟ word kinds.CloseParen)
+    Node forms.ParamsForm
+    (word kinds.OpenParen ⨟ Node forms.ParamForm (maybe (word kinds.Name) ⨟ Part AnyType) ⨟ maybe (word kinds.Comma)
+    ⨟ word kinds.CloseParen)
 grammar Block = Node forms.BlockForm (word kinds.OpenBrace ⨟ Part Lines ⨟ word kinds.CloseBrace)
 grammar Lines = Many (Node forms.LineForm (Part Statement ⨟ end_of_line closes_braces ∣ semicolon))
 grammar (Binary level context) = binary level context
@@ -338,25 +366,38 @@ grammar (Operand Header) = operand
 -- an expression, or a type that is none
 grammar Item = Expr Plain ∣ Node forms.TypeOperandForm (Part TypeOnly)
 -- a comma stands behind each element, and may be left out behind the last
-grammar Braces = word kinds.OpenBrace ⨟ Many (Node forms.ElementForm (maybe (Part Value ⨟ word kinds.Colon) ⨟ Part Value) ⨟ (word kinds.Comma ∣ Before closes_braces)) ⨟ word kinds.CloseBrace
+grammar Braces =
+    word kinds.OpenBrace ⨟ Many
+    (Node forms.ElementForm (maybe (Part Value ⨟ word kinds.Colon) ⨟ Part Value) ⨟
+    (word kinds.Comma ∣ Before closes_braces)) ⨟ word kinds.CloseBrace
 grammar Value = Expr Plain ∣ Node forms.CompositeForm (Part Braces)
 grammar Statement = Node forms.LabeledForm (label ⨟ Many label ⨟ maybe (Part Unlabeled)) ∣ Part Unlabeled
 grammar Unlabeled = unlabeled
 grammar IfRest = word kinds.IfWord ⨟ init ⨟ Expr Header ⨟ Part Block
 grammar Switch =
-    Node forms.SwitchForm (word kinds.SwitchWord ⨟ init ⨟ maybe (Expr Header) ⨟ word kinds.OpenBrace ⨟ Many (Part CaseClause) ⨟ word kinds.CloseBrace)
+    Node forms.SwitchForm
+    (word kinds.SwitchWord ⨟ init ⨟ maybe (Expr Header) ⨟ word kinds.OpenBrace ⨟ Many (Part CaseClause) ⨟ word
+    kinds.CloseBrace)
     ∣ Node forms.TypeSwitchForm (word kinds.SwitchWord ⨟ init ⨟ maybe (word kinds.Name ⨟ word kinds.Define)
     ⨟ Part (Primary Header) ⨟ word kinds.Dot ⨟ word kinds.OpenParen ⨟ word kinds.TypeWord ⨟ word kinds.CloseParen
     ⨟ word kinds.OpenBrace ⨟ Many (Part CaseClause) ⨟ word kinds.CloseBrace)
-grammar CaseClause = Node forms.CaseClauseForm ((word kinds.CaseWord ⨟ items ∣ word kinds.DefaultWord) ⨟ word kinds.Colon ⨟ Part Lines)
+grammar CaseClause =
+    Node forms.CaseClauseForm ((word kinds.CaseWord ⨟ items ∣ word kinds.DefaultWord) ⨟ word kinds.Colon ⨟ Part Lines)
 grammar Comm =
     Node forms.SendForm (Expr Plain ⨟ word kinds.Arrow ⨟ Expr Plain)
     ∣ Node forms.AssignForm (exprs Plain ⨟ word kinds.Assign ⨟ Expr Plain)
     ∣ Node forms.DefineForm (exprs Plain ⨟ word kinds.Define ⨟ Expr Plain)
     ∣ Node forms.ExprForm (Expr Plain)
-grammar CommClause = Node forms.CommClauseForm ((word kinds.CaseWord ⨟ Part Comm ∣ word kinds.DefaultWord) ⨟ word kinds.Colon ⨟ Part Lines)
+grammar CommClause =
+    Node forms.CommClauseForm
+    ((word kinds.CaseWord ⨟ Part Comm ∣ word kinds.DefaultWord) ⨟ word kinds.Colon ⨟ Part Lines)
 grammar Loop =
     Node forms.WhileForm (word kinds.ForWord ⨟ maybe (Expr Header) ⨟ Part Block)
-    ∣ Node forms.ForForm (word kinds.ForWord ⨟ maybe (Part (Simple Header)) ⨟ semicolon ⨟ maybe (Expr Header) ⨟ semicolon ⨟ maybe (without_define Header) ⨟ Part Block)
-    ∣ Node forms.RangeForm (word kinds.ForWord ⨟ maybe (exprs Header ⨟ (word kinds.Assign ∣ word kinds.Define)) ⨟ word kinds.RangeWord ⨟ Expr Header ⨟ Part Block)
-grammar (Simple context) = without_define context ∣ Node forms.DefineForm (exprs context ⨟ word kinds.Define ⨟ exprs context)
+    ∣ Node forms.ForForm
+    (word kinds.ForWord ⨟ maybe (Part (Simple Header)) ⨟ semicolon ⨟ maybe (Expr Header) ⨟ semicolon ⨟ maybe
+    (without_define Header) ⨟ Part Block)
+    ∣ Node forms.RangeForm
+    (word kinds.ForWord ⨟ maybe (exprs Header ⨟ (word kinds.Assign ∣ word kinds.Define)) ⨟ word kinds.RangeWord ⨟
+    Expr Header ⨟ Part Block)
+grammar (Simple context) =
+    without_define context ∣ Node forms.DefineForm (exprs context ⨟ word kinds.Define ⨟ exprs context)

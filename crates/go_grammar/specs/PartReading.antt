@@ -1,4 +1,5 @@
--- Reading a file part after part: the package clause, imports while `import` stands there, and declarations up to the end.
+-- Reading a file part after part: the package clause, imports while `import` stands there, and declarations up to the
+-- end.
 use Rattle.std.specs.Prelude.{ℕ, zero, suc, List, length, Option, Some, None, Result, Ok, Err, Bool, if◌then◌else◌}
 use Rattle.go_ast.specs.declared.token.Kind.TheVariants as kinds
 use Rattle.go_ast.specs.declared.token.Token.{Token}
@@ -27,11 +28,13 @@ abbrev pub and_then : {A B : Type 0} → Result A ℕ → (A → Result B ℕ) �
 and_then (Ok x) go_on = go_on x
 and_then (Err left) go_on = Err left
 
--- At most n parts behind a front, as long as the tokens pass a test: the trees, and what is left; or how many tokens are left where a part cannot be read.
+-- At most n parts behind a front, as long as the tokens pass a test: the trees, and what is left; or how many tokens
+-- are left where a part cannot be read.
 abbrev pub parts_in : (List Token → Bool) → Reader → ℕ → Forest → List Token → Result (Forest × List Token) ℕ
 parts_in test part zero front tokens = Ok (front, tokens)
 parts_in test part (suc n) front tokens =
-    if test tokens then or_stop (part tokens) (length tokens) (λ x. parts_in test part n (append front x.0) x.1) else Ok (front, tokens)
+    if test tokens then or_stop (part tokens) (length tokens) (λ x. parts_in test part n (append front x.0) x.1)
+    else Ok (front, tokens)
 
 -- the tree of a file, or how many tokens are left where a part cannot be read
 abbrev pub file_by_parts : Parsers → List Token → Result Forest ℕ

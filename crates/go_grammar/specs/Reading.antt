@@ -67,7 +67,8 @@ either_in test first second tokens = if test tokens then first tokens else secon
 abbrev pub many_in : (List Token → Bool) → Reader → ℕ → Reader
 many_in test item zero tokens = Some (empty, tokens)
 many_in test item (suc n) tokens =
-    if test tokens then (item tokens >>= λ x. many_in test item n x.1 >>= λ y. Some (append x.0 y.0, y.1)) else Some (empty, tokens)
+    if test tokens then (item tokens >>= λ x. many_in test item n x.1 >>= λ y. Some (append x.0 y.0, y.1))
+    else Some (empty, tokens)
 
 -- what a plan reads, where this reads its parts
 abbrev pub run : {S : Type 0} → (S → Reader) → Plan S → Reader

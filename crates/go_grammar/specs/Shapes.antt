@@ -51,12 +51,19 @@ IsNext test (token ∷ tokens) = test token.kind ≡ true
 -- A tree has a shape where these tokens stand behind it.
 pub data Fits {S : Type 0} (grammar : S → Shape S) : Shape S → Forest → List Token → Type 0 where
   nothing : {rest : List Token} → Fits grammar Nothing empty rest
-  sign : {test : Kind → Bool} {token : Token} {rest : List Token} → test token.kind ≡ true → Fits grammar (Sign test) (leaf token empty) rest
+  sign : {test : Kind → Bool} {token : Token} {rest : List Token} → test token.kind ≡ true
+      → Fits grammar (Sign test) (leaf token empty) rest
   before : {test : Kind → Bool} {rest : List Token} → IsNext test rest → Fits grammar (Before test) empty rest
-  part : {sort : S} {tree : Forest} {rest : List Token} → Fits grammar (grammar sort) tree rest → Fits grammar (Part sort) tree rest
-  below : {form : Form} {shape : Shape S} {trees : Forest} {rest : List Token} → Fits grammar shape trees rest → Fits grammar (Node form shape) (node form trees empty) rest
-  both : {a b : Shape S} {left right : Forest} {rest : List Token} → Fits grammar a left (yield right ++ rest) → Fits grammar b right rest → Fits grammar (Then a b) (append left right) rest
-  first : {a b : Shape S} {tree : Forest} {rest : List Token} → Fits grammar a tree rest → Fits grammar (Either a b) tree rest
-  second : {a b : Shape S} {tree : Forest} {rest : List Token} → Fits grammar b tree rest → Fits grammar (Either a b) tree rest
+  part : {sort : S} {tree : Forest} {rest : List Token} → Fits grammar (grammar sort) tree rest
+      → Fits grammar (Part sort) tree rest
+  below : {form : Form} {shape : Shape S} {trees : Forest} {rest : List Token} → Fits grammar shape trees rest
+      → Fits grammar (Node form shape) (node form trees empty) rest
+  both : {a b : Shape S} {left right : Forest} {rest : List Token} → Fits grammar a left (yield right ++ rest)
+      → Fits grammar b right rest → Fits grammar (Then a b) (append left right) rest
+  first : {a b : Shape S} {tree : Forest} {rest : List Token} → Fits grammar a tree rest
+      → Fits grammar (Either a b) tree rest
+  second : {a b : Shape S} {tree : Forest} {rest : List Token} → Fits grammar b tree rest
+      → Fits grammar (Either a b) tree rest
   done : {a : Shape S} {rest : List Token} → Fits grammar (Many a) empty rest
-  more : {a : Shape S} {left right : Forest} {rest : List Token} → Fits grammar a left (yield right ++ rest) → Fits grammar (Many a) right rest → Fits grammar (Many a) (append left right) rest
+  more : {a : Shape S} {left right : Forest} {rest : List Token} → Fits grammar a left (yield right ++ rest)
+      → Fits grammar (Many a) right rest → Fits grammar (Many a) (append left right) rest

@@ -9,7 +9,8 @@ use Rattle.go_grammar.specs.Shapes.{is}
 use Rattle.go_grammar.specs.Grammar as sorts
 use Rattle.go_grammar.specs.Grammar.{Sort, Context, is_assign, is_step, is_semicolon, closes_braces}
 use Rattle.go_grammar.specs.Reading.{Reader, Plan, Sign, Part, Node, Either, Many, is_next, sign_in, ◌>>=◌, run}
-use Rattle.go_grammar.specs.Tests.{begins, begins_both, begins_semicolon, begins_type_at, ◌⨟◌, word, maybe, maybe_word, semicolon, end_of_line, not_closed, not_empty, group_of, list_of, names, word_in}
+use Rattle.go_grammar.specs.Tests.{begins, begins_both, begins_semicolon, begins_type_at, ◌⨟◌, word, maybe, maybe_word}
+use Rattle.go_grammar.specs.Tests.{semicolon, end_of_line, not_closed, not_empty, group_of, list_of, names, word_in}
 use Rattle.go_grammar.specs.TypeReading.{Plain, Header, Item, Parsers, signature_in, begins_named_param}
 use Rattle.go_grammar.specs.ExprReading.{block_in}
 
@@ -36,13 +37,20 @@ items = list_of (Part sorts.Item)
 -- ---- declarations
 
 abbrev pub const_spec_plan : Plan Sort
-const_spec_plan = Node forms.ValueSpecForm (names ⨟ maybe (λ tokens. begins_type_at tokens || begins kinds.Assign tokens) (maybe begins_type_at (Part sorts.AnyType) ⨟ word kinds.Assign ⨟ exprs sorts.Plain))
+const_spec_plan =
+    Node forms.ValueSpecForm
+    (names ⨟ maybe (λ tokens. begins_type_at tokens
+    || begins kinds.Assign tokens) (maybe begins_type_at (Part sorts.AnyType) ⨟ word kinds.Assign ⨟ exprs sorts.Plain))
 
 abbrev pub type_spec_plan : Plan Sort
 type_spec_plan = Node forms.TypeSpecForm (word kinds.Name ⨟ maybe_word kinds.Assign ⨟ Part sorts.AnyType)
 
 abbrev pub var_spec_plan : Plan Sort
-var_spec_plan = Node forms.ValueSpecForm (names ⨟ Either begins_type_at (Part sorts.AnyType ⨟ maybe (begins kinds.Assign) (word kinds.Assign ⨟ exprs sorts.Plain)) (word kinds.Assign ⨟ exprs sorts.Plain))
+var_spec_plan =
+    Node forms.ValueSpecForm
+    (names ⨟ Either begins_type_at
+    (Part sorts.AnyType ⨟ maybe (begins kinds.Assign) (word kinds.Assign ⨟ exprs sorts.Plain))
+    (word kinds.Assign ⨟ exprs sorts.Plain))
 
 abbrev pub at_spec : Parsers → Sort → Reader
 at_spec p sorts.ConstSpec = run (at_part p) const_spec_plan
@@ -72,10 +80,13 @@ rest_of form targets reader tokens = reader tokens >>= λ x. Some (node form (ap
 -- what follows the first expressions of a simple statement
 abbrev pub simple_rest_in : Parsers → Context → Forest → Reader
 simple_rest_in p context targets tokens =
-    if is_next is_assign tokens then rest_of forms.AssignForm targets (run (at_part p) (Sign is_assign ⨟ exprs context)) tokens else
-    if begins kinds.Define tokens then rest_of forms.DefineForm targets (run (at_part p) (word kinds.Define ⨟ exprs context)) tokens else
+    if is_next is_assign tokens
+    then rest_of forms.AssignForm targets (run (at_part p) (Sign is_assign ⨟ exprs context)) tokens else
+    if begins kinds.Define tokens
+    then rest_of forms.DefineForm targets (run (at_part p) (word kinds.Define ⨟ exprs context)) tokens else
     if not (is_single targets) then None else
-    if begins kinds.Arrow tokens then rest_of forms.SendForm targets (run (at_part p) (word kinds.Arrow ⨟ expr context)) tokens else
+    if begins kinds.Arrow tokens
+    then rest_of forms.SendForm targets (run (at_part p) (word kinds.Arrow ⨟ expr context)) tokens else
     if is_next is_step tokens then rest_of forms.StepForm targets (sign_in is_step) tokens else
     Some (node forms.ExprForm targets empty, tokens)
 
@@ -87,7 +98,9 @@ simple_in p context tokens = exprs_in p context tokens >>= λ targets. simple_re
 
 -- a simple statement of a header, or nothing before a semicolon or a brace
 abbrev pub optional_simple_in : Parsers → Reader
-optional_simple_in p tokens = if begins_semicolon tokens || begins kinds.OpenBrace tokens then Some (empty, tokens) else simple_in p sorts.Header tokens
+optional_simple_in p tokens =
+    if begins_semicolon tokens || begins kinds.OpenBrace tokens then Some (empty, tokens)
+    else simple_in p sorts.Header tokens
 
 -- What stands in the header of an `if` or a `switch`: a statement and a semicolon, and then what is decided.
 pub record HeaderParts : Type 0 where
@@ -97,7 +110,8 @@ pub record HeaderParts : Type 0 where
 abbrev pub header_in : Parsers → List Token → Option (HeaderParts × List Token)
 header_in p tokens = optional_simple_in p tokens >>= λ first.
     if begins_semicolon first.1
-    then (sign_in is_semicolon first.1 >>= λ ended. optional_simple_in p ended.1 >>= λ last. Some (record { init = append first.0 ended.0; last = last.0 }, last.1))
+    then (sign_in is_semicolon first.1 >>= λ ended. optional_simple_in p ended.1 >>= λ last. Some
+    (record { init = append first.0 ended.0; last = last.0 }, last.1))
     else Some (record { init = empty; last = first.0 }, first.1)
 
 -- the expression that is a statement
@@ -117,13 +131,18 @@ if_rest_in p tokens = do
 
 abbrev pub if_plan : Plan Sort
 if_plan =
-    Node forms.IfForm (Node forms.ArmForm (Part sorts.IfRest) ⨟ Many (begins_both kinds.ElseWord kinds.IfWord) (Node forms.ArmForm (word kinds.ElseWord ⨟ Part sorts.IfRest))
+    Node forms.IfForm
+    (Node forms.ArmForm (Part sorts.IfRest) ⨟ Many (begins_both kinds.ElseWord kinds.IfWord)
+    (Node forms.ArmForm (word kinds.ElseWord ⨟ Part sorts.IfRest))
     ⨟ maybe (begins kinds.ElseWord) (word kinds.ElseWord ⨟ Part sorts.Block))
 
 -- ---- switch
 
 abbrev pub clause_plan : Plan Sort
-clause_plan = Node forms.CaseClauseForm (Either (not_closed kinds.DefaultWord) (word kinds.CaseWord ⨟ items) (word kinds.DefaultWord) ⨟ word kinds.Colon ⨟ Part sorts.Lines)
+clause_plan =
+    Node forms.CaseClauseForm
+    (Either (not_closed kinds.DefaultWord) (word kinds.CaseWord ⨟ items) (word kinds.DefaultWord) ⨟ word kinds.Colon ⨟
+    Part sorts.Lines)
 
 abbrev pub clauses_plan : Plan Sort
 clauses_plan = word kinds.OpenBrace ⨟ Many (not_closed kinds.CloseBrace) (Part sorts.CaseClause) ⨟ word kinds.CloseBrace
@@ -147,7 +166,8 @@ primary_of tree = if is_primary tree then Some tree else None
 
 -- the name that is bound, and the operand
 abbrev pub bound_of : Forest → Option Forest
-bound_of (node forms.NameForm (leaf name empty) (leaf define operand)) = if is_primary operand then Some (leaf name (leaf define operand)) else None
+bound_of (node forms.NameForm (leaf name empty) (leaf define operand)) =
+    if is_primary operand then Some (leaf name (leaf define operand)) else None
 bound_of _ = None
 
 abbrev pub guard_by : Form → Forest → Option Forest
@@ -171,8 +191,10 @@ tag_of tree = expr_of tree
 abbrev pub switch_rest_in : Parsers → Forest → HeaderParts → Reader
 switch_rest_in p opened parts tokens =
     if begins kinds.Dot tokens
-    then (guard_of parts.last >>= λ guard. run (at_clauses p) guard_plan tokens >>= λ x. Some (node forms.TypeSwitchForm (append opened (append parts.init (append guard x.0))) empty, x.1))
-    else (tag_of parts.last >>= λ tag. run (at_clauses p) clauses_plan tokens >>= λ x. Some (node forms.SwitchForm (append opened (append parts.init (append tag x.0))) empty, x.1))
+    then (guard_of parts.last >>= λ guard. run (at_clauses p) guard_plan tokens >>= λ x. Some
+    (node forms.TypeSwitchForm (append opened (append parts.init (append guard x.0))) empty, x.1))
+    else (tag_of parts.last >>= λ tag. run (at_clauses p) clauses_plan tokens >>= λ x. Some
+    (node forms.SwitchForm (append opened (append parts.init (append tag x.0))) empty, x.1))
 
 abbrev pub switch_in : Parsers → Reader
 switch_in p tokens = do
@@ -212,7 +234,10 @@ abbrev pub comm_in : Parsers → Reader
 comm_in p tokens = simple_in p sorts.Plain tokens >>= λ x. if is_comm x.0 then Some x else None
 
 abbrev pub comm_plan : Plan Sort
-comm_plan = Node forms.CommClauseForm (Either (not_closed kinds.DefaultWord) (word kinds.CaseWord ⨟ Part sorts.Comm) (word kinds.DefaultWord) ⨟ word kinds.Colon ⨟ Part sorts.Lines)
+comm_plan =
+    Node forms.CommClauseForm
+    (Either (not_closed kinds.DefaultWord) (word kinds.CaseWord ⨟ Part sorts.Comm) (word kinds.DefaultWord) ⨟ word
+    kinds.Colon ⨟ Part sorts.Lines)
 
 abbrev pub at_comm : Parsers → Sort → Reader
 at_comm p sorts.Comm = comm_in p
@@ -220,12 +245,16 @@ at_comm p sorts.Lines = p.statements
 at_comm p _ = λ tokens. None
 
 abbrev pub select_plan : Plan Sort
-select_plan = Node forms.SelectForm (word kinds.SelectWord ⨟ word kinds.OpenBrace ⨟ Many (not_closed kinds.CloseBrace) (Part sorts.CommClause) ⨟ word kinds.CloseBrace)
+select_plan =
+    Node forms.SelectForm
+    (word kinds.SelectWord ⨟ word kinds.OpenBrace ⨟ Many (not_closed kinds.CloseBrace) (Part sorts.CommClause) ⨟ word
+    kinds.CloseBrace)
 
 -- ---- for
 
 abbrev pub while_in : Parsers → Forest → Forest → Reader
-while_in p opened condition tokens = block_in p tokens >>= λ body. Some (node forms.WhileForm (append opened (append condition body.0)) empty, body.1)
+while_in p opened condition tokens =
+    block_in p tokens >>= λ body. Some (node forms.WhileForm (append opened (append condition body.0)) empty, body.1)
 
 abbrev pub is_define : Forest → Bool
 is_define (node forms.DefineForm below behind) = true
@@ -239,7 +268,9 @@ for_clauses_in p opened init tokens = do
   Some (node forms.ForForm (append opened (append init (append front.0 (append post.0 body.0)))) empty, body.1)
 
 abbrev pub range_in : Parsers → Forest → Forest → Reader
-range_in p opened targets tokens = run (at_part p) (word kinds.RangeWord ⨟ expr sorts.Header ⨟ Part sorts.Block) tokens >>= λ x. Some (node forms.RangeForm (append opened (append targets x.0)) empty, x.1)
+range_in p opened targets tokens =
+    run (at_part p) (word kinds.RangeWord ⨟ expr sorts.Header ⨟ Part sorts.Block) tokens >>= λ x. Some
+    (node forms.RangeForm (append opened (append targets x.0)) empty, x.1)
 
 abbrev pub is_range_assign : Kind → Bool
 is_range_assign kinds.Assign = true
@@ -256,7 +287,8 @@ for_rest_in p opened targets tokens =
     if begins_range tokens
     then (sign_in is_range_assign tokens >>= λ operator. range_in p opened (append targets operator.0) operator.1)
     else (simple_rest_in p sorts.Header targets tokens >>= λ stmt.
-    if begins_semicolon stmt.1 then for_clauses_in p opened stmt.0 stmt.1 else (expr_of stmt.0 >>= λ condition. while_in p opened condition stmt.1))
+    if begins_semicolon stmt.1 then for_clauses_in p opened stmt.0 stmt.1
+    else (expr_of stmt.0 >>= λ condition. while_in p opened condition stmt.1))
 
 abbrev pub for_in : Parsers → Reader
 for_in p tokens = word_in kinds.ForWord tokens >>= λ opened.
@@ -293,7 +325,8 @@ unlabeled_plan =
     Either (is_next begins_decl) (Part sorts.LocalDecl)
     (Either (begins kinds.GoWord) (Node forms.GoForm (word kinds.GoWord ⨟ expr sorts.Plain))
     (Either (begins kinds.DeferWord) (Node forms.DeferForm (word kinds.DeferWord ⨟ expr sorts.Plain))
-    (Either (begins kinds.ReturnWord) (Node forms.ReturnForm (word kinds.ReturnWord ⨟ maybe goes_on (exprs sorts.Plain)))
+    (Either (begins kinds.ReturnWord)
+    (Node forms.ReturnForm (word kinds.ReturnWord ⨟ maybe goes_on (exprs sorts.Plain)))
     (Either (begins kinds.BreakWord) (Node forms.BreakForm (word kinds.BreakWord ⨟ maybe_word kinds.Name))
     (Either (begins kinds.ContinueWord) (Node forms.ContinueForm (word kinds.ContinueWord ⨟ maybe_word kinds.Name))
     (Either (begins kinds.FallthroughWord) (Node forms.FallthroughForm (word kinds.FallthroughWord))
@@ -316,7 +349,8 @@ at_statement p _ = λ tokens. None
 abbrev pub statement_plan : Plan Sort
 statement_plan =
     Either (begins_both kinds.Name kinds.Colon)
-    (Node forms.LabeledForm (label ⨟ Many (begins_both kinds.Name kinds.Colon) label ⨟ maybe goes_on (Part sorts.Unlabeled)))
+    (Node forms.LabeledForm
+    (label ⨟ Many (begins_both kinds.Name kinds.Colon) label ⨟ maybe goes_on (Part sorts.Unlabeled)))
     (Part sorts.Unlabeled)
 
 abbrev pub at_lines : Parsers → Sort → Reader
@@ -325,10 +359,13 @@ at_lines p _ = λ tokens. None
 
 -- whether the statements of a block or a clause end here
 abbrev pub ends_statements : List Token → Bool
-ends_statements tokens = begins kinds.CloseBrace tokens || begins kinds.CaseWord tokens || begins kinds.DefaultWord tokens
+ends_statements tokens =
+    begins kinds.CloseBrace tokens || begins kinds.CaseWord tokens || begins kinds.DefaultWord tokens
 
 abbrev pub lines_plan : Plan Sort
-lines_plan = Many (λ tokens. not (ends_statements tokens)) (Node forms.LineForm (Either not_empty (Part sorts.Statement ⨟ end_of_line closes_braces) semicolon))
+lines_plan =
+    Many (λ tokens. not (ends_statements tokens))
+    (Node forms.LineForm (Either not_empty (Part sorts.Statement ⨟ end_of_line closes_braces) semicolon))
 
 abbrev pub lines_in : Parsers → Reader
 lines_in p = run (at_lines p) lines_plan
@@ -337,7 +374,9 @@ lines_in p = run (at_lines p) lines_plan
 
 abbrev pub receiver_plan : Plan Sort
 receiver_plan =
-    Node forms.ParamsForm (word kinds.OpenParen ⨟ Node forms.ParamForm (maybe begins_named_param (word kinds.Name) ⨟ Part sorts.AnyType) ⨟ maybe_word kinds.Comma ⨟ word kinds.CloseParen)
+    Node forms.ParamsForm
+    (word kinds.OpenParen ⨟ Node forms.ParamForm (maybe begins_named_param (word kinds.Name) ⨟ Part sorts.AnyType) ⨟
+    maybe_word kinds.Comma ⨟ word kinds.CloseParen)
 
 abbrev pub at_package : Parsers → Sort → Reader
 at_package p sorts.LocalDecl = decl_in p
@@ -347,7 +386,9 @@ at_package p sort = at_part p sort
 abbrev pub package_plan : Plan Sort
 package_plan =
     Either (not_closed kinds.FuncWord) (Part sorts.LocalDecl)
-    (Node forms.FuncForm (word kinds.FuncWord ⨟ maybe (begins kinds.OpenParen) (Part sorts.Receiver) ⨟ word kinds.Name ⨟ Part sorts.Signature ⨟ maybe (begins kinds.OpenBrace) (Part sorts.Block)))
+    (Node forms.FuncForm
+    (word kinds.FuncWord ⨟ maybe (begins kinds.OpenParen) (Part sorts.Receiver) ⨟ word kinds.Name ⨟ Part
+    sorts.Signature ⨟ maybe (begins kinds.OpenBrace) (Part sorts.Block)))
 
 abbrev pub import_spec_plan : Plan Sort
 import_spec_plan = Node forms.ImportSpecForm (maybe_word kinds.Name ⨟ word kinds.Text)
@@ -370,7 +411,9 @@ is_more (token ∷ tokens) = true
 
 abbrev pub file_plan : Plan Sort
 file_plan =
-    Node forms.FileForm (word kinds.PackageWord ⨟ word kinds.Name ⨟ semicolon ⨟ Many (begins kinds.ImportWord) (Part sorts.Import ⨟ semicolon) ⨟ Many is_more (Part sorts.PackageDecl ⨟ semicolon))
+    Node forms.FileForm
+    (word kinds.PackageWord ⨟ word kinds.Name ⨟ semicolon ⨟ Many (begins kinds.ImportWord)
+    (Part sorts.Import ⨟ semicolon) ⨟ Many is_more (Part sorts.PackageDecl ⨟ semicolon))
 
 abbrev pub file_in : Parsers → Reader
 file_in p = run (at_file p) file_plan

@@ -56,7 +56,10 @@ not_empty tokens = not (begins_semicolon tokens)
 
 -- one, or any number in parentheses
 abbrev pub group_of : {S : Type 0} → Plan S → Plan S
-group_of spec = Either (not_closed kinds.OpenParen) spec (word kinds.OpenParen ⨟ Many (not_closed kinds.CloseParen) (spec ⨟ end_of_line closes_parens) ⨟ word kinds.CloseParen)
+group_of spec =
+    Either (not_closed kinds.OpenParen) spec
+    (word kinds.OpenParen ⨟ Many (not_closed kinds.CloseParen) (spec ⨟ end_of_line closes_parens) ⨟ word
+    kinds.CloseParen)
 
 -- another item follows
 abbrev pub goes_on : List Token → Bool

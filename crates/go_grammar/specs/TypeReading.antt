@@ -1,5 +1,6 @@
 -- Reading types.
-use Rattle.std.specs.Prelude.{ℕ, suc, zero, length, List, [], ◌∷◌, Option, Some, None, Bool, true, false, ◌&&◌, ◌||◌, not, if◌then◌else◌}
+use Rattle.std.specs.Prelude.{ℕ, suc, zero, length, List, [], ◌∷◌, Option, Some, None, Bool, true, false, ◌&&◌, ◌||◌}
+use Rattle.std.specs.Prelude.{not, if◌then◌else◌}
 use Rattle.go_ast.specs.declared.token.Kind.{Kind}
 use Rattle.go_ast.specs.declared.token.Kind.TheVariants as kinds
 use Rattle.go_ast.specs.declared.token.Token.{Token}
@@ -8,7 +9,8 @@ use Rattle.go_grammar.specs.Forests.{Forest, empty, leaf, node, append}
 use Rattle.go_grammar.specs.Grammar as sorts
 use Rattle.go_grammar.specs.Grammar.{Sort, is_arrow, is_dot, begins_type, closes_braces}
 use Rattle.go_grammar.specs.Reading.{Reader, Plan, Part, Node, Either, Many, is_next, ◌>>=◌, run}
-use Rattle.go_grammar.specs.Tests.{begins, begins_both, begins_semicolon, begins_type_at, ◌⨟◌, word, not_before, maybe_word, semicolon, end_of_line, not_closed, not_empty, names, word_in}
+use Rattle.go_grammar.specs.Tests.{begins, begins_both, begins_semicolon, begins_type_at, ◌⨟◌, word, not_before}
+use Rattle.go_grammar.specs.Tests.{maybe_word, semicolon, end_of_line, not_closed, not_empty, names, word_in}
 
 -- where an expression stands: in a header, where a type may stand too, or elsewhere
 pub data Place : Type 0 where
@@ -25,7 +27,9 @@ pub record Parsers : Type 0 where
 -- ---- plans
 
 abbrev pub type_name_plan : Plan Sort
-type_name_plan = Node forms.TypeNameForm (word kinds.Name ⨟ Either (begins kinds.Dot) (word kinds.Dot ⨟ word kinds.Name) (not_before is_dot))
+type_name_plan =
+    Node forms.TypeNameForm
+    (word kinds.Name ⨟ Either (begins kinds.Dot) (word kinds.Dot ⨟ word kinds.Name) (not_before is_dot))
 
 abbrev pub pointer_plan : Plan Sort
 pointer_plan = Node forms.PointerForm (word kinds.Star ⨟ Part sorts.AnyType)
@@ -33,7 +37,9 @@ pointer_plan = Node forms.PointerForm (word kinds.Star ⨟ Part sorts.AnyType)
 abbrev pub chan_plan : Plan Sort
 chan_plan =
     Either (begins kinds.ChanWord)
-    (Node forms.ChanForm (word kinds.ChanWord ⨟ Either (begins kinds.Arrow) (word kinds.Arrow) (not_before is_arrow) ⨟ Part sorts.AnyType))
+    (Node forms.ChanForm
+    (word kinds.ChanWord ⨟ Either (begins kinds.Arrow) (word kinds.Arrow) (not_before is_arrow) ⨟ Part
+    sorts.AnyType))
     (Node forms.ReceiveChanForm (word kinds.Arrow ⨟ word kinds.ChanWord ⨟ Part sorts.AnyType))
 
 abbrev pub function_plan : Plan Sort
@@ -41,11 +47,13 @@ function_plan = Node forms.FunctionForm (word kinds.FuncWord ⨟ Part sorts.Sign
 
 -- whether `T` or `*T` stands here in place of fields with names
 abbrev pub embedded_behind : List Token → Bool
-embedded_behind tokens = begins kinds.Dot tokens || begins kinds.Text tokens || begins_semicolon tokens || begins kinds.CloseBrace tokens
+embedded_behind tokens =
+    begins kinds.Dot tokens || begins kinds.Text tokens || begins_semicolon tokens || begins kinds.CloseBrace tokens
 
 abbrev pub begins_embedded : List Token → Bool
 begins_embedded [] = false
-begins_embedded (token ∷ tokens) = begins kinds.Star (token ∷ tokens) || (begins kinds.Name (token ∷ tokens) && embedded_behind tokens)
+begins_embedded (token ∷ tokens) =
+    begins kinds.Star (token ∷ tokens) || (begins kinds.Name (token ∷ tokens) && embedded_behind tokens)
 
 abbrev pub begins_named : List Token → Bool
 begins_named tokens = not (begins_embedded tokens)
@@ -63,16 +71,22 @@ element_plan =
     (Node forms.EmbeddedElementForm (Part sorts.TypeName))
 
 abbrev pub lines_plan : Plan Sort → Plan Sort
-lines_plan item = word kinds.OpenBrace ⨟ Many (not_closed kinds.CloseBrace) (Either not_empty (item ⨟ end_of_line closes_braces) semicolon) ⨟ word kinds.CloseBrace
+lines_plan item =
+    word kinds.OpenBrace ⨟ Many (not_closed kinds.CloseBrace)
+    (Either not_empty (item ⨟ end_of_line closes_braces) semicolon) ⨟ word kinds.CloseBrace
 
 abbrev pub bare_plan : Plan Sort
 bare_plan =
     Either (begins_both kinds.OpenBracket kinds.CloseBracket)
     (Node forms.SliceForm (word kinds.OpenBracket ⨟ word kinds.CloseBracket ⨟ Part sorts.AnyType))
     (Either (begins kinds.OpenBracket)
-    (Node forms.ArrayForm (word kinds.OpenBracket ⨟ Part (sorts.Binary sorts.Disjunction sorts.Plain) ⨟ word kinds.CloseBracket ⨟ Part sorts.AnyType))
+    (Node forms.ArrayForm
+    (word kinds.OpenBracket ⨟ Part (sorts.Binary sorts.Disjunction sorts.Plain) ⨟ word kinds.CloseBracket ⨟ Part
+    sorts.AnyType))
     (Either (begins kinds.MapWord)
-    (Node forms.MapForm (word kinds.MapWord ⨟ word kinds.OpenBracket ⨟ Part sorts.AnyType ⨟ word kinds.CloseBracket ⨟ Part sorts.AnyType))
+    (Node forms.MapForm
+    (word kinds.MapWord ⨟ word kinds.OpenBracket ⨟ Part sorts.AnyType ⨟ word kinds.CloseBracket ⨟ Part
+    sorts.AnyType))
     (Either (begins kinds.StructWord)
     (Node forms.StructForm (word kinds.StructWord ⨟ lines_plan field_plan))
     (Node forms.InterfaceForm (word kinds.InterfaceWord ⨟ lines_plan element_plan)))))
@@ -117,16 +131,19 @@ token_if (Some token) = leaf token empty
 -- a token of this kind, or nothing
 abbrev pub optional_in : Kind → List Token → Option Token × List Token
 optional_in kind [] = (None, [])
-optional_in kind (token ∷ tokens) = if begins kind (token ∷ tokens) then (Some token, tokens) else (None, token ∷ tokens)
+optional_in kind (token ∷ tokens) =
+    if begins kind (token ∷ tokens) then (Some token, tokens) else (None, token ∷ tokens)
 
 -- whether a name stands here before its type
 abbrev pub begins_named_param : List Token → Bool
 begins_named_param [] = false
-begins_named_param (token ∷ tokens) = begins kinds.Name (token ∷ tokens) && (begins_type_at tokens || begins kinds.Ellipsis tokens)
+begins_named_param (token ∷ tokens) =
+    begins kinds.Name (token ∷ tokens) && (begins_type_at tokens || begins kinds.Ellipsis tokens)
 
 abbrev pub param_name_in : List Token → Option Token × List Token
 param_name_in [] = (None, [])
-param_name_in (token ∷ tokens) = if begins_named_param (token ∷ tokens) then (Some token, tokens) else (None, token ∷ tokens)
+param_name_in (token ∷ tokens) =
+    if begins_named_param (token ∷ tokens) then (Some token, tokens) else (None, token ∷ tokens)
 
 -- the comma behind an item, which may be left out before the end
 abbrev pub separator_in : Kind → List Token → Option (Option Token × List Token)
@@ -164,13 +181,16 @@ are_dots_fine variadic (Some token) [] = variadic
 are_dots_fine variadic (Some token) (entry ∷ entries) = false
 
 abbrev pub param_of : Forest → Entry → Forest
-param_of name entry = append (node forms.ParamForm (append name (append (token_if entry.ellipsis) entry.form)) empty) (token_if entry.comma)
+param_of name entry =
+    append (node forms.ParamForm (append name (append (token_if entry.ellipsis) entry.form)) empty)
+    (token_if entry.comma)
 
 -- parameters without names
 abbrev pub types_of : Bool → List Entry → Option Forest
 types_of variadic [] = Some empty
 types_of variadic (entry ∷ entries) =
-    if are_dots_fine variadic entry.ellipsis entries then (types_of variadic entries >>= λ more. Some (append (param_of empty entry) more)) else None
+    if are_dots_fine variadic entry.ellipsis entries
+    then (types_of variadic entries >>= λ more. Some (append (param_of empty entry) more)) else None
 
 -- the name that was read as a type, with the comma behind it
 abbrev pub name_of_type : Option Token → Forest → Option Token → Option Forest
@@ -184,7 +204,8 @@ is_none _ = false
 -- parameters with names: those read as types are names of the next parameter
 abbrev pub groups_of : Bool → Forest → List Entry → Option Forest
 groups_of variadic names [] = if is_none names then Some empty else None
-groups_of variadic names (entry ∷ entries) = group_by entry.name (groups_of variadic empty entries) (λ more. groups_of variadic more entries)
+groups_of variadic names (entry ∷ entries) =
+    group_by entry.name (groups_of variadic empty entries) (λ more. groups_of variadic more entries)
   where
     group_by : Option Token → Option Forest → (Forest → Option Forest) → Option Forest
     group_by None closed go = name_of_type entry.ellipsis entry.form entry.comma >>= λ name. go (append names name)

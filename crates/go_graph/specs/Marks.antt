@@ -1,5 +1,6 @@
 -- Marks on nodes, and on components.
-use Rattle.std.specs.Prelude.{◌≡◌, ◌<◌, ℕ, Bool, true, false, ◌||◌, ◌&&◌, not, List, [], ◌∷◌, length, nat_eq, slice_index, slice_index_or, slice_set, if◌then◌else◌}
+use Rattle.std.specs.Prelude.{◌≡◌, ◌<◌, ℕ, Bool, true, false, ◌||◌, ◌&&◌, not, List, [], ◌∷◌, length, nat_eq}
+use Rattle.std.specs.Prelude.{slice_index, slice_index_or, slice_set, if◌then◌else◌}
 use Rattle.go_graph.specs.Graph.{Reaches, next}
 
 -- whether there is a mark at a number
@@ -42,4 +43,5 @@ pub record AreReaching (rows : List (List ℕ)) (of order : List ℕ) (marks fla
 -- whether one of the nodes is in another component, which has a mark
 abbrev pub leaves : List ℕ → List Bool → ℕ → List ℕ → Bool
 leaves of flags g [] = false
-leaves of flags g (x ∷ xs) = (not (nat_eq (slice_index of x) g) && marked flags (slice_index of x)) || leaves of flags g xs
+leaves of flags g (x ∷ xs) =
+    (not (nat_eq (slice_index of x) g) && marked flags (slice_index of x)) || leaves of flags g xs

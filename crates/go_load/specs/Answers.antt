@@ -72,14 +72,16 @@ IsAnswer files target limit (Err OutOfMemory) = Unit {0}
 
 -- an answer of the code for a project whose module breaks no rule
 abbrev pub IsAnswerIn : Project → Result Sources LoadError → Type 0
-IsAnswerIn project (Ok sources) = (packages : List Package) × IsResult project (Ok packages) × IsSourcesOf project packages sources
+IsAnswerIn project (Ok sources) =
+    (packages : List Package) × IsResult project (Ok packages) × IsSourcesOf project packages sources
 IsAnswerIn project (Err (Refused place rule)) = IsResult project (Err (broken place rule))
 IsAnswerIn project (Err ReadFault) = Unit {0}
 IsAnswerIn project (Err OutOfMemory) = Unit {0}
 
 -- the program of one file, which lies in no module, whatever its name
 abbrev pub lone_project : List ℕ → List ℕ → Project
-lone_project name bytes = record { files = (name, bytes) ∷ []; root = None; target = targets.File name; limit = max_program_bytes }
+lone_project name bytes =
+    record { files = (name, bytes) ∷ []; root = None; target = targets.File name; limit = max_program_bytes }
 
 -- ---- of files alone, and of those that are not told
 

@@ -1,5 +1,6 @@
 -- How the packages that were found grow.
-use Rattle.std.specs.Prelude.{◌≡◌, ℕ, Bool, not, List, [], ◌∷◌, ◌++◌, Option, Some, None, Result, string_bytes, bytes_eq}
+use Rattle.std.specs.Prelude.{◌≡◌, ℕ, Bool, not, List, [], ◌∷◌, ◌++◌, Option, Some, None, Result, string_bytes}
+use Rattle.std.specs.Prelude.{bytes_eq}
 use Rattle.std.specs.List.{list_any}
 use Rattle.std.specs.Option.{option_and_then}
 use Rattle.go_base.specs.Devices.{Tree}
@@ -42,7 +43,8 @@ JoinsBuiltIn built_in old new path number =
 abbrev pub RuntimeFound : Found → Found → Bool → Type 0
 RuntimeFound old new added =
     (project : Project) → AreRight project old
-    → (added ≡ not (list_any (bytes_eq runtime_path) old.paths)) × (new.paths ≡ with_text runtime_path old.paths) × AreRight project new
+    → (added ≡ not (list_any (bytes_eq runtime_path) old.paths)) × (new.paths ≡ with_text runtime_path old.paths)
+    × AreRight project new
 
 -- the directory that an import path names, where the target belongs to a module
 abbrev pub dir_in : Option modules.Module → List ℕ → Option (List ℕ)
@@ -51,5 +53,6 @@ dir_in root path = option_and_then (λ root. import_dir (view_module root) path)
 -- the answer for an import path that names a directory
 abbrev pub FindsDirectory : Tree → Found → Found → List ℕ → List ℕ → Result (Option ℕ) LoadError → Type 0
 FindsDirectory files old new path dir result =
-    (project : Project) → project.files ≡ files → AreRight project old → built_in_named path ≡ None → dir_named project path ≡ Some dir
+    (project : Project) → project.files ≡ files → AreRight project old → built_in_named path ≡ None
+    → dir_named project path ≡ Some dir
     → PackageFound project old new path result

@@ -1,5 +1,6 @@
 -- What the reading of a package's files answers.
-use Rattle.std.specs.Prelude.{◌≡◌, ℕ, List, [], ◌∷◌, map, Option, Some, None, Result, Ok, Err, Vec, String, string_bytes}
+use Rattle.std.specs.Prelude.{◌≡◌, ℕ, List, [], ◌∷◌, map, Option, Some, None, Result, Ok, Err, Vec, String}
+use Rattle.std.specs.Prelude.{string_bytes}
 use Rattle.std.specs.List.{All}
 use Rattle.std.specs.declared.alloc.Global.{Global}
 use Rattle.go_base.specs.Devices.{Tree, file_at}
@@ -35,9 +36,11 @@ ReadsText path bytes room result = Says view_file (Reads room (text_of path byte
 abbrev pub ReadsPath : Tree → List ℕ → ℕ → Result (Option SourceFile) LoadError → Type 0
 ReadsPath files path room (Ok None) = file_at files path ≡ None
 ReadsPath files path room (Ok (Some source)) =
-    (file_at files path ≡ Some source.bytes) × (source.path ≡ path) × Reads room (text_of path source.bytes) (Ok (view_file source))
+    (file_at files path ≡ Some source.bytes) × (source.path ≡ path)
+    × Reads room (text_of path source.bytes) (Ok (view_file source))
 ReadsPath files path room (Err (Refused place rule)) =
-    (bytes : List ℕ) × (file_at files path ≡ Some bytes) × Reads room (text_of path bytes) (Err (record { place = place; rule = rule }))
+    (bytes : List ℕ) × (file_at files path ≡ Some bytes)
+    × Reads room (text_of path bytes) (Err (record { place = place; rule = rule }))
 ReadsPath files path room (Err ReadFault) = Unit {0}
 ReadsPath files path room (Err OutOfMemory) = Unit {0}
 
@@ -47,7 +50,8 @@ ReadsPaths files paths room result = Says view_files (ReadsAll room (texts_at fi
 
 -- the answer for the file of a built-in package
 abbrev pub ReadsBuiltIn : BuiltIn → Result (Vec SourceFile Global) LoadError → Type 0
-ReadsBuiltIn built_in result = Says view_files (ReadsAll max_file_bytes (text_of (built_in_path built_in) (built_in_text built_in) ∷ [])) result
+ReadsBuiltIn built_in result =
+    Says view_files (ReadsAll max_file_bytes (text_of (built_in_path built_in) (built_in_text built_in) ∷ [])) result
 
 -- files are those of the package with this number
 abbrev pub AreOf : ℕ → List SourceFile → Type 0

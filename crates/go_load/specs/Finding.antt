@@ -1,5 +1,6 @@
 -- What the finding of packages answers.
-use Rattle.std.specs.Prelude.{◌≡◌, ℕ, zero, true, false, List, [], ◌∷◌, map, Option, Some, None, option_map, unwrap_or, IfSome, Result, Ok, Err, Vec, String, string_bytes, slice_get, suc}
+use Rattle.std.specs.Prelude.{◌≡◌, ℕ, zero, true, false, List, [], ◌∷◌, map, Option, Some, None, option_map, unwrap_or}
+use Rattle.std.specs.Prelude.{IfSome, Result, Ok, Err, Vec, String, string_bytes, slice_get, suc}
 use Rattle.std.specs.List.{fold}
 use Rattle.std.specs.declared.alloc.Global.{Global}
 use Rattle.go_ast.specs.declared.token.Token.{Token}
@@ -20,7 +21,8 @@ use Rattle.go_load.specs.declared.found.Origin.TheVariants as code
 use Rattle.go_load.specs.Imports.{Import, import_path, written_path}
 use Rattle.go_load.specs.Modules.{Broken, view_module}
 use Rattle.go_load.specs.Programs.{File, broken_at, imports_in, imports_of_files, unfound_of, unfound, with_import}
-use Rattle.go_load.specs.Projects.{Project, Origin, BuiltInFile, Paths, IsOriginAt, target_path, is_found, is_import_found}
+use Rattle.go_load.specs.Projects.{Project, Origin, BuiltInFile, Paths, IsOriginAt, target_path, is_found}
+use Rattle.go_load.specs.Projects.{is_import_found}
 
 abbrev pub view_file : SourceFile → File
 view_file file = record { path = file.path; bytes = file.bytes; tree = file.tree }
@@ -47,7 +49,8 @@ pub record AreRight (project : Project) (found : Found) : Type 0 where
   pub entries : (index : ℕ) → IfSome (slice_get found.entries.items index) (IsRightAt project index)
 
 -- the target alone is found
-pub record BeginsWith (root : Option modules.Module) (path : List ℕ) (files : Vec (String Global) Global) (found : Found) : Type 0 where
+pub record BeginsWith (root : Option modules.Module) (path : List ℕ) (files : Vec (String Global) Global)
+    (found : Found) : Type 0 where
   pub same : found.root ≡ root
   pub paths : found.paths ≡ path ∷ []
   pub entry : Entry
@@ -65,7 +68,8 @@ pub record Joins (project : Project) (old new : Found) (path : List ℕ) (number
 -- the answer for an import path
 abbrev pub PackageFound : Project → Found → Found → List ℕ → Result (Option ℕ) LoadError → Type 0
 PackageFound project old new path (Ok None) = is_found project path ≡ false
-PackageFound project old new path (Ok (Some number)) = (is_found project path ≡ true) × Joins project old new path number
+PackageFound project old new path (Ok (Some number)) =
+    (is_found project path ≡ true) × Joins project old new path number
 PackageFound project old new path (Err (Refused place rule)) = ⊥
 PackageFound project old new path (Err ReadFault) = Unit {0}
 PackageFound project old new path (Err OutOfMemory) = Unit {0}
@@ -94,7 +98,8 @@ FindsImport files old new source literal result =
 
 -- imports with the numbers of their packages among these paths
 abbrev pub numbered : List (List ℕ) → List Import → List numbers.Import
-numbered paths imports = map (λ import. record { literal = import.literal; «package» = place_of (import_path import) paths }) imports
+numbered paths imports =
+    map (λ import. record { literal = import.literal; «package» = place_of (import_path import) paths }) imports
 
 -- the answer for the imports of a file
 abbrev pub ImportsFound : Project → Found → Found → File → Result (Vec numbers.Import Global) LoadError → Type 0
@@ -110,7 +115,8 @@ ImportsFound project old new file (Err OutOfMemory) = Unit {0}
 
 abbrev pub FindsImports : Tree → Found → Found → SourceFile → Result (Vec numbers.Import Global) LoadError → Type 0
 FindsImports files old new source result =
-    (project : Project) → project.files ≡ files → AreRight project old → ImportsFound project old new (view_file source) result
+    (project : Project) → project.files ≡ files → AreRight project old
+    → ImportsFound project old new (view_file source) result
 
 -- the imports of files, one list for each
 abbrev pub listed : List (Vec numbers.Import Global) → List (List numbers.Import)
@@ -120,16 +126,20 @@ abbrev pub numbered_files : List (List ℕ) → List File → List (List numbers
 numbered_files paths files = map (λ file. numbered paths (imports_in file)) files
 
 -- the answer for the imports of files
-abbrev pub AllFound : Project → Found → Found → List File → Result (Vec (Vec numbers.Import Global) Global) LoadError → Type 0
+abbrev pub AllFound : Project → Found → Found → List File → Result (Vec (Vec numbers.Import Global) Global) LoadError
+    → Type 0
 AllFound project old new files (Ok all) =
     (unfound project files ≡ None)
     × (listed all.items ≡ numbered_files new.paths files)
     × (new.paths ≡ fold with_import old.paths (imports_of_files files))
     × AreRight project new
-AllFound project old new files (Err (Refused place rule)) = unfound project files ≡ Some (record { place = place; rule = rule })
+AllFound project old new files (Err (Refused place rule)) =
+    unfound project files ≡ Some (record { place = place; rule = rule })
 AllFound project old new files (Err ReadFault) = Unit {0}
 AllFound project old new files (Err OutOfMemory) = Unit {0}
 
-abbrev pub FindsAll : Tree → Found → Found → List SourceFile → Result (Vec (Vec numbers.Import Global) Global) LoadError → Type 0
+abbrev pub FindsAll : Tree → Found → Found → List SourceFile → Result (Vec (Vec numbers.Import Global) Global) LoadError
+    → Type 0
 FindsAll files old new sources result =
-    (project : Project) → project.files ≡ files → AreRight project old → AllFound project old new (map view_file sources) result
+    (project : Project) → project.files ≡ files → AreRight project old
+    → AllFound project old new (map view_file sources) result

@@ -1,5 +1,7 @@
 -- What a go.mod says.
-use Rattle.std.specs.Prelude.{ℕ, ◌+◌, ◌-◌, ◌==◌, ◌||◌, ◌&&◌, nat_le, nat_lt, Bool, true, false, not, if◌then◌else◌, List, [], ◌∷◌, length, slice_range, Option, Some, None, is_some, unwrap_or, Result, Ok, Err, codes, bytes_eq, nat_eq}
+use Rattle.std.specs.Prelude.{ℕ, ◌+◌, ◌-◌, ◌==◌, ◌||◌, ◌&&◌, nat_le, nat_lt, Bool, true, false, not, if◌then◌else◌}
+use Rattle.std.specs.Prelude.{List, [], ◌∷◌, length, slice_range, Option, Some, None, is_some, unwrap_or, Result, Ok}
+use Rattle.std.specs.Prelude.{Err, codes, bytes_eq, nat_eq}
 use Rattle.std.specs.List.{list_any, prefix_len, starts_with, ends_with, slice_split}
 use Rattle.std.specs.Option.{option_and_then}
 use Rattle.std.specs.Str.{is_utf8}
@@ -42,7 +44,8 @@ go_line at rest (Some word) = version_line (at + prefix_len is_space rest) (mino
 
 abbrev pub is_passed_over : List ℕ → Bool
 is_passed_over verb =
-    list_any (bytes_eq verb) (codes "require" ∷ codes "replace" ∷ codes "exclude" ∷ codes "retract" ∷ codes "toolchain" ∷ [])
+    list_any (bytes_eq verb) (codes "require" ∷ codes "replace" ∷ codes "exclude" ∷ codes "retract" ∷ codes "toolchain"
+    ∷ [])
 
 -- a line that begins at `at`
 abbrev pub line_of : ℕ → List ℕ → Form
@@ -70,7 +73,8 @@ unquoted word =
 abbrev pub is_reserved : List ℕ → Bool
 is_reserved path =
     length path == 0
-    || list_any (bytes_eq path) (codes "main" ∷ codes "command-line-arguments" ∷ codes "os" ∷ codes "errors" ∷ codes "runtime" ∷ codes "sync" ∷ [])
+    || list_any (bytes_eq path) (codes "main" ∷ codes "command-line-arguments" ∷ codes "os" ∷ codes "errors"
+    ∷ codes "runtime" ∷ codes "sync" ∷ [])
 
 -- what is no path of a module
 abbrev pub is_taken : List ℕ → Bool

@@ -1,5 +1,6 @@
 -- What the imports of a file name. Go specification, "Import declarations".
-use Rattle.std.specs.Prelude.{ℕ, Bool, true, false, not, ◌&&◌, ◌||◌, ◌==◌, if◌then◌else◌, List, [], length, drop, map, Option, Some, None, is_none, unwrap_or, codes, bytes_eq, nat_eq}
+use Rattle.std.specs.Prelude.{ℕ, Bool, true, false, not, ◌&&◌, ◌||◌, ◌==◌, if◌then◌else◌, List, [], length, drop, map}
+use Rattle.std.specs.Prelude.{Option, Some, None, is_none, unwrap_or, codes, bytes_eq, nat_eq}
 use Rattle.std.specs.List.{flat_map, list_all, slice_split, starts_with}
 use Rattle.std.specs.Option.{option_and_then}
 use Rattle.go_ast.specs.declared.token.Kind.{Kind}
@@ -79,4 +80,5 @@ import_dir root path =
 
 -- the import path of a directory at or below that of the module
 abbrev pub dir_path : Module → List ℕ → List ℕ
-dir_path root dir = if bytes_eq dir root.dir then root.path else with_slash root.path (unwrap_or (rest_below root.dir dir) dir)
+dir_path root dir =
+    if bytes_eq dir root.dir then root.path else with_slash root.path (unwrap_or (rest_below root.dir dir) dir)

@@ -1,5 +1,7 @@
 -- What the loading of packages answers.
-use Rattle.std.specs.Prelude.{◌≡◌, ◌⊎◌, ℕ, ◌+◌, ◌-◌, min, Bool, true, false, if◌then◌else◌, List, [], ◌∷◌, ◌++◌, length, map, Option, Some, None, IfSome, unwrap_or, Result, Ok, Err, Vec, slice_get, bytes_eq, ◌&&◌, ◌==◌, codes, string_bytes}
+use Rattle.std.specs.Prelude.{◌≡◌, ◌⊎◌, ℕ, ◌+◌, ◌-◌, min, Bool, true, false, if◌then◌else◌, List, [], ◌∷◌, ◌++◌}
+use Rattle.std.specs.Prelude.{length, map, Option, Some, None, IfSome, unwrap_or, Result, Ok, Err, Vec, slice_get}
+use Rattle.std.specs.Prelude.{bytes_eq, ◌&&◌, ◌==◌, codes, string_bytes}
 use Rattle.std.specs.List.{AllByRecursion, AllZip, flat_map, fold, list_any, sum_by}
 use Rattle.std.specs.declared.alloc.Global.{Global}
 use Rattle.go_base.specs.Devices.{Tree}
@@ -21,7 +23,10 @@ use Rattle.go_load.specs.FileReading.{Says, view_files}
 use Rattle.go_load.specs.Finding.{view_file, view_origin, AreRight, listed, numbered_files}
 use Rattle.go_load.specs.Imports.{Import, import_path}
 use Rattle.go_load.specs.Modules.{Broken, Module}
-use Rattle.go_load.specs.Programs.{File, Package, Link, IsPackage, BreaksPackage, IsFront, ReadsAll, name_fault, path_asked, first_of_program, links, AreImportsSound, IsNext, IsOnCycleFirst, unfound, import_files, imports_of_files, imports_of_package, with_import, known, links_from, room_for, are_program}
+use Rattle.go_load.specs.Programs.{File, Package, Link, IsPackage, BreaksPackage, IsFront, ReadsAll, name_fault}
+use Rattle.go_load.specs.Programs.{path_asked, first_of_program, links, AreImportsSound, IsNext, IsOnCycleFirst}
+use Rattle.go_load.specs.Programs.{unfound, import_files, imports_of_files, imports_of_package, with_import, known}
+use Rattle.go_load.specs.Programs.{links_from, room_for, are_program}
 use Rattle.go_load.specs.Projects.{Project, Origin, texts_of, is_built_in}
 use Rattle.go_load.specs.Reading.{max_file_bytes}
 
@@ -40,12 +45,14 @@ abbrev pub label_of : ℕ → Package → List ℕ
 label_of number one = if (number == 0) && are_program one.files then codes "main" else one.path
 
 abbrev pub header : ℕ → ℕ → Package → SourcePackage
-header number first one = record { path = one.path; label = label_of number one; built_in = one.built_in; first_file = first }
+header number first one =
+    record { path = one.path; label = label_of number one; built_in = one.built_in; first_file = first }
 
 -- packages as they are told, of which the first has this number, and its first file that one
 abbrev pub headers_from : ℕ → ℕ → List Package → List SourcePackage
 headers_from number first [] = []
-headers_from number first (one ∷ packages) = header number first one ∷ headers_from (number + 1) (first + length one.files) packages
+headers_from number first (one ∷ packages) =
+    header number first one ∷ headers_from (number + 1) (first + length one.files) packages
 
 -- for each file of a package its imports; those of a built-in package have none
 abbrev pub imports_of_each : List (List ℕ) → Package → List (List numbers.Import)
@@ -121,7 +128,8 @@ LoadsFiles files number loader result =
 abbrev pub ChecksFiles : ℕ → Loader → List SourceFile → Result (Unit {0}) LoadError → Type 0
 ChecksFiles number loader sources result =
     (project : Project) (room : ℕ) → AreRight project loader.found → loader.target ≡ path_asked project.target
-    → IfEntry loader.found number (λ entry. ReadsAll room (texts_of project.files (view_origin entry.origin)) (Ok (map view_file sources)))
+    → IfEntry loader.found number
+    (λ entry. ReadsAll room (texts_of project.files (view_origin entry.origin)) (Ok (map view_file sources)))
     → Checks (name_fault project.target (map view_file sources)) result
 
 -- for each file its imports, where a built-in package has none
@@ -129,7 +137,8 @@ abbrev pub imports_of_all : List (List ℕ) → Bool → List File → List (Lis
 imports_of_all paths built_in files = if built_in then map (λ file. []) files else numbered_files paths files
 
 -- the answer for the imports of a package's files
-abbrev pub PackageImportsFound : Project → Found → Found → Bool → List File → Result (Vec (Vec numbers.Import Global) Global) LoadError → Type 0
+abbrev pub PackageImportsFound : Project → Found → Found → Bool → List File
+    → Result (Vec (Vec numbers.Import Global) Global) LoadError → Type 0
 PackageImportsFound project old new built_in files (Ok all) =
     (unfound project (import_files built_in files) ≡ None)
     × (listed all.items ≡ imports_of_all new.paths built_in files)
@@ -140,15 +149,21 @@ PackageImportsFound project old new built_in files (Err (Refused place rule)) =
 PackageImportsFound project old new built_in files (Err ReadFault) = Unit {0}
 PackageImportsFound project old new built_in files (Err OutOfMemory) = Unit {0}
 
-abbrev pub FindsImportsOf : Tree → ℕ → Found → Found → List SourceFile → Result (Vec (Vec numbers.Import Global) Global) LoadError → Type 0
+abbrev pub FindsImportsOf : Tree → ℕ → Found → Found → List SourceFile
+    → Result (Vec (Vec numbers.Import Global) Global) LoadError → Type 0
 FindsImportsOf files number old new sources result =
     (project : Project) → project.files ≡ files → AreRight project old
-    → IfEntry old number (λ entry. PackageImportsFound project old new (is_built_in (view_origin entry.origin)) (map view_file sources) result)
+    → IfEntry old number
+    (λ entry. PackageImportsFound project old new (is_built_in (view_origin entry.origin)) (map view_file sources)
+    result)
 
 -- the imports of a file as the loader keeps them
 abbrev pub kept_in_file : ℕ → ℕ → List numbers.Import → List code.Link
 kept_in_file number file imports =
-    map (λ (import : numbers.Import). record { edge = record { from = number; to = import.package }; at = record { file = file; offset = import.literal.start } }) imports
+    map (λ (import : numbers.Import). record {
+      edge = record { from = number; to = import.package };
+      at = record { file = file; offset = import.literal.start };
+    }) imports
 
 -- the imports of files as the loader keeps them; the first file has the number `first`
 abbrev pub kept_links : ℕ → ℕ → List (List numbers.Import) → List code.Link
@@ -158,10 +173,17 @@ kept_links number first (imports ∷ more) = kept_in_file number first imports +
 -- a package as it is told
 abbrev pub told_package : ℕ → ℕ → Entry → List File → SourcePackage
 told_package number first entry files =
-    record { path = string_bytes entry.path; label = if (number == 0) && are_program files then codes "main" else string_bytes entry.path; built_in = is_built_in (view_origin entry.origin); first_file = first }
+    record {
+      path = string_bytes entry.path;
+      label = if (number == 0) && are_program files then codes "main"
+          else string_bytes entry.path;
+      built_in = is_built_in (view_origin entry.origin);
+      first_file = first;
+    }
 
 -- a package is added, with its files and their imports
-pub record AddsPackage (number : ℕ) (told : SourcePackage) (old new : Loader) (sources : List SourceFile) (imports : List (Vec numbers.Import Global)) : Type 0 where
+pub record AddsPackage (number : ℕ) (told : SourcePackage) (old new : Loader) (sources : List SourceFile)
+    (imports : List (Vec numbers.Import Global)) : Type 0 where
   pub found : new.found ≡ old.found
   pub target : new.target ≡ old.target
   pub files : new.files.items ≡ old.files.items ++ sources
@@ -169,21 +191,26 @@ pub record AddsPackage (number : ℕ) (told : SourcePackage) (old new : Loader) 
   pub links_are : new.links.items ≡ old.links.items ++ kept_links number (length old.files.items) (listed imports)
   pub programs : new.programs.items ≡ old.programs.items ++ are_program (map view_file sources) ∷ []
   pub headers : new.packages.items ≡ old.packages.items ++ told ∷ []
-  pub left : new.left ≡ (if told.built_in then old.left else old.left - sum_by (λ file. length file.bytes) (map view_file sources))
+  pub left :
+      new.left ≡ (if told.built_in then old.left
+      else old.left - sum_by (λ file. length file.bytes) (map view_file sources))
 
 -- the answer for a package: it is sound, and is held behind the others, or it breaks a rule
 abbrev pub PackageLoaded : Project → List Package → Loader → Loader → Result (Unit {0}) LoadError → Type 0
 PackageLoaded project packages old new (Ok x) =
     (one : Package) × (slice_get old.found.paths (length packages) ≡ Some one.path) × IsPackage project packages one
-    × Holds project new (packages ++ one ∷ []) × (new.found.paths ≡ fold with_import old.found.paths (imports_of_package one))
+    × Holds project new (packages ++ one ∷ [])
+    × (new.found.paths ≡ fold with_import old.found.paths (imports_of_package one))
 PackageLoaded project packages old new (Err (Refused place rule)) =
-    (path : List ℕ) × (slice_get old.found.paths (length packages) ≡ Some path) × BreaksPackage project packages path (broken place rule)
+    (path : List ℕ) × (slice_get old.found.paths (length packages) ≡ Some path)
+    × BreaksPackage project packages path (broken place rule)
 PackageLoaded project packages old new (Err ReadFault) = Unit {0}
 PackageLoaded project packages old new (Err OutOfMemory) = Unit {0}
 
 abbrev pub LoadsPackage : Tree → ℕ → Loader → Loader → Result (Unit {0}) LoadError → Type 0
 LoadsPackage files number old new result =
-    (project : Project) (packages : List Package) → project.files ≡ files → Holds project old packages → number ≡ length packages
+    (project : Project) (packages : List Package) → project.files ≡ files → Holds project old packages
+    → number ≡ length packages
     → PackageLoaded project packages old new result
 
 -- the next package breaks a rule
@@ -209,7 +236,8 @@ QueueLoaded project new (Err OutOfMemory) = Unit {0}
 
 abbrev pub LoadsQueue : Tree → Loader → Loader → Result (Unit {0}) LoadError → Type 0
 LoadsQueue files old new result =
-    (project : Project) (packages : List Package) → project.files ≡ files → IsAt project old packages → QueueLoaded project new result
+    (project : Project) (packages : List Package) → project.files ≡ files → IsAt project old packages
+    → QueueLoaded project new result
 
 -- whether the package with a number is a program, by a list for all packages
 abbrev pub is_program_number : List Bool → ℕ → Bool
@@ -244,5 +272,6 @@ ImportsChecked project packages (Err OutOfMemory) = Unit {0}
 
 abbrev pub ChecksImports : Loader → Result (Unit {0}) LoadError → Type 0
 ChecksImports loader result =
-    (project : Project) (packages : List Package) → Holds project loader packages → loader.found.paths ≡ known project packages
+    (project : Project) (packages : List Package) → Holds project loader packages
+    → loader.found.paths ≡ known project packages
     → ImportsChecked project packages result

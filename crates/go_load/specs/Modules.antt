@@ -1,5 +1,6 @@
 -- The module to which a directory belongs.
-use Rattle.std.specs.Prelude.{◌≡◌, ◌⊎◌, ℕ, ◌<◌, min, nat_lt, List, length, Option, Some, None, option_map, Vec, Result, Ok, Err, string_bytes, codes, if◌then◌else◌}
+use Rattle.std.specs.Prelude.{◌≡◌, ◌⊎◌, ℕ, ◌<◌, min, nat_lt, List, length, Option, Some, None, option_map, Vec, Result}
+use Rattle.std.specs.Prelude.{Ok, Err, string_bytes, codes, if◌then◌else◌}
 use Rattle.std.specs.declared.alloc.Global.{Global}
 use Rattle.go_base.specs.Devices.{Tree, file_at}
 use Rattle.go_base.specs.declared.place.Place.{Place}
@@ -39,7 +40,8 @@ module_said dir bytes (Err fault) =
 -- the module of a directory whose go.mod has these bytes
 abbrev pub module_of : List ℕ → List ℕ → Result Module Broken
 module_of dir bytes =
-    if nat_lt 4194304 (length bytes) then Err (record { place = first_place (go_mod_in dir); rule = rules.FileTooLarge })
+    if nat_lt 4194304 (length bytes)
+    then Err (record { place = first_place (go_mod_in dir); rule = rules.FileTooLarge })
     else module_said dir bytes (go_mod bytes)
 
 -- what a directory's own go.mod says, if it has one
@@ -50,7 +52,8 @@ own_module files dir = option_map (module_of dir) (file_at files (go_mod_in dir)
 pub data Governs (files : Tree) : List ℕ → Option (Result Module Broken) → Type 0 where
   Own : (dir : List ℕ) (said : Result Module Broken) → own_module files dir ≡ Some said → Governs files dir (Some said)
   Nowhere : (dir : List ℕ) → own_module files dir ≡ None → LiesIn dir None → Governs files dir None
-  Above : (dir above : List ℕ) (said : Option (Result Module Broken)) → own_module files dir ≡ None → LiesIn dir (Some above) → Governs files above said → Governs files dir said
+  Above : (dir above : List ℕ) (said : Option (Result Module Broken)) → own_module files dir ≡ None
+      → LiesIn dir (Some above) → Governs files above said → Governs files dir said
 
 abbrev pub view_module : code.Module → Module
 view_module root = record { dir = string_bytes root.dir; path = string_bytes root.path; minor = root.minor }
@@ -68,7 +71,8 @@ abbrev pub ReadsWhole : Tree → List ℕ → Result (Option (Vec ℕ Global)) L
 ReadsWhole files path (Ok None) = file_at files path ≡ None
 ReadsWhole files path (Ok (Some bytes)) = file_at files path ≡ Some bytes.items
 ReadsWhole files path (Err (Refused place rule)) =
-    (bytes : List ℕ) × (file_at files path ≡ Some bytes) × (4194304 < length bytes) × (place ≡ first_place path) × (rule ≡ rules.FileTooLarge)
+    (bytes : List ℕ) × (file_at files path ≡ Some bytes) × (4194304 < length bytes) × (place ≡ first_place path)
+    × (rule ≡ rules.FileTooLarge)
 ReadsWhole files path (Err ReadFault) = Unit {0}
 ReadsWhole files path (Err OutOfMemory) = Unit {0}
 

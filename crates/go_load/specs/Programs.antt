@@ -1,5 +1,6 @@
 -- Programs: packages in the order in which they are found, or the first rule that they break.
-use Rattle.std.specs.Prelude.{◌≡◌, ℕ, zero, suc, ◌+◌, ◌-◌, ◌<◌, ◌≤◌, min, Bool, true, false, if◌then◌else◌, List, [], ◌∷◌, ◌++◌, length, map, Option, Some, None, Result, Ok, Err, slice_get, codes, bytes_eq}
+use Rattle.std.specs.Prelude.{◌≡◌, ℕ, zero, suc, ◌+◌, ◌-◌, ◌<◌, ◌≤◌, min, Bool, true, false, if◌then◌else◌, List, []}
+use Rattle.std.specs.Prelude.{◌∷◌, ◌++◌, length, map, Option, Some, None, Result, Ok, Err, slice_get, codes, bytes_eq}
 use Rattle.std.specs.List.{flat_map, find, fold, list_any, sum_by}
 use Rattle.go_ast.specs.declared.token.Token.{Token}
 use Rattle.go_base.specs.NameTable.{place_of, with_text}
@@ -17,7 +18,8 @@ use Rattle.go_sources.specs.Reading.{HasTree}
 use Rattle.go_load.specs.Imports.{Import, imports_of, import_path}
 use Rattle.go_load.specs.Modules.{Broken}
 use Rattle.go_load.specs.Places.{first_place}
-use Rattle.go_load.specs.Projects.{FileText, Project, Origin, texts_of, is_built_in, IsOriginAt, target_path, is_import_found}
+use Rattle.go_load.specs.Projects.{FileText, Project, Origin, texts_of, is_built_in, IsOriginAt, target_path}
+use Rattle.go_load.specs.Projects.{is_import_found}
 use Rattle.go_load.specs.Reading.{max_file_bytes, BreaksText}
 
 -- a file of a program, with its tree
@@ -33,16 +35,21 @@ pub record Package : Type 0 where
 
 -- that a file breaks a rule at a token
 abbrev pub broken_at : File → Token → Rule → Broken
-broken_at file token rule = record { place = place_in file.path file.bytes (min token.start (length file.bytes)); rule = rule }
+broken_at file token rule =
+    record { place = place_in file.path file.bytes (min token.start (length file.bytes)); rule = rule }
 
 -- ---- the reading of files
 
 -- Of a text and so many bytes that files may still have: the file, or the rule that it breaks first.
 pub data Reads (room : ℕ) (text : FileText) : Result File Broken → Type 0 where
-  TooLarge : max_file_bytes < length text.bytes → Reads room text (Err (record { place = first_place text.path; rule = rules.FileTooLarge }))
-  TooMuch : length text.bytes ≤ max_file_bytes → room < length text.bytes → Reads room text (Err (record { place = first_place text.path; rule = rules.ProgramTooLarge }))
-  Bad : length text.bytes ≤ max_file_bytes → length text.bytes ≤ room → (place : Place) (rule : Rule) → BreaksText text.path text.bytes place rule → Reads room text (Err (record { place = place; rule = rule }))
-  Good : length text.bytes ≤ max_file_bytes → length text.bytes ≤ room → (tree : FileTree) → HasTree text.bytes tree → Reads room text (Ok (record { path = text.path; bytes = text.bytes; tree = tree }))
+  TooLarge : max_file_bytes < length text.bytes
+      → Reads room text (Err (record { place = first_place text.path; rule = rules.FileTooLarge }))
+  TooMuch : length text.bytes ≤ max_file_bytes → room < length text.bytes
+      → Reads room text (Err (record { place = first_place text.path; rule = rules.ProgramTooLarge }))
+  Bad : length text.bytes ≤ max_file_bytes → length text.bytes ≤ room → (place : Place) (rule : Rule)
+      → BreaksText text.path text.bytes place rule → Reads room text (Err (record { place = place; rule = rule }))
+  Good : length text.bytes ≤ max_file_bytes → length text.bytes ≤ room → (tree : FileTree) → HasTree text.bytes tree
+      → Reads room text (Ok (record { path = text.path; bytes = text.bytes; tree = tree }))
 
 abbrev pub with_file : File → Result (List File) Broken → Result (List File) Broken
 with_file file (Ok files) = Ok (file ∷ files)
@@ -51,8 +58,11 @@ with_file file (Err broken) = Err broken
 -- texts one after another, up to the first that breaks a rule
 pub data ReadsAll : ℕ → List FileText → Result (List File) Broken → Type 0 where
   Ends : (room : ℕ) → ReadsAll room [] (Ok [])
-  Stops : (room : ℕ) (text : FileText) (texts : List FileText) (broken : Broken) → Reads room text (Err broken) → ReadsAll room (text ∷ texts) (Err broken)
-  Goes : (room : ℕ) (text : FileText) (texts : List FileText) (file : File) (rest : Result (List File) Broken) → Reads room text (Ok file) → ReadsAll (room - length text.bytes) texts rest → ReadsAll room (text ∷ texts) (with_file file rest)
+  Stops : (room : ℕ) (text : FileText) (texts : List FileText) (broken : Broken) → Reads room text (Err broken)
+      → ReadsAll room (text ∷ texts) (Err broken)
+  Goes : (room : ℕ) (text : FileText) (texts : List FileText) (file : File) (rest : Result (List File) Broken)
+      → Reads room text (Ok file) → ReadsAll (room - length text.bytes) texts rest
+      → ReadsAll room (text ∷ texts) (with_file file rest)
 
 -- ---- what is asked of the files of a package together
 
@@ -68,7 +78,8 @@ name_of file = text_in file.bytes file.tree.name
 abbrev pub other_name : List ℕ → List File → Option Broken
 other_name name [] = None
 other_name name (file ∷ files) =
-    if bytes_eq (name_of file) name then other_name name files else Some (broken_at file file.tree.name rules.SecondPackageName)
+    if bytes_eq (name_of file) name then other_name name files
+    else Some (broken_at file file.tree.name rules.SecondPackageName)
 
 abbrev pub unfound_of : Project → File → List Import → Option Broken
 unfound_of project file [] = None
@@ -99,13 +110,17 @@ import_files built_in files = if built_in then [] else files
 
 -- the first rule that files break as a package: they have one package name, then each import names a package
 abbrev pub package_fault : Project → Bool → List File → Option Broken
-package_fault project built_in files = or_else (name_fault project.target files) (unfound project (import_files built_in files))
+package_fault project built_in files =
+    or_else (name_fault project.target files) (unfound project (import_files built_in files))
 
 -- Of the texts of a package, and the bytes that they may have: its files, or the rule that it breaks first.
-pub data Loads (project : Project) (room : ℕ) (built_in : Bool) (texts : List FileText) : Result (List File) Broken → Type 0 where
+pub data Loads (project : Project) (room : ℕ) (built_in : Bool) (texts : List FileText) : Result (List File) Broken
+    → Type 0 where
   Unread : (broken : Broken) → ReadsAll room texts (Err broken) → Loads project room built_in texts (Err broken)
-  Faulty : (files : List File) (broken : Broken) → ReadsAll room texts (Ok files) → package_fault project built_in files ≡ Some broken → Loads project room built_in texts (Err broken)
-  Sound : (files : List File) → ReadsAll room texts (Ok files) → package_fault project built_in files ≡ None → Loads project room built_in texts (Ok files)
+  Faulty : (files : List File) (broken : Broken) → ReadsAll room texts (Ok files)
+      → package_fault project built_in files ≡ Some broken → Loads project room built_in texts (Err broken)
+  Sound : (files : List File) → ReadsAll room texts (Ok files) → package_fault project built_in files ≡ None
+      → Loads project room built_in texts (Ok files)
 
 -- ---- the order of packages
 
@@ -118,8 +133,8 @@ imports_of_package one = imports_of_files (import_files one.built_in one.files)
 abbrev pub with_import : List (List ℕ) → Import → List (List ℕ)
 with_import paths import = with_text (import_path import) paths
 
--- The paths that are known once these packages are loaded: that of the target, and those of all imports, each where it is
--- met first.
+-- The paths that are known once these packages are loaded: that of the target, and those of all imports, each where it
+-- is met first.
 abbrev pub known : Project → List Package → List (List ℕ)
 known project packages = fold with_import (target_path project ∷ []) (flat_map imports_of_package packages)
 
@@ -132,7 +147,8 @@ abbrev pub room_for : Project → List Package → Bool → ℕ
 room_for project packages built_in = if built_in then max_file_bytes else project.limit - sum_by size packages
 
 -- what the package at this path is, behind others
-pub record LoadsNext (project : Project) (packages : List Package) (path : List ℕ) (built_in : Bool) (result : Result (List File) Broken) : Type 0 where
+pub record LoadsNext (project : Project) (packages : List Package) (path : List ℕ) (built_in : Bool)
+    (result : Result (List File) Broken) : Type 0 where
   pub origin : Origin
   pub origin_is : IsOriginAt project (length packages) path origin
   pub built_in_is : built_in ≡ is_built_in origin
@@ -153,7 +169,8 @@ IsNext project packages path = slice_get (known project packages) (length packag
 -- Packages that are loaded first, in the order in which their paths are met.
 pub data IsFront (project : Project) : List Package → Type 0 where
   Nothing : IsFront project []
-  More : (packages : List Package) (one : Package) → IsFront project packages → IsNext project packages one.path → IsPackage project packages one → IsFront project (packages ++ one ∷ [])
+  More : (packages : List Package) (one : Package) → IsFront project packages → IsNext project packages one.path
+      → IsPackage project packages one → IsFront project (packages ++ one ∷ [])
 
 -- all that imports name is loaded
 abbrev pub IsComplete : Project → List Package → Type 0
@@ -169,7 +186,11 @@ pub record Link : Type 0 where
 
 abbrev pub link_of : List (List ℕ) → ℕ → File → Import → Link
 link_of paths from file import =
-    record { from = from; to = place_of (import_path import) paths; place = (broken_at file import.literal rules.ImportCycle).place }
+    record {
+      from = from;
+      to = place_of (import_path import) paths;
+      place = (broken_at file import.literal rules.ImportCycle).place;
+    }
 
 abbrev pub links_of_file : List (List ℕ) → ℕ → File → List Link
 links_of_file paths from file = map (link_of paths from file) (imports_in file)
@@ -178,7 +199,8 @@ links_of_file paths from file = map (link_of paths from file) (imports_in file)
 abbrev pub links_from : List (List ℕ) → ℕ → List Package → List Link
 links_from paths number [] = []
 links_from paths number (one ∷ packages) =
-    flat_map (links_of_file paths number) (import_files one.built_in one.files) ++ links_from paths (number + 1) packages
+    flat_map (links_of_file paths number) (import_files one.built_in one.files)
+    ++ links_from paths (number + 1) packages
 
 -- all imports, in order
 abbrev pub links : Project → List Package → List Link
@@ -221,12 +243,22 @@ has_runtime project packages = list_any (bytes_eq runtime_path) (known project p
 -- The packages that were found, and with them `runtime`, which is always loaded.
 pub data IsWithRuntime (project : Project) (packages : List Package) : List Package → Type 0 where
   Kept : has_runtime project packages ≡ true → IsWithRuntime project packages packages
-  Added : (one : Package) → has_runtime project packages ≡ false → one.path ≡ runtime_path → IsPackage project packages one → IsWithRuntime project packages (packages ++ one ∷ [])
+  Added : (one : Package) → has_runtime project packages ≡ false → one.path ≡ runtime_path
+      → IsPackage project packages one → IsWithRuntime project packages (packages ++ one ∷ [])
 
 -- What a project is: its packages, or the first rule that it breaks.
 pub data IsResult (project : Project) : Result (List Package) Broken → Type 0 where
-  BadPackage : (packages : List Package) (path : List ℕ) (broken : Broken) → IsFront project packages → IsNext project packages path → BreaksPackage project packages path broken → IsResult project (Err broken)
-  OfProgram : (packages : List Package) (link : Link) → IsFront project packages → IsComplete project packages → first_of_program project packages ≡ Some link → IsResult project (Err (record { place = link.place; rule = rules.ImportOfAProgram }))
-  OnCycle : (packages : List Package) (index : ℕ) (link : Link) → IsFront project packages → IsComplete project packages → first_of_program project packages ≡ None → IsOnCycleFirst project packages (Some index) → slice_get (links project packages) index ≡ Some link → IsResult project (Err (record { place = link.place; rule = rules.ImportCycle }))
-  BadRuntime : (packages : List Package) (broken : Broken) → IsFront project packages → IsComplete project packages → AreImportsSound project packages → has_runtime project packages ≡ false → BreaksPackage project packages runtime_path broken → IsResult project (Err broken)
-  Program : (packages all : List Package) → IsFront project packages → IsComplete project packages → AreImportsSound project packages → IsWithRuntime project packages all → IsResult project (Ok all)
+  BadPackage : (packages : List Package) (path : List ℕ) (broken : Broken) → IsFront project packages
+      → IsNext project packages path → BreaksPackage project packages path broken → IsResult project (Err broken)
+  OfProgram : (packages : List Package) (link : Link) → IsFront project packages → IsComplete project packages
+      → first_of_program project packages ≡ Some link
+      → IsResult project (Err (record { place = link.place; rule = rules.ImportOfAProgram }))
+  OnCycle : (packages : List Package) (index : ℕ) (link : Link) → IsFront project packages → IsComplete project packages
+      → first_of_program project packages ≡ None → IsOnCycleFirst project packages (Some index)
+      → slice_get (links project packages) index ≡ Some link
+      → IsResult project (Err (record { place = link.place; rule = rules.ImportCycle }))
+  BadRuntime : (packages : List Package) (broken : Broken) → IsFront project packages → IsComplete project packages
+      → AreImportsSound project packages → has_runtime project packages ≡ false
+      → BreaksPackage project packages runtime_path broken → IsResult project (Err broken)
+  Program : (packages all : List Package) → IsFront project packages → IsComplete project packages
+      → AreImportsSound project packages → IsWithRuntime project packages all → IsResult project (Ok all)

@@ -1,5 +1,6 @@
 -- What is loaded, and what its packages are read from.
-use Rattle.std.specs.Prelude.{◌≡◌, ℕ, zero, suc, Bool, true, false, ◌||◌, List, [], ◌∷◌, map, filter, Option, Some, None, option_map, IsPermutation, codes, bytes_eq}
+use Rattle.std.specs.Prelude.{◌≡◌, ℕ, zero, suc, Bool, true, false, ◌||◌, List, [], ◌∷◌, map, filter, Option, Some}
+use Rattle.std.specs.Prelude.{None, option_map, IsPermutation, codes, bytes_eq}
 use Rattle.std.specs.Cmp.Lexicographic.{slice_cmp}
 use Rattle.std.specs.List.{list_any, filter_map}
 use Rattle.std.specs.List.Sorted.{IsSorted}
@@ -20,8 +21,8 @@ pub record FileText : Type 0 where
   pub path : List ℕ
   pub bytes : List ℕ
 
--- what is loaded: the files that are told, the module to which the target belongs, the target, and the most bytes that all
--- Go files together may have
+-- what is loaded: the files that are told, the module to which the target belongs, the target, and the most bytes that
+-- all Go files together may have
 pub record Project : Type 0 where
   pub files : Tree
   pub root : Option Module

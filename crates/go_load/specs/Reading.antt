@@ -20,8 +20,8 @@ use Rattle.go_load.specs.Places.{start_in}
 abbrev pub max_file_bytes : ℕ
 max_file_bytes = 4194304
 
--- What the syntax of a file's tokens is: the first token that reaches too far, else its one well-formed tree, or the first
--- part that cannot be read.
+-- What the syntax of a file's tokens is: the first token that reaches too far, else its one well-formed tree, or the
+-- first part that cannot be read.
 abbrev pub IsVerdict : List Token → Result FileTree ParseError → Type 0
 IsVerdict tokens verdict = DecidesReach verdict (reach_index tokens) × IsParsed tokens verdict
 
@@ -29,8 +29,11 @@ IsVerdict tokens verdict = DecidesReach verdict (reach_index tokens) × IsParsed
 -- token that reaches too far, else the first part that cannot be read
 pub data IsBadText (bytes : List ℕ) : ℕ → Rule → Type 0 where
   BadBytes : (offset : ℕ) (rule : Rule) → IsFault bytes offset rule → IsBadText bytes offset rule
-  TooDeep : (tokens : List Token) (index : ℕ) → IsTokenList bytes tokens → IsVerdict tokens (Err (parses.TooDeep index)) → IsBadText bytes (start_in bytes (slice_get tokens index)) rules.NestedTooDeeply
-  BadSyntax : (tokens : List Token) (index : ℕ) → IsTokenList bytes tokens → IsVerdict tokens (Err (parses.Unexpected index)) → IsBadText bytes (start_in bytes (slice_get tokens index)) rules.SyntaxError
+  TooDeep : (tokens : List Token) (index : ℕ) → IsTokenList bytes tokens → IsVerdict tokens (Err (parses.TooDeep index))
+      → IsBadText bytes (start_in bytes (slice_get tokens index)) rules.NestedTooDeeply
+  BadSyntax : (tokens : List Token) (index : ℕ) → IsTokenList bytes tokens
+      → IsVerdict tokens (Err (parses.Unexpected index))
+      → IsBadText bytes (start_in bytes (slice_get tokens index)) rules.SyntaxError
 
 -- a place in a text, and the rule that is broken there
 pub record BreaksText (path bytes : List ℕ) (place : Place) (rule : Rule) : Type 0 where

@@ -44,7 +44,8 @@ pub record IsBadSyntax (files : Option Tree) (place : Place) : Type 0 where
 
 -- the file at the path has more bytes than a file may have, where files are told
 abbrev pub IsTooLarge : Option Tree → List ℕ → Type 0
-IsTooLarge files path = IfSome files (λ tree. (bytes : List ℕ) × (file_at tree path ≡ Some bytes) × (4194304 < length bytes))
+IsTooLarge files path =
+    IfSome files (λ tree. (bytes : List ℕ) × (file_at tree path ≡ Some bytes) × (4194304 < length bytes))
 
 -- what a rule asks of
 pub data Subject : Type 0 where

@@ -1,5 +1,6 @@
 -- What the finding of the target answers, and the loading of all that it imports.
-use Rattle.std.specs.Prelude.{◌≡◌, ℕ, false, List, [], ◌∷◌, length, map, Option, option_map, Result, Ok, Err, Vec, String, string_bytes}
+use Rattle.std.specs.Prelude.{◌≡◌, ℕ, false, List, [], ◌∷◌, length, map, Option, option_map, Result, Ok, Err, Vec}
+use Rattle.std.specs.Prelude.{String, string_bytes}
 use Rattle.std.specs.declared.alloc.Global.{Global}
 use Rattle.go_base.specs.Devices.{Tree}
 use Rattle.go_base.specs.declared.target.Target.{Target}
@@ -18,7 +19,8 @@ use Rattle.go_load.specs.Projects.{Project, Paths, IsOriginOfTarget, target_path
 
 -- the project of a target in these files, whose module is this one
 abbrev pub project_with : Tree → Option modules.Module → Target → ℕ → Project
-project_with files root target limit = record { files = files; root = option_map view_module root; target = target; limit = limit }
+project_with files root target limit =
+    record { files = files; root = option_map view_module root; target = target; limit = limit }
 
 -- the answer for the files of the target
 abbrev pub ListsTarget : Tree → Target → Result (Vec (String Global) Global) LoadError → Type 0
@@ -56,7 +58,8 @@ RuntimeLoaded project packages new (Err OutOfMemory) = Unit {0}
 
 abbrev pub LoadsRuntime : Tree → Loader → Loader → Result (Unit {0}) LoadError → Type 0
 LoadsRuntime files old new result =
-    (project : Project) (packages : List Package) → project.files ≡ files → IsAt project old packages → length old.found.entries.items ≡ length packages
+    (project : Project) (packages : List Package) → project.files ≡ files → IsAt project old packages
+    → length old.found.entries.items ≡ length packages
     → RuntimeLoaded project packages new result
 
 -- the answer for the program of a target whose module is this one
@@ -64,4 +67,5 @@ abbrev pub AnswersProject : Tree → Option modules.Module → Target → ℕ �
 AnswersProject files root target limit result = IsAnswerIn (project_with files root target limit) result
 
 abbrev pub Finishes : Tree → Loader → Result Sources LoadError → Type 0
-Finishes files loader result = (project : Project) → project.files ≡ files → IsAt project loader [] → IsAnswerIn project result
+Finishes files loader result =
+    (project : Project) → project.files ≡ files → IsAt project loader [] → IsAnswerIn project result

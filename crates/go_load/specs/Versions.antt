@@ -1,5 +1,6 @@
 -- Versions of Go.
-use Rattle.std.specs.Prelude.{ℕ, ◌+◌, ◌-◌, ◌*◌, min, Bool, ◌==◌, ◌&&◌, ◌||◌, nat_le, nat_eq, if◌then◌else◌, List, length, take, drop, Option, Some, None, codes}
+use Rattle.std.specs.Prelude.{ℕ, ◌+◌, ◌-◌, ◌*◌, min, Bool, ◌==◌, ◌&&◌, ◌||◌, nat_le, nat_eq, if◌then◌else◌, List}
+use Rattle.std.specs.Prelude.{length, take, drop, Option, Some, None, codes}
 use Rattle.std.specs.List.{prefix_len, fold, starts_with}
 
 abbrev pub is_digit : ℕ → Bool

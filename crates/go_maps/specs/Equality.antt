@@ -1,5 +1,6 @@
 -- Which values are equal. Go specification, "Comparison operators".
-use Rattle.std.specs.Prelude.{ℕ, ◌==◌, Bool, true, false, not, ◌&&◌, List, [], ◌∷◌, Option, Some, None, is_none, Result, Ok, Err, IsTrue, ◌↔◌, if◌then◌else◌}
+use Rattle.std.specs.Prelude.{ℕ, ◌==◌, Bool, true, false, not, ◌&&◌, List, [], ◌∷◌, Option, Some, None, is_none}
+use Rattle.std.specs.Prelude.{Result, Ok, Err, IsTrue, ◌↔◌, if◌then◌else◌}
 use Rattle.std.specs.Ordering.{int_eq}
 use Rattle.go_base.specs.declared.ids.CellId.{CellId}
 use Rattle.go_base.specs.declared.ids.ChanId.{ChanId}
@@ -10,7 +11,8 @@ use Rattle.go_type.specs.Table.{Table}
 use Rattle.go_value.specs.declared.address.Pointer.{Pointer}
 use Rattle.go_value.specs.declared.faults.Fault.{Fault}
 use Rattle.go_value.specs.declared.faults.Fault.TheVariants as fault
-use Rattle.go_value.specs.Values.{Val, Parts, none, part, truth, number, text, pointer, slice, map_number, chan_number, nil_function, nil_interface, dynamic, parts}
+use Rattle.go_value.specs.Values.{Val, Parts, none, part, truth, number, text, pointer, slice, map_number, chan_number}
+use Rattle.go_value.specs.Values.{nil_function, nil_interface, dynamic, parts}
 
 -- a test that tells which types are comparable
 abbrev pub TellsComparable : Table → (TypeId → Bool) → Type 0

@@ -25,8 +25,8 @@ abbrev pub IsRefusalAt : ℕ → Stop → ParseError → Type 0
 IsRefusalAt at stops.Memory error = error ≡ errors.OutOfMemory
 IsRefusalAt at stops.Unexpected error = error ≡ errors.Unexpected at
 
--- The answer is the one well-formed tree of the tokens, or the index of the first part that cannot be read, unless a token
--- reaches too far or memory ran out.
+-- The answer is the one well-formed tree of the tokens, or the index of the first part that cannot be read, unless a
+-- token reaches too far or memory ran out.
 abbrev pub IsParsed : List Token → Result FileTree ParseError → Type 0
 IsParsed tokens (Ok file) = IsTreeOf tokens (view_file file)
 IsParsed tokens (Err (errors.TooDeep index)) = Unit {0}

@@ -19,4 +19,5 @@ list_in p place = run (at_list p place) (list_of (Part sorts.Item))
 -- what is read behind an operator, with the operand before it
 abbrev pub operation_in : Parsers → Place → Forest → Token → Reader
 operation_in p place left operator tokens =
-    p.expr (of_operand place) (precedence operator.kind + 1) tokens >>= λ right. Some (node forms.BinaryForm (append left (leaf operator right.0)) empty, right.1)
+    p.expr (of_operand place) (precedence operator.kind + 1) tokens >>= λ right. Some
+    (node forms.BinaryForm (append left (leaf operator right.0)) empty, right.1)

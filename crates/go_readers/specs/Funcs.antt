@@ -9,7 +9,10 @@ use Rattle.go_grammar.specs.TypeReading.{Parsers}
 use Rattle.go_grammar.specs.StmtReading.{at_package}
 
 abbrev pub func_plan : Plan Sort
-func_plan = Node forms.FuncForm (word kinds.FuncWord ⨟ maybe (begins kinds.OpenParen) (Part sorts.Receiver) ⨟ word kinds.Name ⨟ Part sorts.Signature ⨟ maybe (begins kinds.OpenBrace) (Part sorts.Block))
+func_plan =
+    Node forms.FuncForm
+    (word kinds.FuncWord ⨟ maybe (begins kinds.OpenParen) (Part sorts.Receiver) ⨟ word kinds.Name ⨟ Part sorts.Signature
+    ⨟ maybe (begins kinds.OpenBrace) (Part sorts.Block))
 
 -- a function or a method
 abbrev pub func_in : Parsers → Reader

@@ -10,16 +10,21 @@ abbrev pub field_line_in : Parsers → Reader
 field_line_in p = run (at_type p) (Either not_empty (field_plan ⨟ end_of_line closes_braces) semicolon)
 
 abbrev pub field_lines_in : Parsers → Reader
-field_lines_in p = run (at_type p) (Many (not_closed kinds.CloseBrace) (Either not_empty (field_plan ⨟ end_of_line closes_braces) semicolon))
+field_lines_in p =
+    run (at_type p)
+    (Many (not_closed kinds.CloseBrace) (Either not_empty (field_plan ⨟ end_of_line closes_braces) semicolon))
 
 abbrev pub element_line_in : Parsers → Reader
 element_line_in p = run (at_type p) (Either not_empty (element_plan ⨟ end_of_line closes_braces) semicolon)
 
 abbrev pub element_lines_in : Parsers → Reader
-element_lines_in p = run (at_type p) (Many (not_closed kinds.CloseBrace) (Either not_empty (element_plan ⨟ end_of_line closes_braces) semicolon))
+element_lines_in p =
+    run (at_type p)
+    (Many (not_closed kinds.CloseBrace) (Either not_empty (element_plan ⨟ end_of_line closes_braces) semicolon))
 
 abbrev pub paren_type_in : Parsers → Reader
-paren_type_in p = node_in forms.ParenTypeForm (then_in (word_in kinds.OpenParen) (then_in p.type_expr (word_in kinds.CloseParen)))
+paren_type_in p =
+    node_in forms.ParenTypeForm (then_in (word_in kinds.OpenParen) (then_in p.type_expr (word_in kinds.CloseParen)))
 
 abbrev pub pointer_type_in : Parsers → Reader
 pointer_type_in p = node_in forms.PointerForm (then_in (word_in kinds.Star) p.type_expr)

@@ -8,7 +8,9 @@ use Rattle.go_grammar.specs.Grammar.{Sort, closes_braces}
 use Rattle.go_grammar.specs.Reading.{Reader, Plan, Part, Node, Either, Many, ◌>>=◌, run}
 use Rattle.go_grammar.specs.Tests.{begins, begins_both, word, maybe, ◌⨟◌, not_closed, not_empty, semicolon, end_of_line}
 use Rattle.go_grammar.specs.TypeReading.{Parsers}
-use Rattle.go_grammar.specs.StmtReading.{at_part, at_clauses, at_comm, at_lines, at_statement, at_unlabeled, behind_list, clause_plan, clauses_plan, comm_plan, expr, exprs, goes_on, if_plan, if_rest_in, select_plan, statement_plan}
+use Rattle.go_grammar.specs.StmtReading.{at_part, at_clauses, at_comm, at_lines, at_statement, at_unlabeled}
+use Rattle.go_grammar.specs.StmtReading.{behind_list, clause_plan, clauses_plan, comm_plan, expr, exprs, goes_on}
+use Rattle.go_grammar.specs.StmtReading.{if_plan, if_rest_in, select_plan, statement_plan}
 use Rattle.go_grammar.specs.View.{each}
 
 -- a statement with its labels, where it has any
@@ -65,7 +67,10 @@ comm_clause_in p = run (at_comm p) comm_plan
 
 -- the first arm of an `if`, and each `else if`
 abbrev pub arms_in : Parsers → Reader
-arms_in p = run (at_unlabeled p) (Node forms.ArmForm (Part sorts.IfRest) ⨟ Many (begins_both kinds.ElseWord kinds.IfWord) (Node forms.ArmForm (word kinds.ElseWord ⨟ Part sorts.IfRest)))
+arms_in p =
+    run (at_unlabeled p)
+    (Node forms.ArmForm (Part sorts.IfRest) ⨟ Many (begins_both kinds.ElseWord kinds.IfWord)
+    (Node forms.ArmForm (word kinds.ElseWord ⨟ Part sorts.IfRest)))
 
 abbrev pub else_arm_in : Parsers → Reader
 else_arm_in p = run (at_unlabeled p) (Node forms.ArmForm (word kinds.ElseWord ⨟ Part sorts.IfRest))

@@ -1,6 +1,7 @@
 -- Operations on constants. Go specification, "Constant expressions", "Arithmetic operators", "Integer operators",
 -- "String concatenation", "Comparison operators" and "Logical operators".
-use Rattle.std.specs.Prelude.{ℕ, ◌^◌, ◌-◌, nat_lt, ℤ, pos, negsuc, int_lt, unsigned_abs, Bool, true, false, not, ◌&&◌, ◌||◌, if◌then◌else◌, List, ◌++◌, length, Option, Some, None, Result, Ok, Err}
+use Rattle.std.specs.Prelude.{ℕ, ◌^◌, ◌-◌, nat_lt, ℤ, pos, negsuc, int_lt, unsigned_abs, Bool, true, false, not, ◌&&◌}
+use Rattle.std.specs.Prelude.{◌||◌, if◌then◌else◌, List, ◌++◌, length, Option, Some, None, Result, Ok, Err}
 use Rattle.std.specs.Ordering.{is_eq, is_ne, is_lt, is_le, is_gt, is_ge}
 use Rattle.go_base.specs.declared.ids.TypeId.{TypeId}
 use Rattle.go_base.specs.declared.rule.Rule.TheVariants.{ConstantOutOfRange, DivisionByZero, BadShift, BadOperand}
@@ -45,7 +46,8 @@ remade types of value = value
 
 -- a constant as one of a type, in which its value has to be
 abbrev pub as_constant : Table → Const → TypeId → Result Const Breach
-as_constant types value of = if representable types value of then Ok (remade types of value) else Err (whole ConstantOutOfRange)
+as_constant types value of =
+    if representable types value of then Ok (remade types of value) else Err (whole ConstantOutOfRange)
 
 -- what an operation on integers gives as a constant of a type
 abbrev pub typed_value : Table → TypeId → Result ℤ IntFault → Result Const Breach
@@ -68,10 +70,12 @@ counted (Ok _) value = value
 counted (Err breach) value = Err breach
 
 abbrev pub shift_folded : Table → Bool → ℤ → ℤ → TypeId → Result Const Breach
-shift_folded types left a count of = counted (count_checked count) (typed_value types of (in_range (shifted left a (unsigned_abs count))))
+shift_folded types left a count of =
+    counted (count_checked count) (typed_value types of (in_range (shifted left a (unsigned_abs count))))
 
 abbrev pub text_folded : List ℕ → List ℕ → Result Const Breach
-text_folded a b = if nat_lt max_text (length (a ++ b)) then Err (whole ConstantOutOfRange) else Ok (constant.Text (a ++ b))
+text_folded a b =
+    if nat_lt max_text (length (a ++ b)) then Err (whole ConstantOutOfRange) else Ok (constant.Text (a ++ b))
 
 -- of the operators of arithmetic, texts have "+" alone
 abbrev pub texts_folded : ConstOp → List ℕ → List ℕ → Result Const Breach

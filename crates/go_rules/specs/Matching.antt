@@ -1,4 +1,5 @@
--- What two operands of an operator become, so that they have one type. Go specification, "Operators", "Comparison operators" and "Constant expressions".
+-- What two operands of an operator become, so that they have one type. Go specification, "Operators", "Comparison
+-- operators" and "Constant expressions".
 use Rattle.std.specs.Prelude.{Bool, false, ◌==◌, if◌then◌else◌, length, Option, Some, None}
 use Rattle.std.specs.Option.{option_map}
 use Rattle.go_base.specs.declared.ids.TypeId.{TypeId}

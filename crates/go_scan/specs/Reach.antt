@@ -1,5 +1,6 @@
 -- How far the longest pieces reach, from left to right.
-use Rattle.std.specs.Prelude.{ℕ, zero, suc, ◌+◌, ◌-◌, ◌^◌, List, [], ◌∷◌, Bool, true, false, Option, Some, None, is_some, ◌==◌, ◌&&◌, not, nat_lt, if◌then◌else◌}
+use Rattle.std.specs.Prelude.{ℕ, zero, suc, ◌+◌, ◌-◌, ◌^◌, List, [], ◌∷◌, Bool, true, false, Option, Some, None}
+use Rattle.std.specs.Prelude.{is_some, ◌==◌, ◌&&◌, not, nat_lt, if◌then◌else◌}
 use Rattle.std.specs.Option.{option_map_or}
 use Rattle.go_ast.specs.Literals.{first, second}
 use Rattle.go_ast.specs.Marks.{mark_of_one, mark_of_two, mark_of_three}
@@ -9,7 +10,8 @@ use Rattle.go_scan.specs.declared.endings.Ending.{Ending}
 abbrev pub run_length : (List ℕ → Option ℕ) → ℕ → List ℕ → ℕ
 run_length step left [] = 0
 run_length step (suc left) (byte ∷ bytes) = 1 + run_length step left bytes
-run_length step zero (byte ∷ bytes) = option_map_or (λ width. 1 + run_length step (width - 1) bytes) (step (byte ∷ bytes)) 0
+run_length step zero (byte ∷ bytes) =
+    option_map_or (λ width. 1 + run_length step (width - 1) bytes) (step (byte ∷ bytes)) 0
 
 abbrev pub third : List ℕ → ℕ
 third [] = 0

@@ -44,7 +44,8 @@ ending_of pieces.Space text = ending 1 true
 ending_of pieces.LineComment text = ending (line_length text) true
 ending_of pieces.GeneralComment text = behind 2 (comment_ending false (drop 2 text))
 ending_of pieces.Mark text = ending (mark_length text) true
-ending_of pieces.Word text = ending (if is_some (passing is_letter text) then run_length (passing is_name_character) 0 text else 0) true
+ending_of pieces.Word text =
+    ending (if is_some (passing is_letter text) then run_length (passing is_name_character) 0 text else 0) true
 ending_of pieces.Numeral text = ending (run_length (passing is_numeral_character) 0 text) true
 ending_of pieces.RuneLiteral text = behind 1 (quoted_ending 39 false (drop 1 text))
 ending_of pieces.StringLiteral text = behind 1 (quoted_ending 34 false (drop 1 text))

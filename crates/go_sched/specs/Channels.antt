@@ -32,7 +32,14 @@ abbrev pub sending_of : Sender → Sending
 sending_of it = record { goroutine = it.goroutine; index = it.index; value = value_of it.value }
 
 abbrev pub chan_of : Channel → Chan
-chan_of it = record { size = it.size; queue = map value_of it.queue.items; senders = map sending_of it.senders.items; receivers = it.receivers.items; closed = it.closed }
+chan_of it =
+    record {
+      size = it.size;
+      queue = map value_of it.queue.items;
+      senders = map sending_of it.senders.items;
+      receivers = it.receivers.items;
+      closed = it.closed;
+    }
 
 abbrev pub case_of : ChanOp → Case
 case_of (op.Send chan it) = send chan (value_of it)

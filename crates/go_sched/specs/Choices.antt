@@ -1,5 +1,6 @@
 -- Choices.
-use Rattle.std.specs.Prelude.{◌≡◌, ℕ, ◌-◌, ◌%◌, ◌<◌, ◌≤◌, nat_lt, nat_le, List, [], ◌∷◌, ◌++◌, drop, Bool, true, false, ◌&&◌, IsTrue, if◌then◌else◌}
+use Rattle.std.specs.Prelude.{◌≡◌, ℕ, ◌-◌, ◌%◌, ◌<◌, ◌≤◌, nat_lt, nat_le, List, [], ◌∷◌, ◌++◌, drop, Bool, true, false}
+use Rattle.std.specs.Prelude.{◌&&◌, IsTrue, if◌then◌else◌}
 use Rattle.go_sched.specs.Goroutines.{State}
 
 -- a choice among so many: the next number modulo their number, and 0 where none is left
@@ -13,7 +14,9 @@ chosen n state = if nat_le n 1 then 0 else next_of n state.choices
 
 -- it is recorded where there is room
 abbrev pub noted : ℕ → State → State
-noted number state = if state.records && nat_lt 0 state.spare then record state { taken = state.taken ++ number ∷ []; spare = state.spare - 1 } else state
+noted number state =
+    if state.records && nat_lt 0 state.spare
+    then record state { taken = state.taken ++ number ∷ []; spare = state.spare - 1 } else state
 
 abbrev pub used_up : State → State
 used_up state = record state { choices = drop 1 state.choices }
@@ -30,4 +33,5 @@ is_spent state = is_empty state.choices
 
 -- room for one more that is recorded
 abbrev pub MakesRoom : State → State → Type 0
-MakesRoom old new = (new ≡ record old { spare = new.spare }) × (old.spare ≤ new.spare) × (IsTrue old.records → 0 < new.spare)
+MakesRoom old new =
+    (new ≡ record old { spare = new.spare }) × (old.spare ≤ new.spare) × (IsTrue old.records → 0 < new.spare)

@@ -21,11 +21,32 @@ pub record State : Type 0 where
   pub spare : ℕ
 
 abbrev pub state_of : Sched → State
-state_of it = record { channels = map chan_of it.channels.items; goroutines = length it.waits.items; runnable = it.runnable.items; current = it.current; choices = drop it.used it.choices.items; records = it.records; taken = it.taken.items; spare = vec_capacity it.taken - length it.taken.items }
+state_of it =
+    record {
+      channels = map chan_of it.channels.items;
+      goroutines = length it.waits.items;
+      runnable = it.runnable.items;
+      current = it.current;
+      choices = drop it.used it.choices.items;
+      records = it.records;
+      taken = it.taken.items;
+      spare =
+          vec_capacity it.taken - length it.taken.items;
+    }
 
 -- goroutine 0, which is current and runnable, no channels, and the choices that are to be taken
 abbrev pub started : List ℕ → Bool → State
-started choices records = record { channels = []; goroutines = 1; runnable = 0 ∷ []; current = record { number = 0 }; choices = choices; records = records; taken = []; spare = 0 }
+started choices records =
+    record {
+      channels = [];
+      goroutines = 1;
+      runnable = 0 ∷ [];
+      current = record { number = 0 };
+      choices = choices;
+      records = records;
+      taken = [];
+      spare = 0;
+    }
 
 -- with a new goroutine, which is runnable
 abbrev pub spawned : State → State

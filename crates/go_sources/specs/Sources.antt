@@ -1,5 +1,6 @@
 -- Programs that were loaded, and the files that they come from.
-use Rattle.std.specs.Prelude.{◌≡◌, ℕ, Bool, false, if◌then◌else◌, List, Option, Some, None, option_map, unwrap_or, slice_get, Vec, IfSome, All, ◌⊎◌}
+use Rattle.std.specs.Prelude.{◌≡◌, ℕ, Bool, false, if◌then◌else◌, List, Option, Some, None, option_map, unwrap_or}
+use Rattle.std.specs.Prelude.{slice_get, Vec, IfSome, All, ◌⊎◌}
 use Rattle.std.specs.declared.alloc.Global.{Global}
 use Rattle.go_base.specs.Devices.{Tree, file_at}
 use Rattle.go_sources.specs.declared.program.Sources.{Sources}
@@ -28,7 +29,8 @@ abbrev pub version_under : Bool → ℕ → ℕ
 version_under built_in minor = if built_in then newest_minor else minor
 
 abbrev pub is_built_in_at : List SourcePackage → ℕ → Bool
-is_built_in_at packages number = unwrap_or (option_map (λ (one : SourcePackage). one.built_in) (slice_get packages number)) false
+is_built_in_at packages number =
+    unwrap_or (option_map (λ (one : SourcePackage). one.built_in) (slice_get packages number)) false
 
 -- the same of the package with a number
 abbrev pub version_of : Sources → ℕ → ℕ

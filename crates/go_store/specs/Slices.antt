@@ -1,5 +1,9 @@
--- Slices. Go specification, "Slice expressions", "Appending to and copying slices" and "Making slices, maps and channels".
-use Rattle.std.specs.Prelude.{ℕ, ◌+◌, ◌-◌, ◌*◌, ◌/◌, ◌^◌, min, max, List, [], ◌∷◌, ◌++◌, ℤ, pos, ◌-ℤ◌, int_lt, unsigned_abs, ◌≡◌, IsSome, MatchBool, Option, Some, None, unwrap_or, ◌==◌, Result, Ok, Err, Bool, ◌||◌, nat_lt, nat_le, length, take, replicate, slice_index, slice_set, if◌then◌else◌}
+-- Slices. Go specification, "Slice expressions", "Appending to and copying slices" and "Making slices, maps and
+-- channels".
+use Rattle.std.specs.Prelude.{ℕ, ◌+◌, ◌-◌, ◌*◌, ◌/◌, ◌^◌, min, max, List, [], ◌∷◌, ◌++◌, ℤ, pos, ◌-ℤ◌, int_lt}
+use Rattle.std.specs.Prelude.{unsigned_abs, ◌≡◌, IsSome, MatchBool, Option, Some, None, unwrap_or, ◌==◌, Result, Ok}
+use Rattle.std.specs.Prelude.{Err, Bool, ◌||◌, nat_lt, nat_le, length, take, replicate, slice_index, slice_set}
+use Rattle.std.specs.Prelude.{if◌then◌else◌}
 use Rattle.std.specs.Option.{option_and_then}
 use Rattle.go_value.specs.Values.{Val}
 use Rattle.go_value.specs.declared.address.Pointer.{Pointer}
@@ -12,14 +16,15 @@ use Rattle.go_value.specs.Zeros.{zeroed}
 use Rattle.go_store.specs.Arrays.{array_of, run_of, with_run}
 use Rattle.go_store.specs.Stores.{Stored, made, loaded, with_part}
 
--- the last step of a pointer to an element, and the pointer to the element so many places behind it. Steps have 32 bits:
--- a pointer stays as it is where that place has none
+-- the last step of a pointer to an element, and the pointer to the element so many places behind it. Steps have 32
+-- bits: a pointer stays as it is where that place has none
 abbrev pub last_step : Pointer → ℕ
 last_step pointer = slice_index pointer.path (length pointer.path - 1)
 
 abbrev pub later : Pointer → ℕ → Pointer
 later pointer by =
-    if nat_lt (last_step pointer + by) (2 ^ 32) then record pointer { path = slice_set pointer.path (length pointer.path - 1) (last_step pointer + by) }
+    if nat_lt (last_step pointer + by) (2 ^ 32)
+    then record pointer { path = slice_set pointer.path (length pointer.path - 1) (last_step pointer + by) }
     else pointer
 
 -- the pointer to the array that an element is in
@@ -35,7 +40,11 @@ are_no_bounds low high max cap = int_lt low (pos 0) || int_lt high low || int_lt
 abbrev pub sliced : SliceValue → ℤ → ℤ → ℤ → Result SliceValue Fault
 sliced slice low high max =
     if are_no_bounds low high max slice.cap then Err fault.SliceBounds
-    else Ok (record { at = later slice.at (unsigned_abs low); len = unsigned_abs (high -ℤ low); cap = unsigned_abs (max -ℤ low) })
+    else Ok (record {
+      at = later slice.at (unsigned_abs low);
+      len = unsigned_abs (high -ℤ low);
+      cap = unsigned_abs (max -ℤ low);
+    })
 
 -- the slice of a whole array
 abbrev pub whole_array : Pointer → ℕ → SliceValue
@@ -74,7 +83,8 @@ most_elements leaves = most_leaves / max leaves 1
 -- ---- new arrays
 
 abbrev pub slice_of_new : Stored → ℕ → ℕ → SliceValue
-slice_of_new store len cap = record { at = record { cell = Some (record { number = length store.cells }); path = 0 ∷ [] }; len = len; cap = cap }
+slice_of_new store len cap =
+    record { at = record { cell = Some (record { number = length store.cells }); path = 0 ∷ [] }; len = len; cap = cap }
 
 -- the fault of a slice of a length and a capacity that cannot be made
 abbrev pub make_fault : ℕ → ℤ → ℤ → Option Fault
@@ -97,7 +107,8 @@ grown_capacity leaves needed cap = min (max needed (cap * 2)) (most_elements lea
 
 abbrev pub append_fault : ℕ → SliceValue → ℕ → Option Fault
 append_fault leaves slice count =
-    if (count == 0) || has_room slice count || nat_le (slice.len + count) (most_elements leaves) then None else Some fault.GrowSlice
+    if (count == 0) || has_room slice count || nat_le (slice.len + count) (most_elements leaves) then None
+    else Some fault.GrowSlice
 
 abbrev pub appended_slice : ℕ → Stored → SliceValue → ℕ → SliceValue
 appended_slice leaves store slice count =
@@ -109,7 +120,8 @@ appended_slice leaves store slice count =
 abbrev pub grown_array : ℕ → Stored → SliceValue → List Val → Val → Val
 grown_array leaves store slice items zero_value =
     let needed = slice.len + length items in
-    array_of (unwrap_or (elements_of store slice) [] ++ items ++ replicate (grown_capacity leaves needed slice.cap - needed) zero_value)
+    array_of (unwrap_or (elements_of store slice) [] ++ items
+    ++ replicate (grown_capacity leaves needed slice.cap - needed) zero_value)
 
 -- what append makes of a store; new elements past the items are the zero value of the type of the items
 abbrev pub Appends : ℕ → Stored → SliceValue → List Val → Stored → Type 0
@@ -117,7 +129,8 @@ Appends leaves store slice [] new = new ≡ store
 Appends leaves store slice (first ∷ items) new =
     MatchBool (has_room slice (length (first ∷ items)))
     (new ≡ with_run_in (array_of (first ∷ items)) store (later slice.at slice.len))
-    (IsSome (elements_of store slice) × (new ≡ made store (grown_array leaves store slice (first ∷ items) (zeroed first))))
+    (IsSome (elements_of store slice)
+    × (new ≡ made store (grown_array leaves store slice (first ∷ items) (zeroed first))))
 
 -- ---- what copy gives
 

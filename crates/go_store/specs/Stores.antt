@@ -1,5 +1,6 @@
 -- The variables of a run. Go specification, "Variables", "Address operators" and "Assignment statements".
-use Rattle.std.specs.Prelude.{ℕ, zero, suc, ℤ, List, [], ◌∷◌, ◌++◌, map, pos, Option, Some, None, is_none, unwrap_or, Result, Ok, Err, slice_get, if◌then◌else◌}
+use Rattle.std.specs.Prelude.{ℕ, zero, suc, ℤ, List, [], ◌∷◌, ◌++◌, map, pos, Option, Some, None, is_none, unwrap_or}
+use Rattle.std.specs.Prelude.{Result, Ok, Err, slice_get, if◌then◌else◌}
 use Rattle.std.specs.Option.{option_and_then, option_map_or}
 use Rattle.go_base.specs.declared.ids.CellId.{CellId}
 use Rattle.go_value.specs.Kinds.{renumbered}
@@ -34,7 +35,8 @@ loaded store at = option_and_then (λ cell. part_in store cell at.path) at.cell
 
 -- the integer that is there, or 0
 abbrev pub loaded_int : Stored → Pointer → Result ℤ Fault
-loaded_int store at = if is_none at.cell then Err fault.NilPointer else Ok (unwrap_or (integer_in (loaded store at)) (pos 0))
+loaded_int store at =
+    if is_none at.cell then Err fault.NilPointer else Ok (unwrap_or (integer_in (loaded store at)) (pos 0))
 
 -- ---- what an assignment to it changes: that part of that cell alone
 
@@ -45,7 +47,8 @@ changed_item change (it ∷ items) zero = change it ∷ items
 changed_item change (it ∷ items) (suc place) = it ∷ changed_item change items place
 
 abbrev pub with_part_in : (Val → Val) → Stored → CellId → List ℕ → Stored
-with_part_in change store cell steps = record store { cells = changed_item (λ it. updated change it steps) store.cells cell.number }
+with_part_in change store cell steps =
+    record store { cells = changed_item (λ it. updated change it steps) store.cells cell.number }
 
 abbrev pub with_part : (Val → Val) → Stored → Pointer → Stored
 with_part change store at = option_map_or (λ cell. with_part_in change store cell at.path) at.cell store

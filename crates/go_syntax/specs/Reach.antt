@@ -54,7 +54,8 @@ max_reach = 400
 -- The index of the first token that reaches further than any may, where the first of these tokens has the index n.
 abbrev pub too_deep_from : ℕ → Counts → List Token → Option ℕ
 too_deep_from n c [] = None
-too_deep_from n c (t ∷ ts) = if nat_lt max_reach (reach (count t.kind c)) then Some n else too_deep_from (suc n) (count t.kind c) ts
+too_deep_from n c (t ∷ ts) =
+    if nat_lt max_reach (reach (count t.kind c)) then Some n else too_deep_from (suc n) (count t.kind c) ts
 
 -- The index of the first token of a file that reaches further than any may.
 abbrev pub reach_index : List Token → Option ℕ

@@ -11,28 +11,35 @@ separator-later separator index = grind (arith, nat_tests)
 
 -- one item more
 pub joined-one_more : {A : Type 0} (separator : List ℕ) (piece : A → List ℕ) (xs : List A) (x : A)
-    → joined separator piece (xs ++ x ∷ []) ≡ (joined separator piece xs ++ separator_at separator (length xs)) ++ piece x
+    → joined separator piece (xs ++ x ∷ []) ≡ (joined separator piece xs ++ separator_at separator (length xs))
+    ++ piece x
 joined-one_more separator piece [] x = refl
 joined-one_more separator piece (y ∷ []) x = sym (append_assoc (piece y) separator (piece x))
 joined-one_more separator piece (y ∷ (z ∷ rest)) x =
     ap (λ text. piece y ++ (separator ++ text))
-    (joined-one_more separator piece (z ∷ rest) x ∙ ap (λ between. (joined separator piece (z ∷ rest) ++ between) ++ piece x) (separator-later separator (length rest)))
+    (joined-one_more separator piece (z ∷ rest) x ∙ ap (λ between. (joined separator piece (z ∷ rest) ++ between)
+    ++ piece x) (separator-later separator (length rest)))
     ∙ (simp append_assoc refl)
-    ∙ ap (λ between. ((piece y ++ (separator ++ joined separator piece (z ∷ rest))) ++ between) ++ piece x) (sym (separator-later separator (suc (length rest))))
+    ∙ ap (λ between. ((piece y ++ (separator ++ joined separator piece (z ∷ rest))) ++ between)
+    ++ piece x) (sym (separator-later separator (suc (length rest))))
 
 joined-from_take : {A : Type 0} (separator : List ℕ) (piece : A → List ℕ) (xs : List A) (i : ℕ) (x d : A)
     → i < length xs → x ≡ get_or xs i d
-    → joined separator piece (take (i + 1) xs) ≡ (joined separator piece (take i xs) ++ separator_at separator i) ++ piece x
+    → joined separator piece (take (i + 1) xs) ≡ (joined separator piece (take i xs) ++ separator_at separator i)
+    ++ piece x
 joined-from_take separator piece xs i x d h e =
     ap (joined separator piece) (take_more xs i d h ∙ ap (λ y. take i xs ++ y ∷ []) (sym e))
     ∙ joined-one_more separator piece (take i xs) x
-    ∙ ap (λ k. (joined separator piece (take i xs) ++ separator_at separator k) ++ piece x) (length-take-le i xs (omega arith))
+    ∙ ap (λ k. (joined separator piece (take i xs) ++ separator_at separator k)
+    ++ piece x) (length-take-le i xs (omega arith))
 
 regrouped : (a b c d : List ℕ) → ((a ++ b) ++ c) ++ d ≡ a ++ ((b ++ c) ++ d)
 regrouped a b c d = simp append_assoc
 
 -- what one turn of a loop over the items adds
-pub joined-turn : {A : Type 0} (separator : List ℕ) (piece : A → List ℕ) (xs : List A) (i : ℕ) (x d : A) (old before between after : List ℕ)
+pub joined-turn :
+    {A : Type 0} (separator : List ℕ) (piece : A
+    → List ℕ) (xs : List A) (i : ℕ) (x d : A) (old before between after : List ℕ)
     → i < length xs → x ≡ get_or xs i d
     → before ≡ old ++ joined separator piece (take i xs)
     → between ≡ before ++ separator_at separator i

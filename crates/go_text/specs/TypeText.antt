@@ -1,5 +1,6 @@
 -- The texts of types: those of the source, with labels before names.
-use Rattle.std.specs.Prelude.{ℕ, zero, suc, ◌==◌, Bool, true, false, ◌&&◌, List, [], ◌∷◌, ◌++◌, if◌then◌else◌, codes, length, decimal, Option, Some, None}
+use Rattle.std.specs.Prelude.{ℕ, zero, suc, ◌==◌, Bool, true, false, ◌&&◌, List, [], ◌∷◌, ◌++◌, if◌then◌else◌, codes}
+use Rattle.std.specs.Prelude.{length, decimal, Option, Some, None}
 use Rattle.go_base.specs.declared.ids.NameId.{NameId}
 use Rattle.go_base.specs.declared.ids.TypeId.{TypeId}
 use Rattle.go_type.specs.declared.term.Basic.{Basic}
@@ -10,7 +11,8 @@ use Rattle.go_type.specs.declared.term.Field.{Field}
 use Rattle.go_type.specs.declared.term.MethodType.{MethodType}
 use Rattle.go_type.specs.declared.term.Signature.{Signature}
 use Rattle.go_type.specs.declared.term.TypeTerm.{TypeTerm}
-use Rattle.go_type.specs.declared.term.TypeTerm.TheVariants.{Basic as Plain, Declared, Pointer, Slice, Array, Map, Chan, Func, Struct, Interface, Tuple, Iter}
+use Rattle.go_type.specs.declared.term.TypeTerm.TheVariants.{Basic as Plain, Declared, Pointer, Slice, Array, Map}
+use Rattle.go_type.specs.declared.term.TypeTerm.TheVariants.{Chan, Func, Struct, Interface, Tuple, Iter}
 use Rattle.go_type.specs.Table.{Table, term_at, exported}
 use Rattle.go_text.specs.Joined.{joined}
 use Rattle.go_text.specs.Naming.{Naming, declared_text, member_text}
@@ -47,7 +49,8 @@ abbrev pub chan_text : Naming → (TypeId → List ℕ) → Dir → TypeId → L
 chan_text n part Send elem = codes "chan<- " ++ part elem
 chan_text n part Receive elem = codes "<-chan " ++ part elem
 chan_text n part Both elem =
-    if is_receiving (term_at n.types elem) then codes "chan (" ++ (part elem ++ codes ")") else codes "chan " ++ part elem
+    if is_receiving (term_at n.types elem) then codes "chan (" ++ (part elem ++ codes ")")
+    else codes "chan " ++ part elem
 
 -- the last parameter of a variadic function has the type of a slice
 abbrev pub slice_element : TypeId → Option TypeTerm → TypeId
@@ -73,7 +76,9 @@ results_text part (one ∷ (two ∷ rest)) = codes " " ++ tuple_text part (one �
 
 abbrev pub signature_text : Naming → (TypeId → List ℕ) → Signature → List ℕ
 signature_text n part s =
-    codes "(" ++ ((if s.variadic then variadic_text n part s.params else joined (codes ", ") part s.params) ++ (codes ")" ++ results_text part s.results))
+    codes "("
+    ++ ((if s.variadic then variadic_text n part s.params else joined (codes ", ") part s.params)
+    ++ (codes ")" ++ results_text part s.results))
 
 -- whether a term is a declared type of the name
 abbrev pub is_called : NameId → Option TypeTerm → Bool
@@ -86,7 +91,8 @@ is_called_below n name term = is_called name term
 
 -- an embedded field that is exported and called as its type, or for a pointer as what that points to
 abbrev pub is_bare : Naming → Field → Bool
-is_bare n field = field.embedded && ((field.«package» == exported) && is_called_below n field.name (term_at n.types field.of))
+is_bare n field =
+    field.embedded && ((field.«package» == exported) && is_called_below n field.name (term_at n.types field.of))
 
 abbrev pub field_name_text : Naming → Field → List ℕ
 field_name_text n field =
@@ -109,7 +115,8 @@ method_type_text n part id (Some (Func s)) = signature_text n part s
 method_type_text n part id _ = codes " " ++ part id
 
 abbrev pub method_text : Naming → (TypeId → List ℕ) → MethodType → List ℕ
-method_text n part m = member_text n.names n.labels m.name m.«package» ++ method_type_text n part m.of (term_at n.types m.of)
+method_text n part m =
+    member_text n.names n.labels m.name m.«package» ++ method_type_text n part m.of (term_at n.types m.of)
 
 abbrev pub interface_text : Naming → (TypeId → List ℕ) → List MethodType → List ℕ
 interface_text n part methods =

@@ -20,7 +20,9 @@ underlying_term_of types id = term_at types (underlying_of types id)
 -- the method set of a type has a method of an interface, with an identical type
 abbrev pub HasMethodOf : Table → TypeId → MethodType → Type 0
 HasMethodOf types a method =
-    (member : Member) × (HasMember types a (record { name = method.name; «package» = method.package }) member × Identical types member.of method.of)
+    (member : Member)
+    × (HasMember types a (record { name = method.name; «package» = method.package }) member
+    × Identical types member.of method.of)
 
 abbrev pub HasMethodsOf : Table → TypeId → Option TypeTerm → Type 0
 HasMethodsOf types a (Some (Interface methods)) = All (HasMethodOf types a) methods
@@ -43,7 +45,8 @@ Narrows types _ _ = ⊥
 
 abbrev pub HasLikeUnderlying : Table → TypeId → TypeId → Type 0
 HasLikeUnderlying types from to =
-    Identical types (underlying_of types from) (underlying_of types to) ⊎ Narrows types (underlying_term_of types from) (underlying_term_of types to)
+    Identical types (underlying_of types from) (underlying_of types to)
+    ⊎ Narrows types (underlying_term_of types from) (underlying_term_of types to)
 
 abbrev pub IsOneUnnamed : Table → TypeId → TypeId → Type 0
 IsOneUnnamed types from to = IsTrue (not (is_named (term_at types from) && is_named (term_at types to)))
@@ -66,7 +69,8 @@ has_values None = false
 
 abbrev pub Fits : Table → TypeId → TypeId → Type 0
 Fits types from to =
-    Identical types from to ⊎ ((HasLikeUnderlying types from to × IsOneUnnamed types from to) ⊎ Implements types from to)
+    Identical types from to
+    ⊎ ((HasLikeUnderlying types from to × IsOneUnnamed types from to) ⊎ Implements types from to)
 
 -- whether a typed value of one type may be assigned to another
 abbrev pub Assignable : Table → TypeId → TypeId → Type 0

@@ -4,10 +4,12 @@ use Rattle.std.specs.List.{list_any}
 use Rattle.go_base.specs.declared.ids.TypeId.{TypeId}
 use Rattle.go_type.specs.declared.term.Basic.TheVariants as basic
 use Rattle.go_type.specs.declared.term.TypeTerm.{TypeTerm}
-use Rattle.go_type.specs.declared.term.TypeTerm.TheVariants.{Basic as Plain, Slice, Array, Map, Func, Struct, Tuple, Iter}
+use Rattle.go_type.specs.declared.term.TypeTerm.TheVariants.{Basic as Plain, Slice, Array, Map, Func, Struct, Tuple}
+use Rattle.go_type.specs.declared.term.TypeTerm.TheVariants.{Iter}
 use Rattle.go_type.specs.Table.{Table, term_at, underlying_of}
 
--- slices, maps and functions are not comparable, nor is an array of elements that are not, nor a struct with such a field
+-- slices, maps and functions are not comparable, nor is an array of elements that are not, nor a struct with such a
+-- field
 abbrev pub incomparable_term : (TypeId → Bool) → Option TypeTerm → Bool
 incomparable_term part (Some (Slice elem)) = true
 incomparable_term part (Some (Map key elem)) = true

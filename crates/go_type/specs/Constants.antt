@@ -1,5 +1,6 @@
 -- The values of constants. Go specification, "Constants", "Arithmetic operators" and "Integer operators".
-use Rattle.std.specs.Prelude.{ℕ, ◌^◌, nat_lt, ℤ, pos, negsuc, ◌+ℤ◌, ◌-ℤ◌, ◌*ℤ◌, int_div, int_rem, Bool, true, false, ◌&&◌, if◌then◌else◌, Result, Ok, Err}
+use Rattle.std.specs.Prelude.{ℕ, ◌^◌, nat_lt, ℤ, pos, negsuc, ◌+ℤ◌, ◌-ℤ◌, ◌*ℤ◌, int_div, int_rem, Bool, true, false}
+use Rattle.std.specs.Prelude.{◌&&◌, if◌then◌else◌, Result, Ok, Err}
 use Rattle.std.specs.Int.{int_shr, int_bit_and, int_bit_or, int_bit_xor, int_bit_not, w128}
 use Rattle.std.specs.Ordering.{int_eq}
 use Rattle.go_type.specs.declared.constants.ConstOp.{ConstOp}

@@ -1,10 +1,12 @@
 -- What holds of the types that are held.
-use Rattle.std.specs.Prelude.{◌≡◌, ℕ, ◌<◌, nat_lt, ◌==◌, ◌&&◌, Bool, true, false, List, [], ◌∷◌, ◌++◌, map, length, Option, Some}
+use Rattle.std.specs.Prelude.{◌≡◌, ℕ, ◌<◌, nat_lt, ◌==◌, ◌&&◌, Bool, true, false, List, [], ◌∷◌, ◌++◌, map, length}
+use Rattle.std.specs.Prelude.{Option, Some}
 use Rattle.std.specs.List.{All, IsDistinct, list_all}
 use Rattle.go_base.specs.declared.ids.TypeId.{TypeId}
 use Rattle.go_type.specs.declared.term.Basic.{Basic}
 use Rattle.go_type.specs.declared.term.TypeTerm.{TypeTerm}
-use Rattle.go_type.specs.declared.term.TypeTerm.TheVariants.{Basic as Plain, Declared, Pointer, Slice, Array, Map, Chan, Func, Struct, Interface, Tuple, Iter}
+use Rattle.go_type.specs.declared.term.TypeTerm.TheVariants.{Basic as Plain, Declared, Pointer, Slice, Array, Map}
+use Rattle.go_type.specs.declared.term.TypeTerm.TheVariants.{Chan, Func, Struct, Interface, Tuple, Iter}
 use Rattle.go_type.specs.Conditions.{ascends, reaches_to, is_own_method}
 use Rattle.go_type.specs.Sizes.{is_declared}
 use Rattle.go_type.specs.Table.{Table, same_term, term_at, definition_at, basic_id, text_function, exported, FieldsFit}
@@ -74,7 +76,8 @@ pub record IsHeld (types : Table) : Type 0 where
   pub distinct : IsDistinct same_term types.terms
   pub fit : All FieldsFit types.terms
   pub stands : (id : TypeId) (term : TypeTerm) → term_at types id ≡ Some term → StandsAt id.number term
-  pub defined : (id underlying : TypeId) → (definition_at types id).underlying ≡ Some underlying → IsDefined types id underlying
+  pub defined : (id underlying : TypeId) → (definition_at types id).underlying ≡ Some underlying
+      → IsDefined types id underlying
   pub own : (id : TypeId) → list_all (is_own_method types) (definition_at types id).methods ≡ true
   pub owners : (id : TypeId) → is_declared (term_at types id) ≡ false → (definition_at types id).methods ≡ []
   pub acyclic : (n : ℕ) (id : TypeId) → reaches_to n types id id ≡ false

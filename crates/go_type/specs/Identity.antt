@@ -10,7 +10,8 @@ use Rattle.go_type.specs.declared.term.MethodType.{MethodType}
 use Rattle.go_type.specs.declared.term.Signature.{Signature}
 use Rattle.go_type.specs.declared.term.TypeName.{TypeName}
 use Rattle.go_type.specs.declared.term.TypeTerm.{TypeTerm}
-use Rattle.go_type.specs.declared.term.TypeTerm.TheVariants.{Basic as Plain, Declared, Pointer, Slice, Array, Map, Chan, Func, Struct, Interface, Tuple, Iter}
+use Rattle.go_type.specs.declared.term.TypeTerm.TheVariants.{Basic as Plain, Declared, Pointer, Slice, Array, Map}
+use Rattle.go_type.specs.declared.term.TypeTerm.TheVariants.{Chan, Func, Struct, Interface, Tuple, Iter}
 use Rattle.go_type.specs.contracts.term.Basic as basic
 use Rattle.go_type.specs.contracts.term.Dir as dir
 use Rattle.go_type.specs.Same.{same_id}
@@ -28,7 +29,8 @@ module _ (R : TypeId → TypeId → Bool) where
   -- the same name, type and tag, and both embedded or neither; names that are not exported differ between packages
   abbrev pub like_field : Field → Field → Bool
   like_field a b =
-      (a.name.number == b.name.number) && ((a.package == b.package) && (R a.of b.of && (beq a.embedded b.embedded && bytes_eq a.tag b.tag)))
+      (a.name.number == b.name.number)
+      && ((a.package == b.package) && (R a.of b.of && (beq a.embedded b.embedded && bytes_eq a.tag b.tag)))
 
   -- the same name and type
   abbrev pub like_method : MethodType → MethodType → Bool

@@ -29,7 +29,8 @@ pub record Reached (types : Table) (a : TypeId) (ids : List TypeId) : Type 0 whe
 -- the same, where the parts of the first n are among them
 pub record ReachedTo (types : Table) (a : TypeId) (n : ℕ) (ids : List TypeId) : Type 0 where
   pub itself : is_seen ids a ≡ true
-  pub closed : (k : ℕ) (x : TypeId) → k < n → slice_get ids k ≡ Some x → list_all (is_seen ids) (parts_of types x) ≡ true
+  pub closed : (k : ℕ) (x : TypeId) → k < n → slice_get ids k ≡ Some x
+      → list_all (is_seen ids) (parts_of types x) ≡ true
   pub only : (p : TypeId → Bool) → IsInherited types p → (x : TypeId) → is_seen ids x ≡ true → p x ≡ true → p a ≡ true
 
 -- some types are added at the end, where they are not there

@@ -1,5 +1,6 @@
 -- Few places that stand for all at a depth.
-use Rattle.std.specs.Prelude.{◌≡◌, ℕ, ◌+◌, ◌≤◌, Bool, true, List, [], ◌∷◌, ◌++◌, map, reverse, Option, Some, None, slice_get, cond, ◌⊎◌}
+use Rattle.std.specs.Prelude.{◌≡◌, ℕ, ◌+◌, ◌≤◌, Bool, true, List, [], ◌∷◌, ◌++◌, map, reverse, Option, Some, None}
+use Rattle.std.specs.Prelude.{slice_get, cond, ◌⊎◌}
 use Rattle.std.specs.List.{list_any, flat_map}
 use Rattle.go_base.specs.declared.ids.TypeId.{TypeId}
 use Rattle.go_type.specs.declared.levels.Levels.{Levels}
@@ -46,7 +47,13 @@ place_at paths i spot = record { of = spot.of; path = paths i; indirect = spot.i
 -- what is found in a level that has these paths
 abbrev pub member_by : (ℕ → List ℕ) → Found → Member
 member_by paths found =
-    record { path = with_field (paths found.from) found.number; kind = found.kind; of = found.of; pointer = found.pointer; indirect = found.indirect }
+    record {
+      path = with_field (paths found.from) found.number;
+      kind = found.kind;
+      of = found.of;
+      pointer = found.pointer;
+      indirect = found.indirect;
+    }
 
 abbrev pub places_of : Levels → List Place
 places_of levels = map (place_in (reverse levels.above.items)) levels.spots.items
@@ -81,24 +88,32 @@ copies id (place ∷ places) = cond (is_of id place) 1 0 + copies id places
 abbrev pub IsBarren : ℕ → Table → Wanted → TypeId → Type 0
 IsBarren d types wanted id = (place : Place) → place.of ≡ id → members_below d types wanted place ≡ []
 
--- where nothing is selected above, the first two below the places are the first two of all; nothing is selected below a type that was seen
+-- where nothing is selected above, the first two below the places are the first two of all; nothing is selected below a
+-- type that was seen
 pub record StandFor (types : Table) (a : TypeId) (n : ℕ) (places : List Place) (seen : List TypeId) : Type 0 where
-  pub fronts : (wanted : Wanted) (d : ℕ) → NoneAbove (n + d) types wanted a → front (members_from d types wanted places) ≡ front (selected_at (n + d) types wanted a)
-  pub barren : (wanted : Wanted) (d : ℕ) (id : TypeId) → is_seen seen id ≡ true → NoneAbove (n + d) types wanted a → IsBarren d types wanted id
+  pub fronts : (wanted : Wanted) (d : ℕ) → NoneAbove (n + d) types wanted a
+      → front (members_from d types wanted places) ≡ front (selected_at (n + d) types wanted a)
+  pub barren : (wanted : Wanted) (d : ℕ) (id : TypeId) → is_seen seen id ≡ true → NoneAbove (n + d) types wanted a
+      → IsBarren d types wanted id
 
 -- places that have the same first two below them as all, where nothing is selected below what was seen
 abbrev pub Thins : Table → List TypeId → List Place → List Place → Type 0
 Thins types seen all kept =
-    (wanted : Wanted) (d : ℕ) → ((id : TypeId) → is_seen seen id ≡ true → IsBarren d types wanted id) → front (members_from d types wanted kept) ≡ front (members_from d types wanted all)
+    (wanted : Wanted) (d : ℕ) → ((id : TypeId) → is_seen seen id ≡ true → IsBarren d types wanted id)
+    → front (members_from d types wanted kept) ≡ front (members_from d types wanted all)
 
-pub record ThinFor (types : Table) (seen : List TypeId) (paths : ℕ → List ℕ) (all : List Place) (thinning : Thinning) : Type 0 where
+pub record ThinFor (types : Table) (seen : List TypeId) (paths : ℕ → List ℕ) (all : List Place) (thinning : Thinning) :
+    Type 0 where
   pub thins : Thins types seen all (map (place_by paths) thinning.kept.items)
-  pub once : (id : TypeId) → is_seen thinning.once.keys id ≡ true → 1 ≤ copies id (map (place_by paths) thinning.kept.items)
-  pub twice : (id : TypeId) → is_seen thinning.twice.keys id ≡ true → 2 ≤ copies id (map (place_by paths) thinning.kept.items)
+  pub once : (id : TypeId) → is_seen thinning.once.keys id ≡ true
+      → 1 ≤ copies id (map (place_by paths) thinning.kept.items)
+  pub twice : (id : TypeId) → is_seen thinning.twice.keys id ≡ true
+      → 2 ≤ copies id (map (place_by paths) thinning.kept.items)
 
 -- what is seen was so before, or is the type of a place
 abbrev pub SeenIn : List Place → List TypeId → List TypeId → Type 0
-SeenIn places old new = (id : TypeId) → is_seen new id ≡ true → (is_seen old id ≡ true) ⊎ (list_any (is_of id) places ≡ true)
+SeenIn places old new =
+    (id : TypeId) → is_seen new id ≡ true → (is_seen old id ≡ true) ⊎ (list_any (is_of id) places ≡ true)
 
 -- what is counted once was so before, or is the one that is counted
 abbrev pub CountsOnce : TypeId → List TypeId → List TypeId → Type 0
@@ -106,4 +121,5 @@ CountsOnce of old new = (id : TypeId) → is_seen new id ≡ true → (is_seen o
 
 -- what is counted twice was so before, or is the one that is counted and was counted once
 abbrev pub CountsTwice : TypeId → List TypeId → List TypeId → List TypeId → Type 0
-CountsTwice of once old new = (id : TypeId) → is_seen new id ≡ true → (is_seen old id ≡ true) ⊎ ((id ≡ of) × (is_seen once id ≡ true))
+CountsTwice of once old new =
+    (id : TypeId) → is_seen new id ≡ true → (is_seen old id ≡ true) ⊎ ((id ≡ of) × (is_seen once id ≡ true))

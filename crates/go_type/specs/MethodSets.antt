@@ -14,10 +14,12 @@ use Rattle.go_type.specs.declared.term.TypeTerm.TheVariants.{Interface}
 use Rattle.go_type.specs.Selector.{is_wanted, Finds, is_declared_pointer}
 use Rattle.go_type.specs.Table.{Table, term_at, definition_at, underlying_of, is_blank}
 
--- a method that a name other than `_` selects belongs to the set; one with a pointer receiver, where the type is a pointer or an embedded pointer leads to it
+-- a method that a name other than `_` selects belongs to the set; one with a pointer receiver, where the type is a
+-- pointer or an embedded pointer leads to it
 abbrev pub HasMember : Table → TypeId → Wanted → Member → Type 0
 HasMember types a wanted member =
-    Finds types wanted a (Ok member) × (member.kind ≢ kind.Field) × (is_declared_pointer types a ≡ false) × (member.pointer ≡ true → member.indirect ≡ true)
+    Finds types wanted a (Ok member) × (member.kind ≢ kind.Field) × (is_declared_pointer types a ≡ false)
+    × (member.pointer ≡ true → member.indirect ≡ true)
     × (is_blank types wanted.name ≡ false)
 
 abbrev pub name_of : MethodEntry → Wanted
@@ -25,10 +27,18 @@ name_of entry = record { name = entry.name; «package» = entry.package }
 
 abbrev pub entry_of : Wanted → Member → MethodEntry
 entry_of wanted member =
-    record { name = wanted.name; «package» = wanted.package; path = member.path; kind = member.kind; of = member.of; pointer = member.pointer }
+    record {
+      name = wanted.name;
+      «package» = wanted.package;
+      path = member.path;
+      kind = member.kind;
+      of = member.of;
+      pointer = member.pointer;
+    }
 
 abbrev pub IsMethod : Table → TypeId → MethodEntry → Type 0
-IsMethod types a entry = (member : Member) × (HasMember types a (name_of entry) member × (entry ≡ entry_of (name_of entry) member))
+IsMethod types a entry =
+    (member : Member) × (HasMember types a (name_of entry) member × (entry ≡ entry_of (name_of entry) member))
 
 abbrev pub HasEach : Table → TypeId → List MethodEntry → Type 0
 HasEach types a set = (entry : MethodEntry) → IsMethod types a entry → Contains set entry
@@ -51,7 +61,9 @@ offered_by wanted _ = false
 -- whether a type itself has a method of a name
 abbrev pub offers : Table → Wanted → TypeId → Bool
 offers types wanted id =
-    list_any (λ m. is_wanted wanted m.name m.package) (definition_at types id).methods || offered_by wanted (term_at types (underlying_of types id))
+    list_any (λ m. is_wanted wanted m.name m.package) (definition_at types id).methods
+    || offered_by wanted (term_at types (underlying_of types id))
 
 abbrev pub NamesEach : Table → TypeId → BTreeSet Wanted → Type 0
-NamesEach types a names = (wanted : Wanted) (member : Member) → HasMember types a wanted member → contains by_name names wanted ≡ true
+NamesEach types a names =
+    (wanted : Wanted) (member : Member) → HasMember types a wanted member → contains by_name names wanted ≡ true

@@ -48,15 +48,20 @@ same_ids_alike a b h = ap same_ids_hash ((same_ids-Decides a b).0 h)
 -- ---- fields
 
 abbrev pub same_field : Field → Field → Bool
-same_field a b = (a.name.number == b.name.number) && ((a.package == b.package) && ((a.of.number == b.of.number) && (beq a.embedded b.embedded && bytes_eq a.tag b.tag)))
+same_field a b =
+    (a.name.number == b.name.number)
+    && ((a.package == b.package)
+    && ((a.of.number == b.of.number) && (beq a.embedded b.embedded && bytes_eq a.tag b.tag)))
 
 abbrev pub same_fields : List Field → List Field → Bool
 same_fields = pointwise same_field
 
 same_field_self : (a : Field) → same_field a a ≡ true
 same_field_self a =
-    each _ _ ((unsigned_Decides a.name.number a.name.number).1 refl) (each _ _ ((unsigned_Decides a.package a.package).1 refl)
-    (each _ _ ((unsigned_Decides a.of.number a.of.number).1 refl) (each _ _ ((booleans_Decides a.embedded a.embedded).1 refl) ((bytes_eq-Decides a.tag a.tag).1 refl))))
+    each _ _ ((unsigned_Decides a.name.number a.name.number).1 refl)
+    (each _ _ ((unsigned_Decides a.package a.package).1 refl)
+    (each _ _ ((unsigned_Decides a.of.number a.of.number).1 refl)
+    (each _ _ ((booleans_Decides a.embedded a.embedded).1 refl) ((bytes_eq-Decides a.tag a.tag).1 refl))))
 
 pub same_field-Decides : (a b : Field) → Decides (same_field a b) (a ≡ b)
 same_field-Decides a b = (
@@ -82,7 +87,9 @@ pub same_fields_equiv : IsEquivalence same_fields
 same_fields_equiv = decided same_fields same_fields-Decides
 
 abbrev pub same_fields_hash : List Field → HashWrites
-same_fields_hash = fed.slice (λ a. fed.u64 a.name.number ++ (fed.u32 a.package ++ (fed.u64 a.of.number ++ (fed.bool a.embedded ++ fed.slice fed.u8 a.tag))))
+same_fields_hash =
+    fed.slice (λ a. fed.u64 a.name.number
+    ++ (fed.u32 a.package ++ (fed.u64 a.of.number ++ (fed.bool a.embedded ++ fed.slice fed.u8 a.tag))))
 
 pub same_fields_alike : (a b : List Field) → same_fields a b ≡ true → same_fields_hash a ≡ same_fields_hash b
 same_fields_alike a b h = ap same_fields_hash ((same_fields-Decides a b).0 h)

@@ -1,5 +1,6 @@
 -- What a selector selects. Go specification, "Selectors" and "Struct types".
-use Rattle.std.specs.Prelude.{false, ◌≡◌, ℕ, zero, suc, ◌+◌, ◌<◌, Bool, ◌==◌, ◌&&◌, ◌||◌, List, [], ◌∷◌, ◌++◌, if◌then◌else◌, Option, Some, Result, Ok, Err, ◌⊎◌, ◌≢◌, not, true}
+use Rattle.std.specs.Prelude.{false, ◌≡◌, ℕ, zero, suc, ◌+◌, ◌<◌, Bool, ◌==◌, ◌&&◌, ◌||◌, List, [], ◌∷◌, ◌++◌}
+use Rattle.std.specs.Prelude.{if◌then◌else◌, Option, Some, Result, Ok, Err, ◌⊎◌, ◌≢◌, not, true}
 use Rattle.std.specs.List.{flat_map}
 use Rattle.go_base.specs.declared.ids.NameId.{NameId}
 use Rattle.go_base.specs.declared.ids.TypeId.{TypeId}
@@ -16,7 +17,8 @@ use Rattle.go_type.specs.declared.members.Wanted.{Wanted}
 use Rattle.go_type.specs.declared.members.Member.{Member}
 use Rattle.go_type.specs.Table.{Table, term_at, definition_at, underlying_of}
 
--- a type that embedded fields lead to, with the numbers of the fields on the way; `indirect` tells whether a pointer was followed
+-- a type that embedded fields lead to, with the numbers of the fields on the way; `indirect` tells whether a pointer
+-- was followed
 pub record Place : Type 0 where
   pub of : TypeId
   pub path : List ℕ
@@ -31,19 +33,25 @@ abbrev pub flat_map_from : {X Y : Type 0} → (ℕ → X → List Y) → ℕ →
 flat_map_from f n [] = []
 flat_map_from f n (x ∷ xs) = f n x ++ flat_map_from f (n + 1) xs
 
--- ---- what is selected in a type itself, at the end of a path of embedded fields; `indirect` tells whether a pointer was followed
+-- ---- what is selected in a type itself, at the end of a path of embedded fields; `indirect` tells whether a pointer
+-- was followed
 
 abbrev pub method_named : Wanted → List ℕ → Bool → MethodEntry → List Member
 method_named wanted path indirect m =
-    if is_wanted wanted m.name m.package then record { path = path; kind = m.kind; of = m.of; pointer = m.pointer; indirect = indirect } ∷ [] else []
+    if is_wanted wanted m.name m.package
+    then record { path = path; kind = m.kind; of = m.of; pointer = m.pointer; indirect = indirect } ∷ [] else []
 
 abbrev pub signature_named : Wanted → List ℕ → Bool → MethodType → List Member
 signature_named wanted path indirect m =
-    if is_wanted wanted m.name m.package then record { path = path; kind = kind.InterfaceMethod; of = m.of; pointer = false; indirect = indirect } ∷ [] else []
+    if is_wanted wanted m.name m.package
+    then record { path = path; kind = kind.InterfaceMethod; of = m.of; pointer = false; indirect = indirect } ∷ []
+    else []
 
 abbrev pub field_named : Wanted → List ℕ → Bool → ℕ → Field → List Member
 field_named wanted path indirect n f =
-    if is_wanted wanted f.name f.package then record { path = path ++ n ∷ []; kind = kind.Field; of = f.of; pointer = false; indirect = indirect } ∷ [] else []
+    if is_wanted wanted f.name f.package
+    then record { path = path ++ n ∷ []; kind = kind.Field; of = f.of; pointer = false; indirect = indirect } ∷ []
+    else []
 
 abbrev pub fields_named : Wanted → List ℕ → Bool → List Field → List Member
 fields_named wanted path indirect fields = flat_map_from (field_named wanted path indirect) 0 fields
@@ -73,7 +81,12 @@ without_pointer types id = pointed (term_at types id) id
 
 abbrev pub embedded_by : Table → List ℕ → Bool → ℕ → Field → List Place
 embedded_by types path indirect n f =
-    if f.embedded then record { of = without_pointer types f.of; path = path ++ n ∷ []; indirect = indirect || is_pointer (term_at types f.of) } ∷ [] else []
+    if f.embedded
+    then record {
+      of = without_pointer types f.of;
+      path = path ++ n ∷ [];
+      indirect = indirect || is_pointer (term_at types f.of);
+    } ∷ [] else []
 
 abbrev pub embedded_from : Table → List ℕ → Bool → List Field → List Place
 embedded_from types path indirect fields = flat_map_from (embedded_by types path indirect) 0 fields
@@ -118,7 +131,8 @@ abbrev pub Finds : Table → Wanted → TypeId → Result Member SelectError →
 Finds types wanted a (Ok member) = (n : ℕ) × (selected_at n types wanted a ≡ member ∷ []) × NoneAbove n types wanted a
 Finds types wanted a (Err (error.Ambiguous first second)) =
     (n : ℕ) × ((f : Member) × ((g : Member) × ((rest : List Member)
-    × ((selected_at n types wanted a ≡ f ∷ g ∷ rest) × (f.path ≡ first) × (g.path ≡ second) × NoneAbove n types wanted a))))
+    × ((selected_at n types wanted a ≡ f ∷ g ∷ rest) × (f.path ≡ first) × (g.path ≡ second)
+    × NoneAbove n types wanted a))))
 Finds types wanted a (Err error.Absent) = (n : ℕ) → selected_at n types wanted a ≡ []
 Finds types wanted a (Err error.OutOfMemory) = Unit {0}
 
@@ -133,16 +147,20 @@ is_declared_pointer types a = is_pointer (term_at types (underlying_of types a))
 
 abbrev pub SelectsFrom : Table → Wanted → TypeId → Result Selection SelectError → Type 0
 SelectsFrom types wanted a (Ok selection) =
-    (member : Member) × (Finds types wanted a (Ok member) × (selection ≡ selection_of member) × (is_declared_pointer types a ≡ true → member.kind ≡ kind.Field))
+    (member : Member)
+    × (Finds types wanted a (Ok member) × (selection ≡ selection_of member)
+    × (is_declared_pointer types a ≡ true → member.kind ≡ kind.Field))
 SelectsFrom types wanted a (Err error.Absent) =
     Finds types wanted a (Err error.Absent)
-    ⊎ ((is_declared_pointer types a ≡ true) × ((member : Member) × ((member.kind ≢ kind.Field) × Finds types wanted a (Ok member))))
+    ⊎ ((is_declared_pointer types a ≡ true)
+    × ((member : Member) × ((member.kind ≢ kind.Field) × Finds types wanted a (Ok member))))
 SelectsFrom types wanted a (Err e) = Finds types wanted a (Err e)
 
 -- the one item, or the paths of the first two
 abbrev pub IsFirst : List Member → Result Member SelectError → Type 0
 IsFirst found (Ok member) = found ≡ member ∷ []
 IsFirst found (Err (error.Ambiguous first second)) =
-    (f : Member) × ((g : Member) × ((rest : List Member) × ((found ≡ f ∷ g ∷ rest) × (f.path ≡ first) × (g.path ≡ second))))
+    (f : Member)
+    × ((g : Member) × ((rest : List Member) × ((found ≡ f ∷ g ∷ rest) × (f.path ≡ first) × (g.path ≡ second))))
 IsFirst found (Err error.OutOfMemory) = Unit {0}
 IsFirst found (Err _) = ⊥

@@ -30,8 +30,10 @@ both_sights _ _ = sight.Several
 abbrev pub Sees : Table → TypeId → Wanted → Sight → Type 0
 Sees types a wanted sight.Nothing = Finds types wanted a (Err error.Absent)
 Sees types a wanted (sight.One kind of usable) =
-    (member : Member) × (Finds types wanted a (Ok member) × (member.kind ≡ kind) × (member.of ≡ of) × (is_usable member ≡ usable))
-Sees types a wanted sight.Several = (first : _) × ((second : _) × Finds types wanted a (Err (error.Ambiguous first second)))
+    (member : Member)
+    × (Finds types wanted a (Ok member) × (member.kind ≡ kind) × (member.of ≡ of) × (is_usable member ≡ usable))
+Sees types a wanted sight.Several =
+    (first : _) × ((second : _) × Finds types wanted a (Err (error.Ambiguous first second)))
 
 abbrev pub fields_in : Option TypeTerm → List Field
 fields_in (Some (Struct fields)) = fields

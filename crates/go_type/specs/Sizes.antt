@@ -3,7 +3,8 @@ use Rattle.std.specs.Prelude.{ℕ, zero, suc, ◌*◌, max, Bool, true, false, �
 use Rattle.std.specs.List.{list_all, sum_by}
 use Rattle.go_base.specs.declared.ids.TypeId.{TypeId}
 use Rattle.go_type.specs.declared.term.TypeTerm.{TypeTerm}
-use Rattle.go_type.specs.declared.term.TypeTerm.TheVariants.{Declared, Pointer, Slice, Array, Map, Chan, Func, Struct, Interface, Tuple, Iter}
+use Rattle.go_type.specs.declared.term.TypeTerm.TheVariants.{Declared, Pointer, Slice, Array, Map, Chan, Func, Struct}
+use Rattle.go_type.specs.declared.term.TypeTerm.TheVariants.{Interface, Tuple, Iter}
 use Rattle.go_type.specs.Table.{Table, term_at, underlying_of}
 
 -- ---- leaves: 1 for every type but arrays and structs. Those of an array are its length times its element's, and those
@@ -49,4 +50,5 @@ nests_as_part (suc n) nests types id = if is_declared (term_at types id) then tr
 abbrev pub nests_within : ℕ → Table → TypeId → Bool
 nests_within zero types id = false
 nests_within (suc n) types id =
-    parts_pass (nests_within n types) (nests_as_part n (nests_within n types) types) (term_at types (underlying_of types id))
+    parts_pass (nests_within n types) (nests_as_part n (nests_within n types) types)
+    (term_at types (underlying_of types id))

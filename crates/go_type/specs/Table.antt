@@ -1,5 +1,6 @@
 -- The types that are held. Go specification, "Types" and "Underlying types".
-use Rattle.std.specs.Prelude.{ℕ, ◌==◌, ◌<◌, ◌^◌, Bool, List, [], ◌∷◌, ◌++◌, if◌then◌else◌, false, length, Option, Some, None, slice_get, slice_set, unwrap_or, map}
+use Rattle.std.specs.Prelude.{ℕ, ◌==◌, ◌<◌, ◌^◌, Bool, List, [], ◌∷◌, ◌++◌, if◌then◌else◌, false, length, Option, Some}
+use Rattle.std.specs.Prelude.{None, slice_get, slice_set, unwrap_or, map}
 use Rattle.std.specs.List.{list_any, position_or_len, repeat}
 use Rattle.go_base.specs.declared.ids.NameId.{NameId}
 use Rattle.go_base.specs.declared.ids.TypeId.{TypeId}
@@ -12,7 +13,8 @@ use Rattle.go_type.specs.declared.methods.MethodEntry.{MethodEntry}
 use Rattle.go_type.specs.declared.types.Definition.{Definition}
 use Rattle.go_type.specs.contracts.term.TypeTermPartialEq.TheImpl as generated
 
--- the number of a type's id is the place of its term; a declared type has a definition too; `blank` is the id of the name `_`, once it is known
+-- the number of a type's id is the place of its term; a declared type has a definition too; `blank` is the id of the
+-- name `_`, once it is known
 pub record Table : Type 0 where
   pub terms : List TypeTerm
   pub definitions : List Definition
@@ -28,7 +30,8 @@ place_of term types = position_or_len (same_term term) types.terms
 
 -- the id of a term
 abbrev pub id_of : TypeTerm → Table → Option TypeId
-id_of term types = if list_any (same_term term) types.terms then Some (record { number = place_of term types }) else None
+id_of term types =
+    if list_any (same_term term) types.terms then Some (record { number = place_of term types }) else None
 
 abbrev pub no_definition : Definition
 no_definition = record { underlying = None; methods = [] }
@@ -64,7 +67,11 @@ with_underlying id underlying types =
 
 abbrev pub with_method : TypeId → MethodEntry → Table → Table
 with_method id method types =
-    with_definition id (record { underlying = (definition_at types id).underlying; methods = (definition_at types id).methods ++ method ∷ [] }) types
+    with_definition id
+    (record {
+      underlying = (definition_at types id).underlying;
+      methods = (definition_at types id).methods ++ method ∷ [];
+    }) types
 
 -- the fields of a struct are numbered in 32 bits
 abbrev pub FieldsFit : TypeTerm → Type 0
@@ -139,8 +146,15 @@ first_terms error method = map Plain all_basic ++ text_function ∷ error_interf
 
 -- `error` alone is defined
 abbrev pub first_definitions : List Definition
-first_definitions = repeat 19 (no_definition ∷ []) ++ record { underlying = Some (record { number = 18 }); methods = [] } ∷ []
+first_definitions =
+    repeat 19 (no_definition ∷ []) ++ record { underlying = Some (record { number = 18 }); methods = [] } ∷ []
 
 -- the basic types, `func() string`, the interface of `error`, and `error`
 unfoldable pub predeclared : NameId → NameId → Table
-predeclared error method = record { terms = first_terms error method; definitions = first_definitions; error = record { number = 19 }; blank = None }
+predeclared error method =
+    record {
+      terms = first_terms error method;
+      definitions = first_definitions;
+      error = record { number = 19 };
+      blank = None;
+    }

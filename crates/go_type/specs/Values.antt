@@ -1,4 +1,5 @@
--- When two constants are one value, and an order of values. Go specification, "Constants": 97 and 'a' are one value once they have a type.
+-- When two constants are one value, and an order of values. Go specification, "Constants": 97 and 'a' are one value
+-- once they have a type.
 use Rattle.std.specs.Prelude.{◌≡◌, ℕ, ℤ, Bool, List}
 use Rattle.std.specs.Ordering.{nat_cmp, int_cmp, bool_cmp, is_eq}
 use Rattle.std.specs.Cmp.Lexicographic.{slice_cmp}

@@ -1,5 +1,7 @@
--- Integers of each kind. Go specification, "Arithmetic operators", "Integer operators", "Integer overflow" and "Conversions between numeric types".
-use Rattle.std.specs.Prelude.{ℕ, ◌==◌, ◌-◌, ◌^◌, Bool, true, false, not, ◌&&◌, if◌then◌else◌, ℤ, pos, ◌-ℤ◌, ◌*ℤ◌, int_lt, Result, Ok, Err, unsigned_abs}
+-- Integers of each kind. Go specification, "Arithmetic operators", "Integer operators", "Integer overflow" and
+-- "Conversions between numeric types".
+use Rattle.std.specs.Prelude.{ℕ, ◌==◌, ◌-◌, ◌^◌, Bool, true, false, not, ◌&&◌, if◌then◌else◌, ℤ, pos, ◌-ℤ◌, ◌*ℤ◌}
+use Rattle.std.specs.Prelude.{int_lt, Result, Ok, Err, unsigned_abs}
 use Rattle.std.specs.Int.{int_rem_euclid, int_shr}
 use Rattle.std.specs.Ordering.{int_eq}
 use Rattle.go_type.specs.declared.kinds.IntKind.{IntKind}
@@ -26,7 +28,8 @@ wrapped kind z = as_kind kind (residue (bits_of kind) z)
 
 -- the value of an operator in a kind
 abbrev pub operated : IntKind → ConstOp → ℤ → ℤ → Result ℤ Fault
-operated kind o a b = if divides o && int_eq b (pos 0) then Err fault.ZeroDivisor else Ok (wrapped kind (value_of o a b))
+operated kind o a b =
+    if divides o && int_eq b (pos 0) then Err fault.ZeroDivisor else Ok (wrapped kind (value_of o a b))
 
 -- an integer times 2 to a count, in a kind; or divided by it, rounded down
 abbrev pub shifted_in : IntKind → Bool → ℤ → ℕ → ℤ
@@ -35,4 +38,5 @@ shifted_in kind false a count = int_shr a count
 
 -- the value of a shift in a kind: there is no upper limit on the count
 abbrev pub shift_value : IntKind → Bool → ℤ → ℤ → Result ℤ Fault
-shift_value kind left a count = if int_lt count (pos 0) then Err fault.NegativeShift else Ok (shifted_in kind left a (unsigned_abs count))
+shift_value kind left a count =
+    if int_lt count (pos 0) then Err fault.NegativeShift else Ok (shifted_in kind left a (unsigned_abs count))

@@ -1,7 +1,9 @@
 -- Zero values. Go specification, "The zero value".
 use Rattle.std.specs.Prelude.{pos, [], false, None}
 use Rattle.go_value.specs.Address.{nil_pointer, nil_slice}
-use Rattle.go_value.specs.Values.{Val, Parts, none, part, truth, number, text, pointer, slice, map_number, chan_number, nil_function, closure, bound, expression, nil_interface, dynamic, parts, text_range, map_range}
+use Rattle.go_value.specs.Values.{Val, Parts, none, part, truth, number, text, pointer, slice, map_number, chan_number}
+use Rattle.go_value.specs.Values.{nil_function, closure, bound, expression, nil_interface, dynamic, parts, text_range}
+use Rattle.go_value.specs.Values.{map_range}
 
 abbrev mutual
   -- the zero value of the type of a value

@@ -13,5 +13,6 @@ IsOnCycle edges edge = Reaches edges edge.to edge.from
 
 -- the edge at the index is on a cycle and none before it is; or none is at all
 abbrev pub IsFirstOnCycle : List Edge → Option ℕ → Type 0
-IsFirstOnCycle edges (Some index) = IsSomeAnd (slice_get edges index) (IsOnCycle edges) × All (λ edge. ¬ IsOnCycle edges edge) (take index edges)
+IsFirstOnCycle edges (Some index) =
+    IsSomeAnd (slice_get edges index) (IsOnCycle edges) × All (λ edge. ¬ IsOnCycle edges edge) (take index edges)
 IsFirstOnCycle edges None = All (λ edge. ¬ IsOnCycle edges edge) edges

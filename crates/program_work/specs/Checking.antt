@@ -30,4 +30,5 @@ pub record IsBroken (files : List SourceFile) (outcome : Outcome) : Type 0 where
 
 -- a rule is broken at a place; or memory is wanted, or what was named is no such rule and place
 abbrev pub IsRefusal : List SourceFile → Outcome → Type 0
-IsRefusal files outcome = IsBroken files outcome ⊎ ((outcome ≡ outcomes.OutOfMemory) ⊎ (outcome ≡ outcomes.InternalError))
+IsRefusal files outcome =
+    IsBroken files outcome ⊎ ((outcome ≡ outcomes.OutOfMemory) ⊎ (outcome ≡ outcomes.InternalError))

@@ -68,7 +68,8 @@ pub data EndsIn (command : LoadCommand) (outcome : Outcome) (output : List ℕ) 
   ran : command.run ≡ true → (ending : Ending) → outcome ≡ outcomes.Ended ending → EndsIn command outcome output
 
 -- the work that a command asks for, which is built: the text of the code, the listing, and what the run writes
-pub record IsWork (command : LoadCommand) (files : List SourceFile) (program : Program) (outcome : Outcome) (output : List ℕ) : Type 0 where
+pub record IsWork (command : LoadCommand) (files : List SourceFile) (program : Program) (outcome : Outcome)
+    (output : List ℕ) : Type 0 where
   pub built : wants_registers command ≡ false
   pub code : List ℕ
   pub listing : List ℕ
@@ -79,12 +80,14 @@ pub record IsWork (command : LoadCommand) (files : List SourceFile) (program : P
   pub parts : output ≡ code ++ (listing ++ run)
 
 -- the right outcome of the work on a program that breaks no rule: what is asked is not built, or the work is done
-pub data IsServed (command : LoadCommand) (files : List SourceFile) (program : Program) (outcome : Outcome) (output : List ℕ) : Type 0 where
-  outside : wants_registers command ≡ true → outcome ≡ outcomes.Refused (start_of (first_path files)) rules.NotBuiltYet → output ≡ [] → IsServed command files program outcome output
+pub data IsServed (command : LoadCommand) (files : List SourceFile) (program : Program) (outcome : Outcome)
+    (output : List ℕ) : Type 0 where
+  outside : wants_registers command ≡ true → outcome ≡ outcomes.Refused (start_of (first_path files)) rules.NotBuiltYet
+      → output ≡ [] → IsServed command files program outcome output
   worked : IsWork command files program outcome output → IsServed command files program outcome output
 
--- the right outcome for files that were loaded: they break a rule; or they make a program, of which nothing is said yet,
--- and what is asked of it comes to this
+-- the right outcome for files that were loaded: they break a rule; or they make a program, of which nothing is said
+-- yet, and what is asked of it comes to this
 pub data IsResult (command : LoadCommand) (files : List SourceFile) (outcome : Outcome) (output : List ℕ) : Type 0 where
   broken : IsBroken files outcome → output ≡ [] → IsResult command files outcome output
   served : (program : Program) → IsServed command files program outcome output → IsResult command files outcome output
@@ -93,15 +96,18 @@ pub data IsResult (command : LoadCommand) (files : List SourceFile) (outcome : O
 
 -- the outcome where what is asked is not built, for the file at a path
 abbrev pub IsNotBuilt : List ℕ → Outcome → Type 0
-IsNotBuilt path outcome = (outcome ≡ outcomes.Refused (start_of path) rules.NotBuiltYet) ⊎ (outcome ≡ outcomes.OutOfMemory)
+IsNotBuilt path outcome =
+    (outcome ≡ outcomes.Refused (start_of path) rules.NotBuiltYet) ⊎ (outcome ≡ outcomes.OutOfMemory)
 
 -- a listing was written, where one is asked
-pub record Lists (files : List SourceFile) (program : Program) (graph : Option Graph) (old new : Option (List ℕ)) : Type 0 where
+pub record Lists (files : List SourceFile) (program : Program) (graph : Option Graph) (old new : Option (List ℕ)) :
+    Type 0 where
   pub text : List ℕ
   pub is_listing : IsListing files program graph text
   pub appends : Appends old new text
 
-pub record ListsPart (files : List SourceFile) (program : Program) (graph : Option Graph) (old new : Option (List ℕ)) : Type 0 where
+pub record ListsPart (files : List SourceFile) (program : Program) (graph : Option Graph) (old new : Option (List ℕ)) :
+    Type 0 where
   pub text : List ℕ
   pub is_listing : IsListing files program graph text
   pub appends : AppendsFront old new text

@@ -1,5 +1,6 @@
 -- The texts of the parts of a code beside its functions, and the text of a whole code.
-use Rattle.std.specs.Prelude.{◌≡◌, ℕ, zero, suc, ◌+◌, ◌==◌, Bool, true, false, ◌||◌, List, [], ◌∷◌, ◌++◌, codes, length, drop, take_while, sum_by, decimal, if◌then◌else◌, Option, Some, None}
+use Rattle.std.specs.Prelude.{◌≡◌, ℕ, zero, suc, ◌+◌, ◌==◌, Bool, true, false, ◌||◌, List, [], ◌∷◌, ◌++◌, codes}
+use Rattle.std.specs.Prelude.{length, drop, take_while, sum_by, decimal, if◌then◌else◌, Option, Some, None}
 use Rattle.std.specs.Io.KnownBytes.{Appends}
 use Rattle.std.specs.List.{flat_map, AllZip}
 use Rattle.go_base.specs.Devices.{AppendsFront}
@@ -26,15 +27,20 @@ package_line s number = codes "package " ++ (label_text s.naming.labels number +
 -- a declared type and its underlying type
 abbrev pub type_line : Setting → TypeId → List ℕ
 type_line s id =
-    codes "type " ++ (type_text_of s.naming id ++ (codes " " ++ (type_text_of s.naming (underlying_of s.naming.types id) ++ codes "\n")))
+    codes "type "
+    ++ (type_text_of s.naming id
+    ++ (codes " " ++ (type_text_of s.naming (underlying_of s.naming.types id) ++ codes "\n")))
 
 abbrev pub method_line : Setting → MethodLine → List ℕ
 method_line s line =
-    codes "method " ++ (type_text_of s.naming line.receiver ++ (codes "." ++ (method_name_text s.naming.names s.naming.labels line.name line.«package»
+    codes "method "
+    ++ (type_text_of s.naming line.receiver
+    ++ (codes "." ++ (method_name_text s.naming.names s.naming.labels line.name line.«package»
     ++ (codes " " ++ (function_text s line.function ++ codes "\n")))))
 
 abbrev pub variable_line : Setting → NamedVariable → List ℕ
-variable_line s v = codes "var " ++ (named_text s v ++ (codes " " ++ (type_text_of s.naming v.variable.of ++ codes "\n")))
+variable_line s v =
+    codes "var " ++ (named_text s v ++ (codes " " ++ (type_text_of s.naming v.variable.of ++ codes "\n")))
 
 -- ---- packages: each takes the types and variables that stand next, and each type the methods
 
@@ -60,7 +66,9 @@ past test items = drop (length (take_while test items)) items
 abbrev pub types_text : Setting → List TypeId → List MethodLine → List ℕ
 types_text s [] methods = []
 types_text s (id ∷ ids) methods =
-    type_line s id ++ (flat_map (method_line s) (take_while (is_method_of s.naming.types id) methods) ++ types_text s ids (past (is_method_of s.naming.types id) methods))
+    type_line s id
+    ++ (flat_map (method_line s) (take_while (is_method_of s.naming.types id) methods)
+    ++ types_text s ids (past (is_method_of s.naming.types id) methods))
 
 abbrev pub methods_past : Setting → List TypeId → List MethodLine → List MethodLine
 methods_past s [] methods = methods
@@ -76,8 +84,11 @@ types_past s number types = past (λ id. is_declared_in number (term_at s.naming
 abbrev pub packages_text : Setting → ℕ → ℕ → List TypeId → List MethodLine → List NamedVariable → List ℕ
 packages_text s zero number types methods variables = []
 packages_text s (suc count) number types methods variables =
-    package_line s number ++ (types_text s (next_types s number types) methods ++ (flat_map (variable_line s) (take_while (is_variable_in number) variables)
-    ++ packages_text s count (number + 1) (types_past s number types) (methods_past s (next_types s number types) methods) (past (is_variable_in number) variables)))
+    package_line s number
+    ++ (types_text s (next_types s number types) methods
+    ++ (flat_map (variable_line s) (take_while (is_variable_in number) variables)
+    ++ packages_text s count (number + 1) (types_past s number types)
+    (methods_past s (next_types s number types) methods) (past (is_variable_in number) variables)))
 
 -- the methods that no type takes
 abbrev pub methods_left : Setting → ℕ → ℕ → List TypeId → List MethodLine → List MethodLine

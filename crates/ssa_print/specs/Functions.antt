@@ -1,5 +1,6 @@
 -- The texts of functions, line by line.
-use Rattle.std.specs.Prelude.{ℕ, ◌+◌, ◌-◌, ◌==◌, nat_eq, Bool, true, false, ◌&&◌, List, [], ◌∷◌, ◌++◌, if◌then◌else◌, length, codes, decimal, slice_get, fold, Option, Some, None}
+use Rattle.std.specs.Prelude.{ℕ, ◌+◌, ◌-◌, ◌==◌, nat_eq, Bool, true, false, ◌&&◌, List, [], ◌∷◌, ◌++◌, if◌then◌else◌}
+use Rattle.std.specs.Prelude.{length, codes, decimal, slice_get, fold, Option, Some, None}
 use Rattle.std.specs.List.{enumerate_from, flat_map}
 use Rattle.indexmap.specs.IndexSet.{insert_all}
 use Rattle.go_base.specs.declared.ids.BlockId.{BlockId}
@@ -77,7 +78,9 @@ type_of_given s registers (Some register) = codes "\t" ++ register_type_text s (
 -- the line of an instruction, with the register that it gives and that register's type
 abbrev pub line_text : Setting → List ℕ → List TypeId → Instr → List ℕ
 line_text s given registers instr =
-    codes "\t" ++ (given_text given instr.register ++ (op_text s given instr.op ++ (type_of_given s registers instr.register ++ codes "\n")))
+    codes "\t"
+    ++ (given_text given instr.register
+    ++ (op_text s given instr.op ++ (type_of_given s registers instr.register ++ codes "\n")))
 
 -- ---- blocks
 
@@ -98,7 +101,9 @@ target_count instrs = count_at (slice_get instrs (length instrs - 1))
 
 abbrev pub block_line : ℕ → Block → List ℕ
 block_line number block =
-    decimal number ++ (codes ":\tP:" ++ (decimal (length block.preds) ++ (codes " S:" ++ (decimal (target_count block.instrs) ++ codes "\n"))))
+    decimal number
+    ++ (codes ":\tP:"
+    ++ (decimal (length block.preds) ++ (codes " S:" ++ (decimal (target_count block.instrs) ++ codes "\n"))))
 
 abbrev pub block_text : Setting → List ℕ → List TypeId → ℕ × Block → List ℕ
 block_text s given registers block = block_line block.0 block.1 ++ flat_map (line_text s given registers) block.1.instrs

@@ -1,5 +1,6 @@
 -- The texts of instructions.
-use Rattle.std.specs.Prelude.{ℕ, ◌-◌, nat_lt, length, reverse, take_while, fold, Bool, true, false, List, [], ◌∷◌, ◌++◌, codes, decimal, Option, Some, None}
+use Rattle.std.specs.Prelude.{ℕ, ◌-◌, nat_lt, length, reverse, take_while, fold, Bool, true, false, List, [], ◌∷◌}
+use Rattle.std.specs.Prelude.{◌++◌, codes, decimal, Option, Some, None}
 use Rattle.std.specs.List.{insert}
 use Rattle.go_type.specs.Operators.{text_of}
 use Rattle.go_type.specs.declared.operators.UnaryOp.{UnaryOp}
@@ -70,11 +71,13 @@ arguments_text s given operands = codes "(" ++ (operands_text s given operands +
 
 abbrev pub call_text : Setting → List ℕ → Call → List ℕ
 call_text s given (call.Static function arguments) = function_text s function ++ arguments_text s given arguments
-call_text s given (call.Dynamic callee arguments) = codes "call " ++ (operand_text s given callee ++ arguments_text s given arguments)
+call_text s given (call.Dynamic callee arguments) =
+    codes "call " ++ (operand_text s given callee ++ arguments_text s given arguments)
 call_text s given (call.Invoke receiver name package_number arguments) =
     codes "invoke " ++ (operand_text s given receiver ++ (codes "."
     ++ (method_name_text s.naming.names s.naming.labels name package_number ++ arguments_text s given arguments)))
-call_text s given (call.Builtin builtin arguments) = codes "builtin " ++ (text_of builtin ++ arguments_text s given arguments)
+call_text s given (call.Builtin builtin arguments) =
+    codes "builtin " ++ (text_of builtin ++ arguments_text s given arguments)
 
 -- ---- phis
 
@@ -96,7 +99,8 @@ edge_text s given edge = decimal edge.from.number ++ (codes ": " ++ operand_text
 -- ---- select
 
 abbrev pub case_text : Setting → List ℕ → SelectCase → List ℕ
-case_text s given (case_.Send channel value) = operand_text s given channel ++ (codes " <- " ++ operand_text s given value)
+case_text s given (case_.Send channel value) =
+    operand_text s given channel ++ (codes " <- " ++ operand_text s given value)
 case_text s given (case_.Receive channel) = codes "<-" ++ operand_text s given channel
 
 abbrev pub blocking_text : Bool → List ℕ
@@ -111,49 +115,69 @@ return_text s given (x ∷ rest) = codes "return " ++ operands_text s given (x �
 
 unfoldable pub op_text : Setting → List ℕ → Op → List ℕ
 op_text s given (op.New of) = codes "new " ++ type_text_of s.naming of
-op_text s given (op.Phi edges) = codes "phi [" ++ (joined (codes ", ") (edge_text s given) (ascending edges) ++ codes "]")
-op_text s given (op.Binary operator left right) = operand_text s given left ++ (infix_text operator ++ operand_text s given right)
+op_text s given (op.Phi edges) =
+    codes "phi [" ++ (joined (codes ", ") (edge_text s given) (ascending edges) ++ codes "]")
+op_text s given (op.Binary operator left right) =
+    operand_text s given left ++ (infix_text operator ++ operand_text s given right)
 op_text s given (op.Unary operator operand) = unary_text operator ++ operand_text s given operand
 op_text s given (op.Load at) = codes "*" ++ operand_text s given at
-op_text s given (op.Store at value) = codes "*" ++ (operand_text s given at ++ (codes " = " ++ operand_text s given value))
+op_text s given (op.Store at value) =
+    codes "*" ++ (operand_text s given at ++ (codes " = " ++ operand_text s given value))
 op_text s given (op.Field operand field) = operand_text s given operand ++ (codes ".#" ++ decimal field)
-op_text s given (op.FieldAddress operand field) = codes "&" ++ (operand_text s given operand ++ (codes ".#" ++ decimal field))
-op_text s given (op.Index operand index) = operand_text s given operand ++ (codes "[" ++ (operand_text s given index ++ codes "]"))
+op_text s given (op.FieldAddress operand field) =
+    codes "&" ++ (operand_text s given operand ++ (codes ".#" ++ decimal field))
+op_text s given (op.Index operand index) =
+    operand_text s given operand ++ (codes "[" ++ (operand_text s given index ++ codes "]"))
 op_text s given (op.IndexAddress operand index) =
     codes "&" ++ (operand_text s given operand ++ (codes "[" ++ (operand_text s given index ++ codes "]")))
 op_text s given (op.Lookup map key comma_ok) =
-    codes "lookup " ++ (operand_text s given map ++ (codes "[" ++ (operand_text s given key ++ (codes "]" ++ ok_text comma_ok))))
+    codes "lookup "
+    ++ (operand_text s given map ++ (codes "[" ++ (operand_text s given key ++ (codes "]" ++ ok_text comma_ok))))
 op_text s given (op.Update map key value) =
-    operand_text s given map ++ (codes "[" ++ (operand_text s given key ++ (codes "] = " ++ operand_text s given value)))
+    operand_text s given map
+    ++ (codes "[" ++ (operand_text s given key ++ (codes "] = " ++ operand_text s given value)))
 op_text s given (op.Slice operand low high max) =
     codes "slice " ++ (operand_text s given operand ++ (codes "[" ++ (option_text s given low ++ (codes ":"
     ++ (option_text s given high ++ (codes ":" ++ (option_text s given max ++ codes "]")))))))
-op_text s given (op.Convert to operand) = codes "convert " ++ (type_text_of s.naming to ++ (codes " <- " ++ operand_text s given operand))
-op_text s given (op.ChangeType to operand) = codes "changetype " ++ (type_text_of s.naming to ++ (codes " <- " ++ operand_text s given operand))
-op_text s given (op.MakeInterface to operand) = codes "make " ++ (type_text_of s.naming to ++ (codes " <- " ++ operand_text s given operand))
+op_text s given (op.Convert to operand) =
+    codes "convert " ++ (type_text_of s.naming to ++ (codes " <- " ++ operand_text s given operand))
+op_text s given (op.ChangeType to operand) =
+    codes "changetype " ++ (type_text_of s.naming to ++ (codes " <- " ++ operand_text s given operand))
+op_text s given (op.MakeInterface to operand) =
+    codes "make " ++ (type_text_of s.naming to ++ (codes " <- " ++ operand_text s given operand))
 op_text s given (op.ChangeInterface to operand) =
     codes "change interface " ++ (type_text_of s.naming to ++ (codes " <- " ++ operand_text s given operand))
 op_text s given (op.MakeClosure function captured) =
     codes "make closure " ++ (function_text s function ++ (codes " [" ++ (operands_text s given captured ++ codes "]")))
 op_text s given (op.MakeMap of) = codes "make map " ++ type_text_of s.naming of
-op_text s given (op.MakeChan of size) = codes "make chan " ++ (type_text_of s.naming of ++ (codes " " ++ operand_text s given size))
+op_text s given (op.MakeChan of size) =
+    codes "make chan " ++ (type_text_of s.naming of ++ (codes " " ++ operand_text s given size))
 op_text s given (op.MakeSlice of len cap) =
-    codes "make slice " ++ (type_text_of s.naming of ++ (codes " " ++ (operand_text s given len ++ (codes " " ++ operand_text s given cap))))
+    codes "make slice "
+    ++ (type_text_of s.naming of
+    ++ (codes " " ++ (operand_text s given len ++ (codes " " ++ operand_text s given cap))))
 op_text s given (op.TypeAssert operand to comma_ok) =
-    codes "typeassert " ++ (operand_text s given operand ++ (codes ".(" ++ (type_text_of s.naming to ++ (codes ")" ++ ok_text comma_ok))))
+    codes "typeassert "
+    ++ (operand_text s given operand
+    ++ (codes ".(" ++ (type_text_of s.naming to ++ (codes ")" ++ ok_text comma_ok))))
 op_text s given (op.Call called) = call_text s given called
 op_text s given (op.Go called) = codes "go " ++ call_text s given called
 op_text s given (op.Defer called) = codes "defer " ++ call_text s given called
 op_text s given op.RunDefers = codes "rundefers"
-op_text s given (op.Send channel value) = codes "send " ++ (operand_text s given channel ++ (codes " <- " ++ operand_text s given value))
+op_text s given (op.Send channel value) =
+    codes "send " ++ (operand_text s given channel ++ (codes " <- " ++ operand_text s given value))
 op_text s given (op.Receive channel comma_ok) = codes "<-" ++ (operand_text s given channel ++ ok_text comma_ok)
-op_text s given (op.Select blocking cases) = blocking_text blocking ++ (joined (codes ", ") (case_text s given) cases ++ codes "]")
+op_text s given (op.Select blocking cases) =
+    blocking_text blocking ++ (joined (codes ", ") (case_text s given) cases ++ codes "]")
 op_text s given (op.Range operand) = codes "range " ++ operand_text s given operand
 op_text s given (op.Next operand) = codes "next " ++ operand_text s given operand
-op_text s given (op.Extract operand part) = codes "extract " ++ (operand_text s given operand ++ (codes " #" ++ decimal part))
+op_text s given (op.Extract operand part) =
+    codes "extract " ++ (operand_text s given operand ++ (codes " #" ++ decimal part))
 op_text s given op.Tick = codes "tick"
 op_text s given (op.Jump to) = codes "jump " ++ decimal to.number
 op_text s given (op.If test then_to else_to) =
-    codes "if " ++ (operand_text s given test ++ (codes " goto " ++ (decimal then_to.number ++ (codes " else " ++ decimal else_to.number))))
+    codes "if "
+    ++ (operand_text s given test
+    ++ (codes " goto " ++ (decimal then_to.number ++ (codes " else " ++ decimal else_to.number))))
 op_text s given (op.Return results) = return_text s given results
 op_text s given (op.Panic value) = codes "panic " ++ operand_text s given value

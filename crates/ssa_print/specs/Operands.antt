@@ -1,5 +1,6 @@
 -- The texts of operands and of names in code.
-use Rattle.std.specs.Prelude.{ℕ, ◌==◌, nat_eq, true, false, List, [], ◌∷◌, ◌++◌, if◌then◌else◌, codes, slice_get, unwrap_or, decimal, Option, Some, None, position, length}
+use Rattle.std.specs.Prelude.{ℕ, ◌==◌, nat_eq, true, false, List, [], ◌∷◌, ◌++◌, if◌then◌else◌, codes, slice_get}
+use Rattle.std.specs.Prelude.{unwrap_or, decimal, Option, Some, None, position, length}
 use Rattle.std.specs.Fmt.{signed_decimal}
 use Rattle.go_base.specs.declared.ids.FuncId.{FuncId}
 use Rattle.go_text.specs.Naming.{Naming, name_text, label_text}
@@ -41,7 +42,8 @@ blank_text number = if number == 0 then [] else 35 ∷ decimal number
 -- a package variable: its package's label and its name, and the number of a blank one
 abbrev pub named_text : Setting → NamedVariable → List ℕ
 named_text s v =
-    label_text s.naming.labels v.variable.«package» ++ (codes "." ++ (name_text s.naming.names v.variable.name ++ blank_text v.blank))
+    label_text s.naming.labels v.variable.«package»
+    ++ (codes "." ++ (name_text s.naming.names v.variable.name ++ blank_text v.blank))
 
 abbrev pub named_text_at : Setting → Option NamedVariable → List ℕ
 named_text_at s None = []

@@ -18,7 +18,8 @@ blank_of names before v = if is_blank_name names v.name then count_by (is_blank_
 
 abbrev pub named_behind : List (List ℕ) → List CodeVariable → List CodeVariable → List NamedVariable
 named_behind names before [] = []
-named_behind names before (v ∷ rest) = record { variable = v; blank = blank_of names before v } ∷ named_behind names (before ++ v ∷ []) rest
+named_behind names before (v ∷ rest) =
+    record { variable = v; blank = blank_of names before v } ∷ named_behind names (before ++ v ∷ []) rest
 
 abbrev pub named_variables : List (List ℕ) → List CodeVariable → List NamedVariable
 named_variables names variables = named_behind names [] variables

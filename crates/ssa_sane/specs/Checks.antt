@@ -1,5 +1,6 @@
 -- What a check of blocks has seen, and finds.
-use Rattle.std.specs.Prelude.{◌≡◌, ◌<◌, ◌≤◌, ◌==◌, ◌&&◌, ◌||◌, not, ℕ, Bool, true, false, List, take, length, Contains, Option, Some, None, slice_get}
+use Rattle.std.specs.Prelude.{◌≡◌, ◌<◌, ◌≤◌, ◌==◌, ◌&&◌, ◌||◌, not, ℕ, Bool, true, false, List, take, length, Contains}
+use Rattle.std.specs.Prelude.{Option, Some, None, slice_get}
 use Rattle.std.specs.HashMap.{HashMap, get}
 use Rattle.std.specs.Prelude.{nat_eq}
 use Rattle.std.specs.declared.hash.BuildHasherDefault.{BuildHasherDefault}
@@ -42,13 +43,15 @@ is_seen None number = false
 
 -- the last block that gives a register, of those before a place
 pub record HasSeen (f : Function) (block instr : ℕ) (seen : Seen) : Type 0 where
-  pub here : (register : ℕ) → is_seen (get nat_eq seen register) block ≡ has (given_registers (take instr (instrs_at f block))) register
+  pub here : (register : ℕ)
+      → is_seen (get nat_eq seen register) block ≡ has (given_registers (take instr (instrs_at f block))) register
   pub past : (register other : ℕ) → get nat_eq seen register ≡ Some other → other ≤ block
 
 -- a block holds an instruction and can be reached, and none leads to it if it is an entry
 abbrev pub may_stand_in : Function → Places → ℕ → Block → Bool
 may_stand_in f places number block =
-    not (length block.instrs == 0) && (marked places.reached.items number && (length block.preds == 0 || not (is_entry_of f number)))
+    not (length block.instrs == 0)
+    && (marked places.reached.items number && (length block.preds == 0 || not (is_entry_of f number)))
 
 -- an instruction of a block was seen
 pub record Sees (instr : Instr) (block : ℕ) (old new : Seen) : Type 0 where
@@ -62,19 +65,24 @@ phi_edges op = None
 
 -- operands of a phi are available where their blocks end
 abbrev pub IsEdgeRight : Function → PhiEdge → Type 0
-IsEdgeRight f edge = (register : ℕ) → Contains (registers_in edge.value) register → IsAvailableBehind f edge.from.number register
+IsEdgeRight f edge =
+    (register : ℕ) → Contains (registers_in edge.value) register → IsAvailableBehind f edge.from.number register
 
 -- the values of a phi are one for each block that leads to its own, and right
 abbrev pub ArePhiRight : Function → ℕ → List PhiEdge → Type 0
-ArePhiRight f block edges = ArePreds f block (froms_of edges) × ((edge : PhiEdge) → Contains edges edge → IsEdgeRight f edge)
+ArePhiRight f block edges =
+    ArePreds f block (froms_of edges) × ((edge : PhiEdge) → Contains edges edge → IsEdgeRight f edge)
 
 -- an instruction has phis alone before it
 abbrev pub ArePhisBefore : Function → ℕ → ℕ → Type 0
-ArePhisBefore f block instr = (before : ℕ) (other : Instr) → before < instr → slice_get (instrs_at f block) before ≡ Some other → is_phi other ≡ true
+ArePhisBefore f block instr =
+    (before : ℕ) (other : Instr) → before < instr → slice_get (instrs_at f block) before ≡ Some other
+    → is_phi other ≡ true
 
 -- instructions of a block are right
 abbrev pub AreInstrsBelow : Function → ℕ → ℕ → Type 0
-AreInstrsBelow f block count = (instr : ℕ) (at : Instr) → instr < count → slice_get (instrs_at f block) instr ≡ Some at → IsInstr f block instr at
+AreInstrsBelow f block count =
+    (instr : ℕ) (at : Instr) → instr < count → slice_get (instrs_at f block) instr ≡ Some at → IsInstr f block instr at
 
 -- a block is right, with its instructions
 pub record IsRight (f : Function) (number : ℕ) (block : Block) : Type 0 where
@@ -94,4 +102,5 @@ pub record IsFirstWrong (f : Function) (block instr : ℕ) : Type 0 where
   pub before : AreInstrsBelow f block instr
 
 abbrev pub AreRightBelow : Function → ℕ → Type 0
-AreRightBelow f count = (number : ℕ) (block : Block) → number < count → slice_get f.blocks number ≡ Some block → IsRight f number block
+AreRightBelow f count =
+    (number : ℕ) (block : Block) → number < count → slice_get f.blocks number ≡ Some block → IsRight f number block

@@ -1,5 +1,6 @@
 -- How many registers of each kind there are.
-use Rattle.std.specs.Prelude.{◌≡◌, ◌+◌, ◌<◌, ◌==◌, ◌^◌, nat_lt, ℕ, Bool, true, false, not, if◌then◌else◌, List, length, count_by, slice_get}
+use Rattle.std.specs.Prelude.{◌≡◌, ◌+◌, ◌<◌, ◌==◌, ◌^◌, nat_lt, ℕ, Bool, true, false, not, if◌then◌else◌, List, length}
+use Rattle.std.specs.Prelude.{count_by, slice_get}
 use Rattle.std.specs.BTreeMap.{values}
 use Rattle.ssa_sane.specs.Homes.{is_entered_in}
 use Rattle.ssa_sane.specs.Trees.{own_at}
@@ -43,17 +44,21 @@ pub record AddsHome (lacking : List Lacking) (home : Home) (old new : Counts) : 
 -- what is counted of so many blocks, but for some homes
 pub record AreCountsBut (lacking : List Lacking) (all rest : List Home) (blocks : ℕ) (counts : Counts) : Type 0 where
   pub own_size : length counts.own.items ≡ blocks
-  pub own : (block : ℕ) → block < blocks → own_at counts.own.items block + count_by (is_at block) rest ≡ count_by (is_at block) all
+  pub own : (block : ℕ) → block < blocks
+      → own_at counts.own.items block + count_by (is_at block) rest ≡ count_by (is_at block) all
   pub starts : counts.starts + count_by is_start rest ≡ count_by is_start all
   pub others_size : length counts.others.items ≡ blocks
-  pub others : (block : ℕ) → block < blocks → own_at counts.others.items block + count_by (is_other lacking block) rest ≡ count_by (is_other lacking block) all
+  pub others : (block : ℕ) → block < blocks
+      → own_at counts.others.items block + count_by (is_other lacking block) rest
+      ≡ count_by (is_other lacking block) all
 
 -- how many registers of each kind there are
 pub record AreCounts (homes : Homes) (blocks : ℕ) (counts : Counts) : Type 0 where
   pub own_size : length counts.own.items ≡ blocks
   pub own : (block : ℕ) → block < blocks → own_at counts.own.items block ≡ count_by (is_at block) (values homes.map)
   pub starts : counts.starts ≡ count_by is_start (values homes.map)
-  pub others : (block : ℕ) → block < blocks → own_at counts.others.items block ≡ count_by (is_other homes.lacking.items block) (values homes.map)
+  pub others : (block : ℕ) → block < blocks
+      → own_at counts.others.items block ≡ count_by (is_other homes.lacking.items block) (values homes.map)
 
 -- those that are available at the entry of a block but not given in one block alone
 abbrev pub others_of : Counts → ℕ → ℕ

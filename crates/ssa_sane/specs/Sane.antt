@@ -1,5 +1,6 @@
 -- Which registers are available, and which functions are sane.
-use Rattle.std.specs.Prelude.{◌≡◌, ◌↔◌, ◌⊎◌, ℕ, ◌+◌, ◌<◌, ◌≤◌, Bool, true, false, List, [], ◌∷◌, ◌++◌, length, take, Contains, Some, slice_get, ⊤}
+use Rattle.std.specs.Prelude.{◌≡◌, ◌↔◌, ◌⊎◌, ℕ, ◌+◌, ◌<◌, ◌≤◌, Bool, true, false, List, [], ◌∷◌, ◌++◌, length, take}
+use Rattle.std.specs.Prelude.{Contains, Some, slice_get, ⊤}
 use Rattle.std.specs.List.{flat_map, take_while}
 use Rattle.std.specs.List.Sorted.{IsStrictlyIncreasing}
 use Rattle.go_base.specs.declared.ids.BlockId.{BlockId}
@@ -43,8 +44,8 @@ is_new instr = is_new_op instr.op
 abbrev pub first_cells : Function → List ℕ
 first_cells f = given_registers (take_while is_new (instrs_at f 0))
 
--- a walk to the entry of a block, with the registers that are given on it; one from a recover block begins with the first
--- cells of block 0
+-- a walk to the entry of a block, with the registers that are given on it; one from a recover block begins with the
+-- first cells of block 0
 pub data Walk (f : Function) : ℕ → List ℕ → Type 0 where
   enters : Walk f 0 []
   recovers : (block : BlockId) → f.recover ≡ Some block → 0 < block.number → Walk f block.number (first_cells f)
@@ -54,7 +55,8 @@ pub data Walk (f : Function) : ℕ → List ℕ → Type 0 where
 -- every walk gives the register before the instruction
 abbrev pub IsAvailable : Function → ℕ → ℕ → ℕ → Type 0
 IsAvailable f block instr register =
-    (given : List ℕ) → Walk f block given → Contains (given ++ given_registers (take instr (instrs_at f block))) register
+    (given : List ℕ) → Walk f block given
+    → Contains (given ++ given_registers (take instr (instrs_at f block))) register
 
 -- the same where a block ends
 abbrev pub IsAvailableBehind : Function → ℕ → ℕ → Type 0
@@ -95,9 +97,12 @@ is_phi instr = is_phi_op instr.op
 abbrev pub HasOperands : Function → ℕ → ℕ → Op → Type 0
 HasOperands f block instr (Phi edges) =
     ArePreds f block (froms_of edges)
-    × ((before : ℕ) (other : Instr) → before < instr → slice_get (instrs_at f block) before ≡ Some other → is_phi other ≡ true)
-    × ((edge : PhiEdge) (register : ℕ) → Contains edges edge → Contains (registers_in edge.value) register → IsAvailableBehind f edge.from.number register)
-HasOperands f block instr op = (register : ℕ) → Contains (used_registers op) register → IsAvailable f block instr register
+    × ((before : ℕ) (other : Instr) → before < instr → slice_get (instrs_at f block) before ≡ Some other
+    → is_phi other ≡ true)
+    × ((edge : PhiEdge) (register : ℕ) → Contains edges edge → Contains (registers_in edge.value) register
+    → IsAvailableBehind f edge.from.number register)
+HasOperands f block instr op =
+    (register : ℕ) → Contains (used_registers op) register → IsAvailable f block instr register
 
 -- an instruction is right at its place
 pub record IsInstr (f : Function) (block instr : ℕ) (at : Instr) : Type 0 where
@@ -109,14 +114,17 @@ pub record IsInstr (f : Function) (block instr : ℕ) (at : Instr) : Type 0 wher
 pub record IsSane (f : Function) : Type 0 where
   pub recover : (block : BlockId) → f.recover ≡ Some block → block.number < length f.blocks
   pub blocks : (number : ℕ) (block : Block) → slice_get f.blocks number ≡ Some block → IsBlock f number block
-  pub instrs : (number instr : ℕ) (at : Instr) → slice_get (instrs_at f number) instr ≡ Some at → IsInstr f number instr at
+  pub instrs : (number instr : ℕ) (at : Instr) → slice_get (instrs_at f number) instr ≡ Some at
+      → IsInstr f number instr at
 
--- a place at which something is wrong. A fault of a block stands at its instruction 0, and a recover block that does not
--- exist at the function's first place
+-- a place at which something is wrong. A fault of a block stands at its instruction 0, and a recover block that does
+-- not exist at the function's first place
 pub data IsFault (f : Function) : ℕ → ℕ → Type 0 where
   no_recover : (block : BlockId) → f.recover ≡ Some block → length f.blocks ≤ block.number → IsFault f 0 0
-  at_block : (number : ℕ) (block : Block) → slice_get f.blocks number ≡ Some block → (IsBlock f number block → ⊥) → IsFault f number 0
-  at_instr : (number instr : ℕ) (at : Instr) → slice_get (instrs_at f number) instr ≡ Some at → (IsInstr f number instr at → ⊥) → IsFault f number instr
+  at_block : (number : ℕ) (block : Block) → slice_get f.blocks number ≡ Some block → (IsBlock f number block → ⊥)
+      → IsFault f number 0
+  at_instr : (number instr : ℕ) (at : Instr) → slice_get (instrs_at f number) instr ≡ Some at
+      → (IsInstr f number instr at → ⊥) → IsFault f number instr
 
 -- the first of such places, by block, then by instruction
 pub record IsFirstFault (f : Function) (block instr : ℕ) : Type 0 where
@@ -127,7 +135,8 @@ pub record IsFirstFault (f : Function) (block instr : ℕ) : Type 0 where
 pub record ListsAvailable (f : Function) (lists : List (List ℕ)) : Type 0 where
   pub counts : length lists ≡ length f.blocks
   pub ascend : (block : ℕ) (list : List ℕ) → slice_get lists block ≡ Some list → IsStrictlyIncreasing list
-  pub exact : (block : ℕ) (list : List ℕ) → slice_get lists block ≡ Some list → (register : ℕ) → Contains list register ↔ IsAvailable f block 0 register
+  pub exact : (block : ℕ) (list : List ℕ) → slice_get lists block ≡ Some list → (register : ℕ)
+      → Contains list register ↔ IsAvailable f block 0 register
 
 -- an error names the first fault; there may be no memory at any time
 abbrev pub IsInsaneAt : Function → SanityError → Type 0

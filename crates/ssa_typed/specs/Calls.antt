@@ -1,5 +1,6 @@
 -- Which types calls need.
-use Rattle.std.specs.Prelude.{ℕ, ◌==◌, Bool, true, false, ◌&&◌, ◌||◌, List, [], ◌∷◌, if◌then◌else◌, Option, Some, None, is_some}
+use Rattle.std.specs.Prelude.{ℕ, ◌==◌, Bool, true, false, ◌&&◌, ◌||◌, List, [], ◌∷◌, if◌then◌else◌, Option, Some, None}
+use Rattle.std.specs.Prelude.{is_some}
 use Rattle.std.specs.Cmp.Lexicographic.{pointwise}
 use Rattle.std.specs.List.{list_all}
 use Rattle.go_base.specs.declared.ids.NameId.{NameId}
@@ -19,7 +20,8 @@ use Rattle.ssa_ir.specs.declared.code.Function.{Function}
 use Rattle.ssa_ir.specs.declared.operands.Operand.{Operand}
 use Rattle.ssa_ir.specs.declared.ops.Call.{Call}
 use Rattle.ssa_ir.specs.declared.ops.Call.TheVariants as call
-use Rattle.ssa_typed.specs.Operands.{function_at, is_value, known, shape, held_type, is_operand, is_any_operand, pointee}
+use Rattle.ssa_typed.specs.Operands.{function_at, is_value, known, shape, held_type, is_operand, is_any_operand}
+use Rattle.ssa_typed.specs.Operands.{pointee}
 use Rattle.ssa_typed.specs.Shapes.{is_text, is_truth, is_any, is_byte, parts_of, may_send}
 use Rattle.ssa_typed.specs.declared.known.Known.{Known}
 use Rattle.ssa_typed.specs.declared.known.Known.TheVariants as known_as
@@ -46,7 +48,8 @@ gives_results types (Some results) register = gives_list types results register
 abbrev pub method_named : NameId → ℕ → List MethodType → Option TypeId
 method_named name number [] = None
 method_named name number (method ∷ methods) =
-    if (method.name.number == name.number) && (method.«package» == number) then Some method.of else method_named name number methods
+    if (method.name.number == name.number) && (method.«package» == number) then Some method.of
+    else method_named name number methods
 
 abbrev pub method_type : NameId → ℕ → Option TypeTerm → Option TypeId
 method_type name number (Some (Interface methods)) = method_named name number methods
@@ -167,7 +170,8 @@ module _ (c : Code) (f : Function) where
 
   -- those with a result of a type
   abbrev pub fits_value : Builtin → List Operand → TypeId → Bool
-  fits_value builtin.Append (slice ∷ items) of = is_operand c f slice of && appends (underlying_term_of c.types of) items
+  fits_value builtin.Append (slice ∷ items) of =
+      is_operand c f slice of && appends (underlying_term_of c.types of) items
   fits_value builtin.Cap (one ∷ []) of = same_id of (basic_id basic.Int) && has_cap one
   fits_value builtin.Len (one ∷ []) of = same_id of (basic_id basic.Int) && (has_cap one || has_own_len (shape c f one))
   fits_value builtin.Copy (to ∷ from ∷ []) of = same_id of (basic_id basic.Int) && copies_from (shape c f to) from

@@ -1,5 +1,6 @@
 -- Which types conversions need.
-use Rattle.std.specs.Prelude.{ℕ, zero, suc, ◌==◌, Bool, false, ◌&&◌, ◌||◌, if◌then◌else◌, length, Option, Some, None, is_some}
+use Rattle.std.specs.Prelude.{ℕ, zero, suc, ◌==◌, Bool, false, ◌&&◌, ◌||◌, if◌then◌else◌, length, Option, Some, None}
+use Rattle.std.specs.Prelude.{is_some}
 use Rattle.std.specs.Bool.{beq}
 use Rattle.std.specs.Cmp.Lexicographic.{pointwise}
 use denote.Enum.Bare.{sameb}
@@ -40,8 +41,8 @@ module _ (R : TypeId → TypeId → Bool) where
   like_bare_field a b =
       (a.name.number == b.name.number) && ((a.package == b.package) && (beq a.embedded b.embedded && R a.of b.of))
 
-  -- whether two terms that have parts have the same form, and parts that correspond by R; a type whose term is of another
-  -- form is like itself alone
+  -- whether two terms that have parts have the same form, and parts that correspond by R; a type whose term is of
+  -- another form is like itself alone
   abbrev pub like_bare : TypeTerm → TypeTerm → Bool
   like_bare (Pointer a) (Pointer b) = R a b
   like_bare (Slice a) (Slice b) = R a b
@@ -82,7 +83,9 @@ points_to_same types _ _ = false
 
 abbrev pub is_changed_at : Table → TypeId → TypeId → Bool
 is_changed_at types a b =
-    same_type types a b || (loses_direction (term_at types a) (term_at types b) || points_to_same types (term_at types a) (term_at types b))
+    same_type types a b
+    || (loses_direction (term_at types a) (term_at types b)
+    || points_to_same types (term_at types a) (term_at types b))
 
 -- the underlying types are identical but for tags, or a channel loses a direction, or pointers point to such types
 abbrev pub is_changed : Table → TypeId → TypeId → Bool

@@ -1,5 +1,6 @@
 -- Which types the operands and the register of an instruction need.
-use Rattle.std.specs.Prelude.{ℕ, ◌==◌, nat_le, Bool, true, false, not, ◌&&◌, ◌||◌, ◌⊎◌, List, [], ◌∷◌, length, if◌then◌else◌, Option, Some, None, is_some, IsTrue, slice_get}
+use Rattle.std.specs.Prelude.{ℕ, ◌==◌, nat_le, Bool, true, false, not, ◌&&◌, ◌||◌, ◌⊎◌, List, [], ◌∷◌, length}
+use Rattle.std.specs.Prelude.{if◌then◌else◌, Option, Some, None, is_some, IsTrue, slice_get}
 use Rattle.std.specs.Cmp.Lexicographic.{pointwise}
 use Rattle.std.specs.List.{list_all}
 use Rattle.go_base.specs.declared.ids.TypeId.{TypeId}
@@ -30,8 +31,11 @@ use Rattle.ssa_ir.specs.declared.ops.SelectCase.{SelectCase}
 use Rattle.ssa_ir.specs.declared.ops.SelectCase.TheVariants as case_
 use Rattle.ssa_typed.specs.Calls.{fits_call, fits_deferred}
 use Rattle.ssa_typed.specs.Conversions.{converts, changes}
-use Rattle.ssa_typed.specs.Operands.{function_at, is_function_type, known, held_type, shape, is_operand, is_where, is_integer_operand, is_truth_operand, is_any_operand, pointee}
-use Rattle.ssa_typed.specs.Shapes.{is_id, is_map, is_chan, is_slice, is_text, is_truth, is_interface, is_any, is_state, is_pointer_to, is_slice_of, parts_of, is_with_ok, array_elem, field_of, type_of_field, sent_elem, received_elem}
+use Rattle.ssa_typed.specs.Operands.{function_at, is_function_type, known, held_type, shape, is_operand, is_where}
+use Rattle.ssa_typed.specs.Operands.{is_integer_operand, is_truth_operand, is_any_operand, pointee}
+use Rattle.ssa_typed.specs.Shapes.{is_id, is_map, is_chan, is_slice, is_text, is_truth, is_interface, is_any, is_state}
+use Rattle.ssa_typed.specs.Shapes.{is_pointer_to, is_slice_of, parts_of, is_with_ok, array_elem, field_of}
+use Rattle.ssa_typed.specs.Shapes.{type_of_field, sent_elem, received_elem}
 use Rattle.ssa_typed.specs.declared.known.Known.{Known}
 use Rattle.ssa_typed.specs.declared.known.Known.TheVariants as known_as
 
@@ -93,7 +97,8 @@ abbrev pub is_same_address : Option Known → Option Known → Bool
 is_same_address (Some (known_as.Address a)) (Some (known_as.Address b)) = same_id a b
 is_same_address _ _ = false
 
--- values of one type are compared: by `==` and `!=` those of comparable types, and any with `nil`; else integers and strings
+-- values of one type are compared: by `==` and `!=` those of comparable types, and any with `nil`; else integers and
+-- strings
 abbrev pub ComparesAs : Table → CompareOp → Operand → Operand → TypeId → Type 0
 ComparesAs types compare.Equal left right of = IsTrue (is_nil left || is_nil right) ⊎ Comparable types of
 ComparesAs types compare.NotEqual left right of = IsTrue (is_nil left || is_nil right) ⊎ Comparable types of
@@ -106,13 +111,16 @@ module _ (c : Code) (f : Function) where
       else is_taken c.types operator of && (is_operand c f left of && is_operand c f right of)
 
   abbrev pub ComparesOf : CompareOp → Operand → Operand → Option TypeId → Type 0
-  ComparesOf operator left right None = IsTrue (is_equality operator && is_same_address (known c f left) (known c f right))
-  ComparesOf operator left right (Some of) = IsTrue (is_operand c f left of && is_operand c f right of) × ComparesAs c.types operator left right of
+  ComparesOf operator left right None =
+      IsTrue (is_equality operator && is_same_address (known c f left) (known c f right))
+  ComparesOf operator left right (Some of) =
+      IsTrue (is_operand c f left of && is_operand c f right of) × ComparesAs c.types operator left right of
 
   abbrev pub FitsBinary : Infix → Operand → Operand → TypeId → Type 0
   FitsBinary (Operate operator) left right of = IsTrue (operates operator left right of)
   FitsBinary (Compare operator) left right of =
-      IsTrue (is_truth (underlying_term_of c.types of)) × ComparesOf operator left right (common_type (known c f left) (known c f right))
+      IsTrue (is_truth (underlying_term_of c.types of))
+      × ComparesOf operator left right (common_type (known c f left) (known c f right))
 
 -- ---- fields and elements
 
@@ -122,7 +130,8 @@ has_field _ field of = false
 
 abbrev pub has_field_address : Table → Option TypeId → ℕ → TypeId → Bool
 has_field_address types None field of = false
-has_field_address types (Some base) field of = is_pointer_where (term_at types of) (field_of field (underlying_term_of types base))
+has_field_address types (Some base) field of =
+    is_pointer_where (term_at types of) (field_of field (underlying_term_of types base))
 
 abbrev pub has_elem : Option TypeTerm → TypeId → Bool
 has_elem (Some (Array len elem)) of = same_id elem of
@@ -162,7 +171,8 @@ module _ (c : Code) (f : Function) where
 abbrev pub closes : Code → Function → Option Function → List Operand → TypeId → Bool
 closes c f None captured of = false
 closes c f (Some function) captured of =
-    not (length captured == 0) && (pointwise (is_operand c f) captured function.free && is_function_type (term_at c.types of) (Some function))
+    not (length captured == 0)
+    && (pointwise (is_operand c f) captured function.free && is_function_type (term_at c.types of) (Some function))
 
 -- ---- interfaces
 
@@ -170,7 +180,8 @@ closes c f (Some function) captured of =
 abbrev pub Boxes : Table → Option Known → TypeId → Type 0
 Boxes types None to = ⊥
 Boxes types (Some (known_as.Held of)) to =
-    IsTrue (not (is_interface (underlying_term_of types of)) && not (is_state (underlying_term_of types of))) × Implements types of to
+    IsTrue (not (is_interface (underlying_term_of types of)) && not (is_state (underlying_term_of types of)))
+    × Implements types of to
 Boxes types (Some _) to = IsTrue (is_any (underlying_term_of types to))
 
 -- an interface becomes one of no more methods
@@ -182,7 +193,8 @@ Widens types (Some of) to = IsTrue (is_interface (underlying_term_of types of)) 
 abbrev pub Asserts : Table → Option TypeId → TypeId → Type 0
 Asserts types None to = ⊥
 Asserts types (Some of) to =
-    IsTrue (is_interface (underlying_term_of types of)) × (IsTrue (is_interface (underlying_term_of types to)) ⊎ Implements types to of)
+    IsTrue (is_interface (underlying_term_of types of))
+    × (IsTrue (is_interface (underlying_term_of types to)) ⊎ Implements types to of)
 
 -- ---- select
 
@@ -195,14 +207,17 @@ module _ (c : Code) (f : Function) where
   abbrev pub takes_cases : List SelectCase → List TypeId → Bool
   takes_cases [] [] = true
   takes_cases [] (of ∷ rest) = false
-  takes_cases (case_.Send channel item ∷ cases) received = is_where c f item (sent_elem (shape c f channel)) && takes_cases cases received
+  takes_cases (case_.Send channel item ∷ cases) received =
+      is_where c f item (sent_elem (shape c f channel)) && takes_cases cases received
   takes_cases (case_.Receive channel ∷ cases) [] = false
-  takes_cases (case_.Receive channel ∷ cases) (of ∷ rest) = is_id (received_elem (shape c f channel)) of && takes_cases cases rest
+  takes_cases (case_.Receive channel ∷ cases) (of ∷ rest) =
+      is_id (received_elem (shape c f channel)) of && takes_cases cases rest
 
   -- the index, whether a value came, and the values received
   abbrev pub selects : List SelectCase → Option (List TypeId) → Bool
   selects cases (Some (index ∷ ok ∷ rest)) =
-      same_id index (basic_id basic.Int) && (same_id ok (basic_id basic.Bool) && (nat_le (length cases) 4294967295 && takes_cases cases rest))
+      same_id index (basic_id basic.Int)
+      && (same_id ok (basic_id basic.Bool) && (nat_le (length cases) 4294967295 && takes_cases cases rest))
   selects cases _ = false
 
 -- ---- ranges
@@ -220,7 +235,8 @@ is_iter_of c f _ ranged = false
 -- the key and the value of an entry, or the place of a character and the character
 abbrev pub has_items : Option TypeTerm → TypeId → TypeId → Bool
 has_items (Some (Map key elem)) first second = same_id key first && same_id elem second
-has_items (Some (Plain basic.Text)) first second = same_id first (basic_id basic.Int) && same_id second (basic_id basic.Int32)
+has_items (Some (Plain basic.Text)) first second =
+    same_id first (basic_id basic.Int) && same_id second (basic_id basic.Int32)
 has_items _ first second = false
 
 -- whether there is more, the key, and the value
@@ -273,16 +289,20 @@ module _ (c : Code) (f : Function) where
   fits_giving (op.FieldAddress operand field) of = has_field_address c.types (pointee c f operand) field of
   fits_giving (op.Index operand index) of = has_elem (shape c f operand) of && is_integer_operand c f index
   fits_giving (op.IndexAddress operand index) of =
-      is_integer_operand c f index && is_pointer_where (term_at c.types of) (elem_below c.types (shape c f operand) (pointee c f operand))
+      is_integer_operand c f index
+      && is_pointer_where (term_at c.types of) (elem_below c.types (shape c f operand) (pointee c f operand))
   fits_giving (op.Lookup map key comma_ok) of = looks_up c f (shape c f map) key comma_ok of
-  fits_giving (op.Slice operand low high max) of = are_bounds c f low high max && slices c f (shape c f operand) operand (is_some max) of
+  fits_giving (op.Slice operand low high max) of =
+      are_bounds c f low high max && slices c f (shape c f operand) operand (is_some max) of
   fits_giving (op.Convert to operand) of = same_id to of && converts c.types (held_type (known c f operand)) of
   fits_giving (op.ChangeType to operand) of = same_id to of && changes c (known c f operand) of
   fits_giving (op.MakeClosure function captured) of = closes c f (function_at c function) captured of
   fits_giving (op.MakeMap made) of = same_id made of && is_map (underlying_term_of c.types of)
-  fits_giving (op.MakeChan made size) of = same_id made of && (is_chan (underlying_term_of c.types of) && is_integer_operand c f size)
+  fits_giving (op.MakeChan made size) of =
+      same_id made of && (is_chan (underlying_term_of c.types of) && is_integer_operand c f size)
   fits_giving (op.MakeSlice made len cap) of =
-      same_id made of && (is_slice (underlying_term_of c.types of) && (is_integer_operand c f len && is_integer_operand c f cap))
+      same_id made of
+      && (is_slice (underlying_term_of c.types of) && (is_integer_operand c f len && is_integer_operand c f cap))
   fits_giving (op.Call call) of = fits_call c f call (Some of)
   fits_giving (op.Receive channel comma_ok) of = gives_received c.types of comma_ok (received_elem (shape c f channel))
   fits_giving (op.Select blocking cases) of = selects c f cases (parts_of (term_at c.types of))
@@ -295,7 +315,8 @@ module _ (c : Code) (f : Function) where
   unfoldable pub FitsGiving : Op → TypeId → Type 0
   FitsGiving (op.Binary operator left right) of = FitsBinary c f operator left right of
   FitsGiving (op.MakeInterface to operand) of = IsTrue (same_id to of) × Boxes c.types (known c f operand) of
-  FitsGiving (op.ChangeInterface to operand) of = IsTrue (same_id to of) × Widens c.types (held_type (known c f operand)) of
+  FitsGiving (op.ChangeInterface to operand) of =
+      IsTrue (same_id to of) × Widens c.types (held_type (known c f operand)) of
   FitsGiving (op.TypeAssert operand to comma_ok) of =
       Asserts c.types (held_type (known c f operand)) to × IsTrue (gives c.types of to comma_ok)
   FitsGiving other of = IsTrue (fits_giving other of)

@@ -1,5 +1,6 @@
 -- The types of operands.
-use Rattle.std.specs.Prelude.{ℕ, ◌==◌, Bool, false, ◌&&◌, List, length, Option, Some, None, if◌then◌else◌, is_some, slice_get}
+use Rattle.std.specs.Prelude.{ℕ, ◌==◌, Bool, false, ◌&&◌, List, length, Option, Some, None, if◌then◌else◌, is_some}
+use Rattle.std.specs.Prelude.{slice_get}
 use Rattle.std.specs.Bool.{beq}
 use Rattle.go_base.specs.declared.ids.FuncId.{FuncId}
 use Rattle.go_base.specs.declared.ids.TypeId.{TypeId}
@@ -32,7 +33,8 @@ function_at c id = slice_get c.functions id.number
 
 abbrev pub is_signature : Signature → Function → Bool
 is_signature signature function =
-    same_ids signature.params function.params && (same_ids signature.results function.results && beq signature.variadic function.variadic)
+    same_ids signature.params function.params
+    && (same_ids signature.results function.results && beq signature.variadic function.variadic)
 
 -- a function type is that of a function
 abbrev pub is_function_type : Option TypeTerm → Option Function → Bool

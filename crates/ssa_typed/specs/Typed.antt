@@ -1,6 +1,7 @@
--- Typed code: each instruction has operands and a register of the types that it needs. The first line of a function counts as
--- instruction 0 of its block 0.
-use Rattle.std.specs.Prelude.{◌≡◌, ℕ, ◌-◌, ◌==◌, ◌<◌, nat_eq, Bool, true, false, not, ◌&&◌, ◌||◌, List, ◌++◌, length, take, Option, Some, None, is_some, IsTrue, slice_get}
+-- Typed code: each instruction has operands and a register of the types that it needs. The first line of a function
+-- counts as instruction 0 of its block 0.
+use Rattle.std.specs.Prelude.{◌≡◌, ℕ, ◌-◌, ◌==◌, ◌<◌, nat_eq, Bool, true, false, not, ◌&&◌, ◌||◌, List, ◌++◌, length}
+use Rattle.std.specs.Prelude.{take, Option, Some, None, is_some, IsTrue, slice_get}
 use Rattle.std.specs.Bool.{beq}
 use Rattle.std.specs.List.{flat_map, list_all, list_any}
 use Rattle.go_base.specs.declared.ids.TypeId.{TypeId}
@@ -45,7 +46,8 @@ has_rest types variadic params = not variadic || is_slice (term_where types (sli
 abbrev pub is_bare : Function → Bool
 is_bare f = (length f.params == 0) && ((length f.free == 0) && (length f.results == 0))
 
--- external functions alone have no blocks, and the initialisation of a package has no parameters, free variables and results
+-- external functions alone have no blocks, and the initialisation of a package has no parameters, free variables and
+-- results
 abbrev pub fits_kind : Function → Bool
 fits_kind f = beq (is_external f.kind) (length f.blocks == 0) && (not (is_init f.kind) || is_bare f)
 
@@ -82,7 +84,8 @@ IsTypedInstr c f given instr = IsTrue (is_allowed f instr.op) × FitsRegister c 
 -- the instruction at an index is typed, where there is one
 abbrev pub IsTypedIn : Code → Function → List ℕ → List Instr → ℕ → Type 0
 IsTypedIn c f given instrs index =
-    (instr : Instr) → slice_get instrs index ≡ Some instr → IsTypedInstr c f (given ++ given_registers (take index instrs)) instr
+    (instr : Instr) → slice_get instrs index ≡ Some instr
+    → IsTypedInstr c f (given ++ given_registers (take index instrs)) instr
 
 -- the registers that blocks give
 abbrev pub given_in : List Block → List ℕ

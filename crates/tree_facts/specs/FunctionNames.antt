@@ -1,5 +1,6 @@
 -- What functions are called, and which are part of the program.
-use Rattle.std.specs.Prelude.{ℕ, zero, suc, ◌+◌, nat_lt, ◌==◌, Bool, true, false, ◌&&◌, ◌||◌, not, List, [], ◌++◌, codes, slice_get, take, count_by, decimal, Option, Some, None, length}
+use Rattle.std.specs.Prelude.{ℕ, zero, suc, ◌+◌, nat_lt, ◌==◌, Bool, true, false, ◌&&◌, ◌||◌, not, List, [], ◌++◌}
+use Rattle.std.specs.Prelude.{codes, slice_get, take, count_by, decimal, Option, Some, None, length}
 use Rattle.std.specs.Str.{bytes_eq}
 use Rattle.go_base.specs.declared.place.Pos.{Pos}
 use Rattle.go_tree.specs.declared.functions.FunctionDecl.{FunctionDecl}
@@ -51,7 +52,8 @@ init_number functions function package_number = count_by (is_init_of package_num
 abbrev pub plain_name : Naming → List FunctionDecl → ℕ → FunctionDecl → FunctionForm → List ℕ
 plain_name n functions function declared form.Function = name_text n.names declared.name
 plain_name n functions function declared form.Method = name_text n.names declared.name
-plain_name n functions function declared form.Init = codes "init#" ++ decimal (init_number functions function declared.«package»)
+plain_name n functions function declared form.Init =
+    codes "init#" ++ decimal (init_number functions function declared.«package»)
 plain_name n functions function declared form.PackageInit = codes "init"
 plain_name n functions function declared (form.Literal within) = name_text n.names declared.name
 
@@ -69,16 +71,19 @@ outer_text n functions function declared = front_of n declared ++ plain_name n f
 -- a function that stands in the one of a number if it is a literal, where `around` tells what that is called
 abbrev pub text_within : Naming → List FunctionDecl → (ℕ → List ℕ) → ℕ → FunctionDecl → Option ℕ → List ℕ
 text_within n functions around function declared None = outer_text n functions function declared
-text_within n functions around function declared (Some within) = around within ++ (codes "$" ++ decimal (literal_number functions within declared.at))
+text_within n functions around function declared (Some within) =
+    around within ++ (codes "$" ++ decimal (literal_number functions within declared.at))
 
 abbrev pub text_of_function : Naming → List FunctionDecl → (ℕ → List ℕ) → ℕ → Option FunctionDecl → List ℕ
 text_of_function n functions around function None = []
-text_of_function n functions around function (Some declared) = text_within n functions around function declared (within_of declared.form)
+text_of_function n functions around function (Some declared) =
+    text_within n functions around function declared (within_of declared.form)
 
 -- what a function is called, down to a depth of literals in literals
 unfoldable pub name_to : ℕ → Naming → List FunctionDecl → ℕ → List ℕ
 name_to zero n functions function = []
-name_to (suc depth) n functions function = text_of_function n functions (name_to depth n functions) function (slice_get functions function)
+name_to (suc depth) n functions function =
+    text_of_function n functions (name_to depth n functions) function (slice_get functions function)
 
 -- what a function is called: literals are nested less deep than there are functions
 abbrev pub function_text : Naming → List FunctionDecl → ℕ → List ℕ
@@ -98,4 +103,5 @@ is_part_or_none names around (Some declared) = is_named_part names around declar
 
 unfoldable pub is_part_to : ℕ → List (List ℕ) → List FunctionDecl → ℕ → Bool
 is_part_to zero names functions function = false
-is_part_to (suc depth) names functions function = is_part_or_none names (is_part_to depth names functions) (slice_get functions function)
+is_part_to (suc depth) names functions function =
+    is_part_or_none names (is_part_to depth names functions) (slice_get functions function)

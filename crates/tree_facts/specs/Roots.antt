@@ -13,10 +13,11 @@ use Rattle.go_tree.specs.declared.exprs.ItemInit.{ItemInit}
 use Rattle.go_tree.specs.declared.exprs.TypedExpr.{TypedExpr}
 use Rattle.go_tree.specs.declared.exprs.Values.{Values}
 use Rattle.go_tree.specs.declared.exprs.Callee.TheOpen as layers
-use Rattle.go_tree.specs.declared.exprs.Callee.TheFolds.{fold-Callee, fold-Elements, fold-ExprKind, fold-Values, fold-EntryInit, fold-FieldInit, fold-ItemInit, fold-TypedExpr}
+use Rattle.go_tree.specs.declared.exprs.Callee.TheFolds.{fold-Callee, fold-Elements, fold-ExprKind, fold-Values}
+use Rattle.go_tree.specs.declared.exprs.Callee.TheFolds.{fold-EntryInit, fold-FieldInit, fold-ItemInit, fold-TypedExpr}
 
--- an expression: the variable that it is or of which it is a part, the variable of which it is a part and not the whole,
--- and the variables whose address, or that of a part, is taken in it
+-- an expression: the variable that it is or of which it is a part, the variable of which it is a part and not the
+-- whole, and the variables whose address, or that of a part, is taken in it
 pub record Rooted : Type 0 where
   pub root : Option VarId
   pub part : Option VarId
@@ -51,23 +52,31 @@ joined xs = flat_map (λ (x : List VarId). x) xs
 
 -- ---- one layer of each tree, where what is below it is seen already
 
-abbrev pub callee_layer : layers.Callee-F (List VarId) (List VarId) Rooted (List VarId) (List VarId) (List VarId) (List VarId) Rooted → List VarId
+abbrev pub callee_layer :
+    layers.Callee-F (List VarId) (List VarId) Rooted (List VarId) (List VarId) (List VarId) (List VarId) Rooted
+    → List VarId
 callee_layer (layers.Callee-F.Function function) = []
 callee_layer (layers.Callee-F.Literal function) = []
 callee_layer (layers.Callee-F.Method receiver function) = receiver.value.taken
 callee_layer (layers.Callee-F.Interface receiver name package_number) = receiver.value.taken
 callee_layer (layers.Callee-F.Value value) = value.value.taken
 
-abbrev pub values_layer : layers.Values-F (List VarId) (List VarId) Rooted (List VarId) (List VarId) (List VarId) (List VarId) Rooted → List VarId
+abbrev pub values_layer :
+    layers.Values-F (List VarId) (List VarId) Rooted (List VarId) (List VarId) (List VarId) (List VarId) Rooted
+    → List VarId
 values_layer (layers.Values-F.Each exprs) = taken_in exprs.items
 values_layer (layers.Values-F.Spread tuple parts) = tuple.value.taken ++ taken_in parts.items
 
-abbrev pub elements_layer : layers.Elements-F (List VarId) (List VarId) Rooted (List VarId) (List VarId) (List VarId) (List VarId) Rooted → List VarId
+abbrev pub elements_layer :
+    layers.Elements-F (List VarId) (List VarId) Rooted (List VarId) (List VarId) (List VarId) (List VarId) Rooted
+    → List VarId
 elements_layer (layers.Elements-F.Fields fields) = joined fields.items
 elements_layer (layers.Elements-F.Items items len) = joined items.items
 elements_layer (layers.Elements-F.Entries entries) = joined entries.items
 
-abbrev pub kind_layer : layers.ExprKind-F (List VarId) (List VarId) Rooted (List VarId) (List VarId) (List VarId) (List VarId) Rooted → Rooted
+abbrev pub kind_layer :
+    layers.ExprKind-F (List VarId) (List VarId) Rooted (List VarId) (List VarId) (List VarId) (List VarId) Rooted
+    → Rooted
 kind_layer (layers.ExprKind-F.ConstOf value) = apart []
 kind_layer (layers.ExprKind-F.NilOf) = apart []
 kind_layer (layers.ExprKind-F.VarOf variable) = record { root = Some variable; part = None; taken = [] }
@@ -76,9 +85,11 @@ kind_layer (layers.ExprKind-F.LiteralOf function) = apart []
 kind_layer (layers.ExprKind-F.MethodValue receiver method) = apart receiver.value.taken
 kind_layer (layers.ExprKind-F.MethodExpr receiver name package_number) = apart []
 kind_layer (layers.ExprKind-F.FieldOf operand field) = part_of operand.value operand.value.taken
-kind_layer (layers.ExprKind-F.IndexOf base operand index) = element_of base operand.value (operand.value.taken ++ index.value.taken)
+kind_layer (layers.ExprKind-F.IndexOf base operand index) =
+    element_of base operand.value (operand.value.taken ++ index.value.taken)
 kind_layer (layers.ExprKind-F.MapIndex table key comma_ok) = apart (table.value.taken ++ key.value.taken)
-kind_layer (layers.ExprKind-F.SliceOf base operand low high max) = apart (operand.value.taken ++ (taken_if low ++ (taken_if high ++ taken_if max)))
+kind_layer (layers.ExprKind-F.SliceOf base operand low high max) =
+    apart (operand.value.taken ++ (taken_if low ++ (taken_if high ++ taken_if max)))
 kind_layer (layers.ExprKind-F.Deref operand) = apart operand.value.taken
 kind_layer (layers.ExprKind-F.AddressOf operand) = apart (listed operand.value.root ++ operand.value.taken)
 kind_layer (layers.ExprKind-F.UnaryOf op operand) = apart operand.value.taken
@@ -95,43 +106,67 @@ kind_layer (layers.ExprKind-F.AssertTo operand to comma_ok) = apart operand.valu
 kind_layer (layers.ExprKind-F.CompositeOf elements) = apart elements
 kind_layer (layers.ExprKind-F.PartOf part) = apart []
 
-abbrev pub entry_layer : layers.EntryInit-F (List VarId) (List VarId) Rooted (List VarId) (List VarId) (List VarId) (List VarId) Rooted → List VarId
+abbrev pub entry_layer :
+    layers.EntryInit-F (List VarId) (List VarId) Rooted (List VarId) (List VarId) (List VarId) (List VarId) Rooted
+    → List VarId
 entry_layer x = x.key.taken ++ x.value.taken
 
-abbrev pub field_layer : layers.FieldInit-F (List VarId) (List VarId) Rooted (List VarId) (List VarId) (List VarId) (List VarId) Rooted → List VarId
+abbrev pub field_layer :
+    layers.FieldInit-F (List VarId) (List VarId) Rooted (List VarId) (List VarId) (List VarId) (List VarId) Rooted
+    → List VarId
 field_layer x = x.value.taken
 
-abbrev pub item_layer : layers.ItemInit-F (List VarId) (List VarId) Rooted (List VarId) (List VarId) (List VarId) (List VarId) Rooted → List VarId
+abbrev pub item_layer :
+    layers.ItemInit-F (List VarId) (List VarId) Rooted (List VarId) (List VarId) (List VarId) (List VarId) Rooted
+    → List VarId
 item_layer x = x.value.taken
 
-abbrev pub expr_layer : layers.TypedExpr-F (List VarId) (List VarId) Rooted (List VarId) (List VarId) (List VarId) (List VarId) Rooted → Rooted
+abbrev pub expr_layer :
+    layers.TypedExpr-F (List VarId) (List VarId) Rooted (List VarId) (List VarId) (List VarId) (List VarId) Rooted
+    → Rooted
 expr_layer x = x.kind
 
 -- ---- whole trees
 
 unfoldable pub taken_callee : Callee → List VarId
-taken_callee = fold-Callee (List VarId) (List VarId) Rooted (List VarId) (List VarId) (List VarId) (List VarId) Rooted callee_layer elements_layer kind_layer values_layer entry_layer field_layer item_layer expr_layer
+taken_callee =
+    fold-Callee (List VarId) (List VarId) Rooted (List VarId) (List VarId) (List VarId) (List VarId) Rooted callee_layer
+    elements_layer kind_layer values_layer entry_layer field_layer item_layer expr_layer
 
 unfoldable pub taken_elements : Elements → List VarId
-taken_elements = fold-Elements (List VarId) (List VarId) Rooted (List VarId) (List VarId) (List VarId) (List VarId) Rooted callee_layer elements_layer kind_layer values_layer entry_layer field_layer item_layer expr_layer
+taken_elements =
+    fold-Elements (List VarId) (List VarId) Rooted (List VarId) (List VarId) (List VarId) (List VarId) Rooted
+    callee_layer elements_layer kind_layer values_layer entry_layer field_layer item_layer expr_layer
 
 unfoldable pub rooted_kind : ExprKind → Rooted
-rooted_kind = fold-ExprKind (List VarId) (List VarId) Rooted (List VarId) (List VarId) (List VarId) (List VarId) Rooted callee_layer elements_layer kind_layer values_layer entry_layer field_layer item_layer expr_layer
+rooted_kind =
+    fold-ExprKind (List VarId) (List VarId) Rooted (List VarId) (List VarId) (List VarId) (List VarId) Rooted
+    callee_layer elements_layer kind_layer values_layer entry_layer field_layer item_layer expr_layer
 
 unfoldable pub taken_values : Values → List VarId
-taken_values = fold-Values (List VarId) (List VarId) Rooted (List VarId) (List VarId) (List VarId) (List VarId) Rooted callee_layer elements_layer kind_layer values_layer entry_layer field_layer item_layer expr_layer
+taken_values =
+    fold-Values (List VarId) (List VarId) Rooted (List VarId) (List VarId) (List VarId) (List VarId) Rooted callee_layer
+    elements_layer kind_layer values_layer entry_layer field_layer item_layer expr_layer
 
 unfoldable pub taken_entry : EntryInit → List VarId
-taken_entry = fold-EntryInit (List VarId) (List VarId) Rooted (List VarId) (List VarId) (List VarId) (List VarId) Rooted callee_layer elements_layer kind_layer values_layer entry_layer field_layer item_layer expr_layer
+taken_entry =
+    fold-EntryInit (List VarId) (List VarId) Rooted (List VarId) (List VarId) (List VarId) (List VarId) Rooted
+    callee_layer elements_layer kind_layer values_layer entry_layer field_layer item_layer expr_layer
 
 unfoldable pub taken_field : FieldInit → List VarId
-taken_field = fold-FieldInit (List VarId) (List VarId) Rooted (List VarId) (List VarId) (List VarId) (List VarId) Rooted callee_layer elements_layer kind_layer values_layer entry_layer field_layer item_layer expr_layer
+taken_field =
+    fold-FieldInit (List VarId) (List VarId) Rooted (List VarId) (List VarId) (List VarId) (List VarId) Rooted
+    callee_layer elements_layer kind_layer values_layer entry_layer field_layer item_layer expr_layer
 
 unfoldable pub taken_item : ItemInit → List VarId
-taken_item = fold-ItemInit (List VarId) (List VarId) Rooted (List VarId) (List VarId) (List VarId) (List VarId) Rooted callee_layer elements_layer kind_layer values_layer entry_layer field_layer item_layer expr_layer
+taken_item =
+    fold-ItemInit (List VarId) (List VarId) Rooted (List VarId) (List VarId) (List VarId) (List VarId) Rooted
+    callee_layer elements_layer kind_layer values_layer entry_layer field_layer item_layer expr_layer
 
 unfoldable pub rooted : TypedExpr → Rooted
-rooted = fold-TypedExpr (List VarId) (List VarId) Rooted (List VarId) (List VarId) (List VarId) (List VarId) Rooted callee_layer elements_layer kind_layer values_layer entry_layer field_layer item_layer expr_layer
+rooted =
+    fold-TypedExpr (List VarId) (List VarId) Rooted (List VarId) (List VarId) (List VarId) (List VarId) Rooted
+    callee_layer elements_layer kind_layer values_layer entry_layer field_layer item_layer expr_layer
 
 -- the variables whose address, or that of a part, is taken in an expression
 abbrev pub taken : TypedExpr → List VarId

@@ -25,4 +25,5 @@ added (Some v) list = []
 
 -- the search behind the variables of a list
 unfoldable pub searched : Search → List VarId → Search
-searched s list = record { wanted = s.wanted; is_met = s.is_met || is_found s.wanted list; met = s.met ++ added s.wanted list }
+searched s list =
+    record { wanted = s.wanted; is_met = s.is_met || is_found s.wanted list; met = s.met ++ added s.wanted list }

@@ -1,5 +1,5 @@
--- When two types are identical but for the tags of fields. Go specification, "Type identity", and "Conversions": "ignoring
--- struct tags".
+-- When two types are identical but for the tags of fields. Go specification, "Type identity", and "Conversions":
+-- "ignoring struct tags".
 use Rattle.std.specs.Prelude.{ℕ, zero, suc, Bool, ◌||◌, [], map, Option, option_map, IsTrue}
 use Rattle.go_base.specs.declared.ids.TypeId.{TypeId}
 use Rattle.go_type.specs.declared.term.Field.{Field}

@@ -5,19 +5,22 @@ use Rattle.go_type.specs.declared.term.Field.{Field}
 use Rattle.go_type.specs.declared.term.MethodType.{MethodType}
 use Rattle.go_type.specs.declared.term.Signature.{Signature}
 use Rattle.go_type.specs.declared.term.TypeTerm.{TypeTerm}
-use Rattle.go_type.specs.declared.term.TypeTerm.TheVariants.{Basic as Plain, Declared, Pointer, Slice, Array, Map, Chan, Func, Struct, Interface, Tuple, Iter}
+use Rattle.go_type.specs.declared.term.TypeTerm.TheVariants.{Basic as Plain, Declared, Pointer, Slice, Array, Map}
+use Rattle.go_type.specs.declared.term.TypeTerm.TheVariants.{Chan, Func, Struct, Interface, Tuple, Iter}
 use Rattle.go_type.specs.Table.{Table, term_at, definition_at}
 
 -- ---- terms: what f gives of their parts stands for these, and fields have no tags
 
 abbrev pub bare_field : (TypeId → TypeId) → Field → Field
-bare_field f field = record { name = field.name; «package» = field.package; of = f field.of; embedded = field.embedded; tag = [] }
+bare_field f field =
+    record { name = field.name; «package» = field.package; of = f field.of; embedded = field.embedded; tag = [] }
 
 abbrev pub bare_method : (TypeId → TypeId) → MethodType → MethodType
 bare_method f method = record { name = method.name; «package» = method.package; of = f method.of }
 
 abbrev pub stripped_signature : (TypeId → TypeId) → Signature → Signature
-stripped_signature f signature = record { params = map f signature.params; results = map f signature.results; variadic = signature.variadic }
+stripped_signature f signature =
+    record { params = map f signature.params; results = map f signature.results; variadic = signature.variadic }
 
 abbrev pub stripped : (TypeId → TypeId) → TypeTerm → TypeTerm
 stripped f (Plain kind) = Plain kind
@@ -41,7 +44,8 @@ bare_of bares id = unwrap_or (slice_get bares id.number) id
 
 -- a type whose term is the stripped one. As each term is held once, that of a declared or basic type is the type itself
 abbrev pub IsBareOf : Table → List TypeId → TypeId → TypeId → Type 0
-IsBareOf types bares id bare = (term : TypeTerm) → term_at types id ≡ Some term → term_at types bare ≡ Some (stripped (bare_of bares) term)
+IsBareOf types bares id bare =
+    (term : TypeTerm) → term_at types id ≡ Some term → term_at types bare ≡ Some (stripped (bare_of bares) term)
 
 pub record AreBare (bares : List TypeId) (types : Table) : Type 0 where
   pub count : length bares ≤ length types.terms
