@@ -1,3 +1,4 @@
 pub mod Tokens
 pub mod Parts
 pub mod Roles
+pub mod Fields

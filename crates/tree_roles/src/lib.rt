@@ -5,8 +5,10 @@
 mod decls;
 mod exprs;
 mod files;
+mod laws;
 mod stmts;
 mod tokens;
 mod types;
 
 pub use files::has_roles;
+pub use laws::one_tree_of_view;
