@@ -67,9 +67,15 @@ fn limits_nesting(rt: HostRuntime) -> Result<(), Fail> {
     assert_eq!(rt; code, 0);
     let declared = chain(&rt, 1_000, "\nfunc main() {}\n")?;
     let (_, err) = check(&rt, &declared)?;
-    assert_eq!(rt; err.bytes(), b"x.go:1002:11: type too large (N11)\n");
+    assert_eq!(rt;
+        err.bytes(),
+        b"x.go:1002:11: type too large (N11)\n".as_slice()
+    );
     let local = chain(&rt, 999, "\nfunc main() { var x [1]t998; _ = x }\n")?;
     let (_, err) = check(&rt, &local)?;
-    assert_eq!(rt; err.bytes(), b"x.go:1003:21: type too large (N11)\n");
+    assert_eq!(rt;
+        err.bytes(),
+        b"x.go:1003:21: type too large (N11)\n".as_slice()
+    );
     Ok(())
 }
