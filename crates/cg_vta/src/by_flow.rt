@@ -1,13 +1,27 @@
 //! The call graph by flows of values.
 
-use crate::asks::Asks;
-use crate::called::called_groups;
-use crate::facts::facts_of;
-use crate::passing::Passing;
-use cg_nodes::Node;
-use cg_numbers::{Site, Sites, sites_of};
-use cg_sets::{Answers, Edges, answers_of, edges_of};
-use cg_solve::Table;
+ghost use Rattle.std.specs.Prelude.{◌≡◌, ◌↔◌, List, IfOk};
+ghost use Rattle.std.specs.List.{Contains};
+ghost use Rattle.std.specs.List.Sorted.{IsStrictlySortedBy};
+ghost use Rattle.cg_sets.specs.Answering.{AreAnswers};
+ghost use Rattle.cg_sets.specs.Candidates.{AreTypesOf};
+ghost use Rattle.cg_sets.specs.InOrder.{edge_cmp};
+ghost use Rattle.cg_sets.specs.Rules.{AreSeeds, AreSites};
+ghost use Rattle.cg_sets.specs.declared.edges.Edge.{Edge};
+ghost use Rattle.cg_solve.specs.Tables.{row};
+ghost use Rattle.cg_vta.specs.Choosing.{AreBound};
+ghost use Rattle.cg_vta.specs.Flows.{IsVtaEdge};
+ghost use Rattle.cg_vta.specs.Passing.{AreFlows};
+ghost use Rattle.go_base.specs.declared.ids.TypeId.{TypeId};
+ghost use Rattle.go_tree.specs.declared.program.Program.{Program};
+ghost use Rattle.go_type.specs.Table.{Table};
+
+use crate::asks::asked_edges;
+use crate::called::{bound_groups, called_groups};
+use crate::facts::{facts_of, starts_of};
+use crate::passing::flows_of;
+use cg_numbers::{Sites, sites_of};
+use cg_sets::{Answers, Edges, answers_of};
 use go_base::{NoMemory, TypeId};
 use go_tree::Program;
 use std::alloc::Global;
@@ -15,41 +29,38 @@ use std::alloc::Global;
 /// The calls of values that flow to where they are called: a call of an interface's method calls that of each class that is in
 /// its operand's node and implements the interface, and a call of a function value what each function value in its node stands
 /// for.
-pub fn vta(alloc: Global, program: &Program) -> Result<Edges, NoMemory> {
+pub fn vta(alloc: Global, program: &Program) -> Result<Edges, NoMemory>
+    ensures exact { IfOk result (λ edges. (types : Table) × (bares : List TypeId) × AreTypesOf program.now types bares × ((e : Edge) → Contains edges e ↔ IsVtaEdge program.now types bares e)) }
+    ensures ascending { IfOk result (IsStrictlySortedBy edge_cmp) }
+{
     let mut met = sites_of(alloc, program)?;
+    let bound = bound_groups(alloc, &mut met.numbers)?;
     let all = answers_of(alloc, program, &mut met.numbers)?;
-    let asks = asks_of(alloc, program.error_string, &mut met, &all)?;
-    asked_edges(alloc, met.sites.as_slice(), asks)
+    edges_by_flow(alloc, program.error_string, met, bound, &all)
 }
 
-/// What groups that are chosen from ask, and the values in their nodes.
-fn asks_of(alloc: Global, fault: TypeId, met: &mut Sites, all: &Answers) -> Result<Asks, NoMemory> {
-    let nothing = met.numbers.node(Node::Nothing)?;
-    let called = called_groups(alloc, met, all)?;
-    let facts = flowing(alloc, fault, met, all, called.as_slice())?;
-    let mut asks = Asks::new(alloc, facts, nothing);
-    asks.add_groups(all, called.as_slice())?;
-    Ok(asks)
-}
-
-/// The values in each node that a call may choose of.
-fn flowing(
+/// The edges of the calls that were met, where all candidates of their groups are given. `fault` is the type of the faults of
+/// a run.
+fn edges_by_flow(
     alloc: Global,
     fault: TypeId,
-    met: &mut Sites,
+    met: Sites,
+    bound: Vec<usize>,
     all: &Answers,
-    called: &[bool],
-) -> Result<Table<usize>, NoMemory> {
-    let mut passing = Passing::of_bodies(alloc, met.flows.as_slice())?;
-    passing.add_groups(alloc, &mut met.numbers, all, called)?;
-    facts_of(alloc, met, all, called, passing.rules.as_slice(), fault)
-}
-
-/// The edges of what calls ask.
-fn asked_edges(alloc: Global, sites: &[Site], asks: Asks) -> Result<Edges, NoMemory> {
-    let mut asks = asks;
-    let questions = asks.questions(alloc, sites)?;
-    asks.add_firsts()?;
-    let rules = asks.rules(alloc)?;
-    edges_of(alloc, questions.as_slice(), rules.as_slice())
+) -> Result<Edges, NoMemory>
+    ensures exact { (p : Program) → p.error_string ≡ fault → AreSites p met.numbers met.sites.items → AreSeeds p met.numbers met.seeds.items → AreFlows p met.numbers met.flows.items → AreBound p met.numbers bound.items → AreAnswers p met.numbers (row all.now.rows) → IfOk result (λ edges. (e : Edge) → Contains edges e ↔ IsVtaEdge p met.numbers.likeness.types met.numbers.likeness.bares e) }
+    ensures ascending { IfOk result (IsStrictlySortedBy edge_cmp) }
+{
+    let mut met = met;
+    let called = called_groups(alloc, &met, bound, all)?;
+    let starts = starts_of(&mut met.numbers, fault)?;
+    let rules = flows_of(
+        alloc,
+        &mut met.numbers,
+        met.flows.as_slice(),
+        all,
+        called.as_slice(),
+    )?;
+    let facts = facts_of(alloc, &met, all, rules.as_slice(), starts)?;
+    asked_edges(alloc, met.sites.as_slice(), all, &facts, starts.nothing)
 }

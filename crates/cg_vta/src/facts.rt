@@ -1,146 +1,221 @@
 //! Which values are in the nodes that calls choose of.
 
-ghost use Rattle.std.specs.Prelude.{OnOk};
-ghost use Rattle.cg_solve.specs.LeastSets.{IsIndex, IsClear, search_of};
+ghost use Rattle.std.specs.Prelude.{◌≡◌, ◌==◌, ◌++◌, ◌↔◌, ℕ, IfOk, OnOk, flat_map, true};
+ghost use Rattle.cg_numbers.specs.Numbered.{Extends};
+ghost use Rattle.cg_sets.specs.Rules.{AreSeeds};
+ghost use Rattle.cg_solve.specs.LeastSets.{IsClear, IsIndex, marked, search_of};
+ghost use Rattle.cg_solve.specs.Lists.{Has, when};
+ghost use Rattle.cg_solve.specs.Tables.{row};
+ghost use Rattle.cg_vta.specs.Facts as fact;
+ghost use Rattle.cg_vta.specs.Facts.{AreFacts, AreReached, AreStarts, Follows, IsChosen, IsFollowed};
+ghost use Rattle.cg_vta.specs.Passing.{AreStreams};
+ghost use Rattle.go_tree.specs.declared.program.Program.{Program};
 
 use cg_nodes::{Node, Value};
 use cg_numbers::{Call, Numbers, Seed, Site, Sites};
 use cg_sets::{Answers, Candidate, Goal};
-use cg_solve::{Rule, Search, Table, index, is_marked};
+use cg_solve::{Rule, Search, Table, index, is_marked, solve};
 use go_base::{NoMemory, TypeId};
 use std::alloc::Global;
 
-/// Numbers that are of interest.
-#[derive(Drop)]
-pub struct Marks {
-    flags: Vec<bool>,
+/// The numbers of what is there in each program: the faults of a run, where they are recovered, and the node in which
+/// nothing is.
+#[derive(Clone, Copy)]
+pub struct Starts {
+    pub fault: usize,
+    pub recover: usize,
+    pub nothing: usize,
 }
 
-impl Marks {
-    /// None of so many.
-    fn none(alloc: Global, count: usize) -> Result<Marks, NoMemory> {
-        let mut flags = Vec::new(alloc);
-        for _ in 0..count {
-            flags.push(false)?;
-        }
-        Ok(Marks { flags })
-    }
-
-    fn set(&mut self, number: usize) {
-        if let Some(flag) = self.flags.get_mut(number) {
-            *flag = true;
-        }
-    }
-
-    fn is_set(&self, number: usize) -> bool {
-        is_marked(self.flags.as_slice(), number)
-    }
+/// The numbers of what is there in each program.
+pub fn starts_of(numbers: &mut Numbers, fault: TypeId) -> Result<Starts, NoMemory>
+    ensures at { IfOk result (λ starts. AreStarts numbers.new fault starts) }
+    ensures extends { OnOk result (Extends numbers.old numbers.new) }
+    ensures groups { OnOk result (numbers.new.groups ≡ numbers.old.groups) }
+{
+    let fault = numbers.value(Value::Class(fault))?;
+    let recover = numbers.node(Node::Recover)?;
+    let nothing = numbers.node(Node::Nothing)?;
+    Ok(Starts {
+        fault,
+        recover,
+        nothing,
+    })
 }
 
-/// The values in each node that a call or a candidate of a group that is chosen from chooses of.
+/// The values in each node that a call or a candidate chooses of.
 pub fn facts_of(
     alloc: Global,
-    met: &mut Sites,
+    met: &Sites,
     all: &Answers,
-    called: &[bool],
     rules: &[Rule],
-    fault: TypeId,
-) -> Result<Table<usize>, NoMemory> {
-    let seeds = seeds_of(alloc, &mut met.numbers, met.seeds.as_slice(), fault)?;
-    let mut nodes = Marks::none(alloc, met.numbers.node_count())?;
-    let mut values = Marks::none(alloc, met.numbers.values().len())?;
-    mark_sites(&mut nodes, met.sites.as_slice());
-    mark_groups(&mut nodes, &mut values, all, called);
-    follow_values(alloc, rules, &seeds, &nodes, &values)
+    starts: Starts,
+) -> Result<Table<usize>, NoMemory>
+    ensures { (p : Program) → AreSeeds p met.now.numbers met.now.seeds.items → AreStarts met.now.numbers p.error_string starts → AreStreams p met.now.numbers rules.now → IfOk result (λ facts. AreFacts p met.now.numbers met.now.sites.items (row all.now.rows) starts.nothing (row facts)) }
+{
+    met.numbers.laws();
+    let seeds = seeds_of(alloc, met.seeds.as_slice(), starts)?;
+    let chosen = chosen_nodes(alloc, met.sites.as_slice(), all, starts.nothing)?;
+    let nodes = marks_of(alloc, chosen.as_slice())?;
+    let followed = candidate_values(alloc, all)?;
+    let values = marks_of(alloc, followed.as_slice())?;
+    follow_values(alloc, rules, &seeds, nodes.as_slice(), values.as_slice())
 }
 
 /// Where each value is made. The faults of a run may be recovered.
-fn seeds_of(
-    alloc: Global,
-    numbers: &mut Numbers,
-    seeds: &[Seed],
-    fault: TypeId,
-) -> Result<Table<usize>, NoMemory> {
+fn seeds_of(alloc: Global, seeds: &[Seed], starts: Starts) -> Result<Table<usize>, NoMemory>
+    ensures { IfOk result (λ table. (k : ℕ) → row table k ≡ fact.seeds_at seeds.now starts k) }
+{
     let mut table = Table::new(alloc);
     for seed in seeds {
         table.put(alloc, seed.value, seed.node)?;
     }
-    let value = numbers.value(Value::Class(fault))?;
-    let node = numbers.node(Node::Recover)?;
-    table.put(alloc, value, node)?;
+    table.put(alloc, starts.fault, starts.recover)?;
     Ok(table)
 }
 
-fn mark_sites(nodes: &mut Marks, sites: &[Site]) {
+/// Whether a number is among others.
+fn marks_of(alloc: Global, numbers: &[usize]) -> Result<Vec<bool>, NoMemory>
+    ensures { IfOk result (λ marks. (k : ℕ) → (marked marks.items k ≡ true) ↔ Has numbers.now k) }
+{
+    let rules = Vec::new(alloc);
+    let table = index(alloc, rules.as_slice())?;
+    solve(alloc, rules.as_slice(), &table, numbers)
+}
+
+/// The nodes that calls and candidates choose of.
+fn chosen_nodes(
+    alloc: Global,
+    sites: &[Site],
+    all: &Answers,
+    nothing: usize,
+) -> Result<Vec<usize>, NoMemory>
+    ensures { IfOk result (λ nodes. (k : ℕ) → IsChosen sites.now (row all.now.rows) nothing k → Has nodes.items k) }
+{
+    let mut nodes = Vec::new(alloc);
+    nodes.push(nothing)?;
+    put_sites(&mut nodes, sites)?;
+    put_operands(&mut nodes, all)?;
+    Ok(nodes)
+}
+
+fn put_sites(nodes: &mut Vec<usize>, sites: &[Site]) -> Result<(), NoMemory>
+    ensures { OnOk result (nodes.new.items ≡ nodes.old.items ++ flat_map fact.site_nodes sites.now) }
+{
     for site in sites {
-        if let Call::Chosen { of, first, .. } = site.call {
-            nodes.set(of);
-            nodes.set(first);
-        }
+        put_site(nodes, site.call)?;
     }
+    Ok(())
 }
 
-fn mark_groups(nodes: &mut Marks, values: &mut Marks, all: &Answers, called: &[bool]) {
+fn put_site(nodes: &mut Vec<usize>, call: Call) -> Result<(), NoMemory>
+    ensures { OnOk result (nodes.new.items ≡ nodes.old.items ++ fact.call_nodes call) }
+{
+    if let Call::Chosen { of, first, .. } = call {
+        nodes.push(of)?;
+        nodes.push(first)?;
+    }
+    Ok(())
+}
+
+fn put_operands(nodes: &mut Vec<usize>, all: &Answers) -> Result<(), NoMemory>
+    ensures kept { OnOk result ((k : ℕ) → Has nodes.old.items k → Has nodes.new.items k) }
+    ensures whole { OnOk result ((g : ℕ) (c : Candidate) (k : ℕ) → Has (row all.now.rows g) c → Has (fact.goal_nodes c.goal) k → Has nodes.new.items k) }
+{
     for group in 0..all.rows.len() {
-        if is_marked(called, group) {
-            mark_row(nodes, values, all.rows.row(group));
-        }
+        put_row(nodes, all.rows.row(group))?;
     }
+    Ok(())
 }
 
-fn mark_row(nodes: &mut Marks, values: &mut Marks, candidates: &[Candidate]) {
+fn put_row(nodes: &mut Vec<usize>, candidates: &[Candidate]) -> Result<(), NoMemory>
+    ensures { OnOk result (nodes.new.items ≡ nodes.old.items ++ flat_map fact.operands candidates.now) }
+{
     for candidate in candidates {
-        values.set(candidate.value);
-        if let Goal::Group { of, .. } = candidate.goal {
-            nodes.set(of);
-        }
+        put_operand(nodes, candidate.goal)?;
     }
+    Ok(())
 }
 
-/// Follows each value that is a candidate.
+fn put_operand(nodes: &mut Vec<usize>, goal: Goal) -> Result<(), NoMemory>
+    ensures { OnOk result (nodes.new.items ≡ nodes.old.items ++ fact.goal_nodes goal) }
+{
+    if let Goal::Group { of, .. } = goal {
+        nodes.push(of)?;
+    }
+    Ok(())
+}
+
+/// The values of candidates.
+fn candidate_values(alloc: Global, all: &Answers) -> Result<Vec<usize>, NoMemory>
+    ensures { IfOk result (λ values. (w : ℕ) → IsFollowed (row all.now.rows) w → Has values.items w) }
+{
+    let mut values = Vec::new(alloc);
+    for group in 0..all.rows.len() {
+        put_values(&mut values, all.rows.row(group))?;
+    }
+    Ok(values)
+}
+
+fn put_values(values: &mut Vec<usize>, candidates: &[Candidate]) -> Result<(), NoMemory>
+    ensures { OnOk result (values.new.items ≡ values.old.items ++ flat_map fact.value_in candidates.now) }
+{
+    for candidate in candidates {
+        values.push(candidate.value)?;
+    }
+    Ok(())
+}
+
+/// Follows each value that is marked.
 fn follow_values(
     alloc: Global,
     rules: &[Rule],
     seeds: &Table<usize>,
-    nodes: &Marks,
-    values: &Marks,
-) -> Result<Table<usize>, NoMemory> {
+    nodes: &[bool],
+    values: &[bool],
+) -> Result<Table<usize>, NoMemory>
+    ensures { IfOk result (λ facts. AreReached rules.now (row seeds.now) nodes.now values.now (row facts)) }
+{
     let table = index(alloc, rules)?;
     let mut search = Search::new(alloc, rules)?;
     let mut facts = Table::new(alloc);
     for value in 0..seeds.len() {
-        if values.is_set(value) {
-            let row = seeds.row(value);
-            follow_value(
-                alloc,
-                &mut facts,
-                &mut search,
-                rules,
-                &table,
-                nodes,
-                value,
-                row,
-            )?;
-        }
+        let row = seeds.row(value);
+        follow_value(
+            alloc,
+            &mut facts,
+            &mut search,
+            rules,
+            &table,
+            nodes,
+            values,
+            value,
+            row,
+        )?;
     }
     Ok(facts)
 }
 
-/// Follows a value from where it is made.
+/// Follows a value from where it is made, if it is marked.
 fn follow_value(
     alloc: Global,
     facts: &mut Table<usize>,
     search: &mut Search,
     rules: &[Rule],
     table: &Table<Rule>,
-    nodes: &Marks,
+    nodes: &[bool],
+    values: &[bool],
     value: usize,
     seeds: &[usize],
 ) -> Result<(), NoMemory>
     requires index { IsIndex rules.now table.now }
     requires clear { IsClear rules.now (search_of search.old) }
-    ensures { OnOk result (IsClear rules.now (search_of search.new)) }
+    ensures clear { OnOk result (IsClear rules.now (search_of search.new)) }
+    ensures follows { OnOk result (Follows rules.now seeds.now nodes.now (marked values.now value) value (row facts.old) (row facts.new)) }
 {
+    if !is_marked(values, value) {
+        return Ok(());
+    }
     search.solve(rules, table, seeds)?;
     put_facts(alloc, facts, nodes, value, search.found())?;
     search.clear(rules);
@@ -150,14 +225,29 @@ fn follow_value(
 fn put_facts(
     alloc: Global,
     facts: &mut Table<usize>,
-    nodes: &Marks,
+    nodes: &[bool],
     value: usize,
     found: &[usize],
-) -> Result<(), NoMemory> {
+) -> Result<(), NoMemory>
+    ensures { OnOk result ((k : ℕ) → row facts.new k ≡ row facts.old k ++ flat_map (fact.fact_at nodes.now value k) found.now) }
+{
     for node in found {
-        if nodes.is_set(*node) {
-            facts.put(alloc, *node, value)?;
-        }
+        put_fact(alloc, facts, nodes, value, *node)?;
+    }
+    Ok(())
+}
+
+fn put_fact(
+    alloc: Global,
+    facts: &mut Table<usize>,
+    nodes: &[bool],
+    value: usize,
+    node: usize,
+) -> Result<(), NoMemory>
+    ensures { OnOk result ((k : ℕ) → row facts.new k ≡ row facts.old k ++ fact.fact_at nodes.now value k node) }
+{
+    if is_marked(nodes, node) {
+        facts.put(alloc, node, value)?;
     }
     Ok(())
 }

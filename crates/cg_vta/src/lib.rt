@@ -10,9 +10,10 @@ mod by_flow;
 mod called;
 mod error;
 mod facts;
+mod goals;
 mod laws;
 mod passing;
-mod shapes;
+mod ways;
 
 pub use by_flow::vta;
 pub use laws::vta_within_cha;

@@ -1,163 +1,125 @@
 //! How values flow: within bodies, and through calls by their candidates.
 
-use crate::shapes::{Shape, shape_of};
-use cg_nodes::{Group, Node};
+ghost use Rattle.std.specs.Prelude.{◌≡◌, ◌++◌, IfOk, OnOk, map, slice_get};
+ghost use Rattle.cg_nodes.specs.declared.nodes.Node.{Node};
+ghost use Rattle.cg_numbers.specs.Numbered.{Extends, IsAt};
+ghost use Rattle.cg_sets.specs.Answering.{AreAnswers};
+ghost use Rattle.cg_solve.specs.Tables.{row};
+ghost use Rattle.cg_vta.specs.Choosing.{AreCalled};
+ghost use Rattle.cg_vta.specs.Passing as passing;
+ghost use Rattle.cg_vta.specs.Passing.{AreFlows, AreStreams, OfNode, Puts, PutsStations, PutsWay, PutsWays};
+ghost use Rattle.go_tree.specs.declared.program.Program.{Program};
+
+use crate::ways::{Way, receivers, ways_at};
+use cg_nodes::Node;
 use cg_numbers::{Flow, Numbers};
-use cg_sets::{Answers, Candidate, Goal};
-use cg_solve::{Rule, is_marked};
+use cg_sets::Answers;
+use cg_solve::Rule;
 use go_base::NoMemory;
 use std::alloc::Global;
 
-/// All flows.
-#[derive(Drop)]
-pub struct Passing {
-    pub rules: Vec<Rule>,
+/// All flows: those of bodies, and those through the candidates of the groups that are chosen from.
+pub fn flows_of(
+    alloc: Global,
+    numbers: &mut Numbers,
+    flows: &[Flow],
+    all: &Answers,
+    called: &[bool],
+) -> Result<Vec<Rule>, NoMemory>
+    ensures flows { (p : Program) → AreFlows p numbers.old flows.now → AreAnswers p numbers.old (row all.now.rows) → AreCalled p numbers.old called.now → IfOk result (λ rules. AreStreams p numbers.new rules.items) }
+    ensures extends { OnOk result (Extends numbers.old numbers.new) }
+    ensures same { OnOk result (numbers.new ≡ record numbers.old { nodes = numbers.new.nodes }) }
+{
+    let mut rules = body_rules(alloc, flows)?;
+    let given = receivers(alloc, numbers.nodes.as_slice(), all, called)?;
+    put_ways(&mut rules, numbers, given.as_slice())?;
+    put_stations(alloc, &mut rules, numbers, all, called)?;
+    Ok(rules)
 }
 
-impl Passing {
-    /// The flows of bodies.
-    pub fn of_bodies(alloc: Global, flows: &[Flow]) -> Result<Passing, NoMemory> {
-        let mut passing = Passing {
-            rules: Vec::new(alloc),
-        };
-        for flow in flows {
-            passing.put(flow.from, flow.to)?;
-        }
-        Ok(passing)
-    }
-
-    /// Adds a flow.
-    fn put(&mut self, from: usize, to: usize) -> Result<(), NoMemory> {
-        self.rules.push(Rule {
-            left: from,
-            right: from,
-            then: to,
+/// The flows of bodies.
+fn body_rules(alloc: Global, flows: &[Flow]) -> Result<Vec<Rule>, NoMemory>
+    ensures { IfOk result (λ rules. rules.items ≡ map passing.flow_rule flows.now) }
+{
+    let mut rules = Vec::new(alloc);
+    for flow in flows {
+        rules.push(Rule {
+            left: flow.from,
+            right: flow.from,
+            then: flow.to,
         })?;
-        Ok(())
     }
-
-    fn flow(&mut self, numbers: &mut Numbers, from: Node, to: Node) -> Result<(), NoMemory> {
-        let from = numbers.node(from)?;
-        let to = numbers.node(to)?;
-        self.put(from, to)
-    }
-
-    /// The flows through the candidates of the groups that are chosen from.
-    pub fn add_groups(
-        &mut self,
-        alloc: Global,
-        numbers: &mut Numbers,
-        all: &Answers,
-        called: &[bool],
-    ) -> Result<(), NoMemory> {
-        for number in 0..all.rows.len() {
-            if is_marked(called, number) {
-                self.add_group(alloc, numbers, number, all.rows.row(number))?;
-            }
-        }
-        Ok(())
-    }
-
-    fn add_group(
-        &mut self,
-        alloc: Global,
-        numbers: &mut Numbers,
-        number: usize,
-        candidates: &[Candidate],
-    ) -> Result<(), NoMemory> {
-        let Some(group) = numbers.groups().get(number).copied() else {
-            return Ok(());
-        };
-        let shape = shape_of(alloc, numbers, group)?;
-        for candidate in candidates {
-            self.add_candidate(numbers, group, &shape, *candidate)?;
-        }
-        Ok(())
-    }
-
-    fn add_candidate(
-        &mut self,
-        numbers: &mut Numbers,
-        group: Group,
-        shape: &Shape,
-        candidate: Candidate,
-    ) -> Result<(), NoMemory> {
-        self.add_receiver(numbers, candidate)?;
-        self.add_arguments(numbers, group, shape.params.as_slice(), candidate)?;
-        self.add_results(numbers, group, shape.results.as_slice(), candidate)
-    }
-
-    /// The receiver of a function type.
-    fn add_receiver(
-        &mut self,
-        numbers: &mut Numbers,
-        candidate: Candidate,
-    ) -> Result<(), NoMemory> {
-        let nothing = numbers.node(Node::Nothing)?;
-        match candidate.goal {
-            Goal::Function(function) if candidate.receiver != nothing => {
-                let to = numbers.node(Node::Parameter(function, 0))?;
-                self.put(candidate.receiver, to)
-            }
-            _ => Ok(()),
-        }
-    }
-
-    /// Arguments, those that are not handed on left out.
-    fn add_arguments(
-        &mut self,
-        numbers: &mut Numbers,
-        group: Group,
-        params: &[bool],
-        candidate: Candidate,
-    ) -> Result<(), NoMemory> {
-        for (place, flows) in params.iter().enumerate() {
-            if *flows && place >= candidate.skip {
-                let index = place
-                    .saturating_sub(candidate.skip)
-                    .saturating_add(candidate.base);
-                let to = given_to(numbers, candidate.goal, index);
-                self.flow(numbers, Node::Argument(group, place), to)?;
-            }
-        }
-        Ok(())
-    }
-
-    fn add_results(
-        &mut self,
-        numbers: &mut Numbers,
-        group: Group,
-        results: &[bool],
-        candidate: Candidate,
-    ) -> Result<(), NoMemory> {
-        for (index, flows) in results.iter().enumerate() {
-            if *flows {
-                let from = given_by(numbers, candidate.goal, index);
-                self.flow(numbers, from, Node::Outcome(group, index))?;
-            }
-        }
-        Ok(())
-    }
+    Ok(rules)
 }
 
-/// The node of what a goal is given.
-fn given_to(numbers: &Numbers, goal: Goal, index: usize) -> Node {
-    match goal {
-        Goal::Function(function) => Node::Parameter(function, index),
-        Goal::Group { group, .. } | Goal::First { group } => match numbers.groups().get(group) {
-            Some(group) => Node::Argument(*group, index),
-            None => Node::Nothing,
-        },
+/// The flows at every node, those that are met on the way too.
+fn put_stations(
+    alloc: Global,
+    rules: &mut Vec<Rule>,
+    numbers: &mut Numbers,
+    all: &Answers,
+    called: &[bool],
+) -> Result<(), NoMemory>
+    ensures puts { OnOk result (PutsStations numbers.new (row all.now.rows) called.now rules.old.items rules.new.items) }
+    ensures extends { OnOk result (Extends numbers.old numbers.new) }
+    ensures same { OnOk result (numbers.new ≡ record numbers.old { nodes = numbers.new.nodes }) }
+{
+    let mut number = 0;
+    'stations: while number < numbers.node_count() {
+        put_station(alloc, rules, numbers, all, called, number)?;
+        number += 1;
     }
+    Ok(())
 }
 
-/// The node of what a goal gives.
-fn given_by(numbers: &Numbers, goal: Goal, index: usize) -> Node {
-    match goal {
-        Goal::Function(function) => Node::Returned(function, index),
-        Goal::Group { group, .. } | Goal::First { group } => match numbers.groups().get(group) {
-            Some(group) => Node::Outcome(*group, index),
-            None => Node::Nothing,
-        },
+fn put_station(
+    alloc: Global,
+    rules: &mut Vec<Rule>,
+    numbers: &mut Numbers,
+    all: &Answers,
+    called: &[bool],
+    number: usize,
+) -> Result<(), NoMemory>
+    ensures puts { OnOk result ((node : Node) → IsAt numbers.old.nodes.keys number node → Puts numbers.new (OfNode numbers.new (row all.now.rows) called.now node) rules.old.items rules.new.items) }
+    ensures extends { OnOk result (Extends numbers.old numbers.new) }
+    ensures same { OnOk result (numbers.new ≡ record numbers.old { nodes = numbers.new.nodes }) }
+{
+    let Some(node) = node_at(numbers, number) else {
+        return Ok(());
+    };
+    let ways = ways_at(alloc, numbers, all, called, node)?;
+    put_ways(rules, numbers, ways.as_slice())?;
+    Ok(())
+}
+
+fn node_at(numbers: &Numbers, number: usize) -> Option<Node>
+    ensures { result ≡ slice_get numbers.now.nodes.keys number }
+{
+    numbers.nodes.get_index(number).copied()
+}
+
+fn put_ways(rules: &mut Vec<Rule>, numbers: &mut Numbers, ways: &[Way]) -> Result<(), NoMemory>
+    ensures puts { OnOk result (PutsWays numbers.new ways.now rules.old.items rules.new.items) }
+    ensures extends { OnOk result (Extends numbers.old numbers.new) }
+    ensures same { OnOk result (numbers.new ≡ record numbers.old { nodes = numbers.new.nodes }) }
+{
+    for way in ways {
+        put_way(rules, numbers, *way)?;
     }
+    Ok(())
+}
+
+fn put_way(rules: &mut Vec<Rule>, numbers: &mut Numbers, way: Way) -> Result<(), NoMemory>
+    ensures puts { OnOk result (PutsWay numbers.new way rules.old.items rules.new.items) }
+    ensures extends { OnOk result (Extends numbers.old numbers.new) }
+    ensures same { OnOk result (numbers.new ≡ record numbers.old { nodes = numbers.new.nodes }) }
+{
+    let from = numbers.bare_node(way.from)?;
+    let to = numbers.bare_node(way.to)?;
+    rules.push(Rule {
+        left: from,
+        right: from,
+        then: to,
+    })?;
+    Ok(())
 }

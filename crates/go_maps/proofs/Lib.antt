@@ -1,0 +1,6 @@
+pub mod Bytes
+pub mod Codes
+pub mod KindsOf
+pub mod Leaves
+pub mod Sames
+pub mod Shown

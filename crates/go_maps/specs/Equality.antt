@@ -1,6 +1,6 @@
 -- Which values are equal. Go specification, "Comparison operators".
-use Rattle.std.specs.Prelude.{ℕ, ◌==◌, Bool, true, false, not, ◌&&◌, List, [], ◌∷◌, Option, Some, None, is_none}
-use Rattle.std.specs.Prelude.{Result, Ok, Err, IsTrue, ◌↔◌, if◌then◌else◌}
+use Rattle.std.specs.Prelude.{ℕ, ◌≡◌, ◌==◌, Bool, true, false, not, ◌&&◌, List, [], ◌∷◌, Option, Some, None}
+use Rattle.std.specs.Prelude.{is_none, Result, Ok, Err, IsTrue, ◌↔◌, if◌then◌else◌}
 use Rattle.std.specs.Ordering.{int_eq}
 use Rattle.go_base.specs.declared.ids.CellId.{CellId}
 use Rattle.go_base.specs.declared.ids.ChanId.{ChanId}
@@ -8,15 +8,27 @@ use Rattle.go_base.specs.declared.ids.MapId.{MapId}
 use Rattle.go_base.specs.declared.ids.TypeId.{TypeId}
 use Rattle.go_type.specs.Comparable.{Comparable}
 use Rattle.go_type.specs.Table.{Table}
-use Rattle.go_value.specs.declared.address.Pointer.{Pointer}
+use Rattle.go_type.specs.declared.term.Basic.TheVariants as basic
+use Rattle.go_type.specs.declared.term.TypeTerm.{TypeTerm}
+use Rattle.go_type.specs.declared.term.TypeTerm.TheVariants.{Basic as Plain, Pointer, Chan, Interface, Slice, Map}
+use Rattle.go_type.specs.declared.term.TypeTerm.TheVariants.{Func}
+use Rattle.go_value.specs.declared.address.Pointer as address
 use Rattle.go_value.specs.declared.faults.Fault.{Fault}
 use Rattle.go_value.specs.declared.faults.Fault.TheVariants as fault
-use Rattle.go_value.specs.Values.{Val, Parts, none, part, truth, number, text, pointer, slice, map_number, chan_number}
-use Rattle.go_value.specs.Values.{nil_function, nil_interface, dynamic, parts}
+use Rattle.go_value.specs.declared.faults.ValueError.{ValueError}
+use Rattle.go_value.specs.declared.faults.ValueError.TheVariants as errors
+use Rattle.go_value.specs.Values.{Val, Field, Parts, none, part, truth, number, text, pointer, slice, map_number}
+use Rattle.go_value.specs.Values.{chan_number, nil_function, nil_interface, dynamic, parts}
 
 -- a test that tells which types are comparable
 abbrev pub TellsComparable : Table → (TypeId → Bool) → Type 0
 TellsComparable types test = (of : TypeId) → IsTrue (test of) ↔ Comparable types of
+
+-- a call tells what a comparison gives; it wants no memory
+abbrev pub Tells : Result Bool ValueError → Result Bool Fault → Type 0
+Tells (Ok same) outcome = outcome ≡ Ok same
+Tells (Err (errors.Fault it)) outcome = outcome ≡ Err it
+Tells (Err (errors.OutOfMemory)) outcome = ⊥
 
 -- ---- values without parts
 
@@ -49,7 +61,7 @@ same_chan (Some a) None = false
 same_chan (Some a) (Some b) = a.number == b.number
 
 -- nil pointers are equal, and pointers to one part of one variable
-abbrev pub same_pointer : Pointer → Pointer → Bool
+abbrev pub same_pointer : address.Pointer → address.Pointer → Bool
 same_pointer a b = same_cell a.cell b.cell && same_numbers a.path b.path
 
 abbrev pub is_nil_function : Val → Bool
@@ -65,7 +77,7 @@ same_leaf (pointer a) (pointer b) = same_pointer a b
 same_leaf (slice a) (slice b) = is_none a.at.cell && is_none b.at.cell
 same_leaf (map_number a) (map_number b) = same_map a b
 same_leaf (chan_number a) (chan_number b) = same_chan a b
-same_leaf nil_function b = is_nil_function b
+same_leaf nil_function nil_function = true
 same_leaf nil_interface nil_interface = true
 same_leaf _ _ = false
 
@@ -108,3 +120,35 @@ abbrev mutual
   pub compared_parts : (TypeId → Bool) → Parts → Parts → Result Bool Fault
   compared_parts test none b = Ok (is_empty b)
   compared_parts test (part it blank rest) b = compared_first blank (compared test it) (compared_parts test rest) b
+
+abbrev pub Compares : Table → Val → Val → Result Bool ValueError → Type 0
+Compares types a b answer = (test : TypeId → Bool) → TellsComparable types test → Tells answer (compared test a b)
+
+-- the parts of values, of which those count that are not named `_`
+abbrev pub ComparesParts : Table → Parts → Parts → Result Bool ValueError → Type 0
+ComparesParts types a b answer =
+    (test : TypeId → Bool) → TellsComparable types test → Tells answer (compared_parts test a b)
+
+abbrev pub compared_part : Bool → Bool → Result Bool Fault → Result Bool Fault
+compared_part false false outcome = outcome
+compared_part true true outcome = Ok true
+compared_part _ _ outcome = Ok false
+
+abbrev pub ComparesPart : Table → Field → Field → Result Bool ValueError → Type 0
+ComparesPart types a b answer =
+    (test : TypeId → Bool) → TellsComparable types test →
+    Tells answer (compared_part a.blank b.blank (compared test a.value b.value))
+
+-- ---- what a term shows by itself
+
+-- whether values of a type with a term are comparable; None where its parts have to be looked at
+abbrev pub shown_by : TypeTerm → Option Bool
+shown_by (Plain basic.UntypedNil) = Some false
+shown_by (Plain it) = Some true
+shown_by (Pointer it) = Some true
+shown_by (Chan dir it) = Some true
+shown_by (Interface it) = Some true
+shown_by (Slice it) = Some false
+shown_by (Map key it) = Some false
+shown_by (Func it) = Some false
+shown_by _ = None

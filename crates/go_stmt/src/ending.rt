@@ -2,13 +2,13 @@
 //! specification, "Variable declarations", "Import declarations", "Package initialization", "Program execution".
 
 use crate::initials::{Initials, files_in_order};
-use flow_rules::{Node, Reliance};
 use go_base::{FuncId, NoMemory, Pos, Rule};
 use go_faults::Fault;
 use go_names::{Mention, Mentioned};
 use go_syntax::ImportSpec;
 use go_tree::{FunctionDecl, FunctionForm};
 use indexmap::IndexSet;
+use init_order::{Node, Reliance};
 use stmt_rules::{Holder, Reading, Walker, mentions_from};
 
 /// An import, by its index in its file.

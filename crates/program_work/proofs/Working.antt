@@ -3,9 +3,9 @@ use Rattle.std.proofs.Common.{◌≡◌, ◌⊎◌, ℕ, Bool, true, false, List
 use Rattle.std.proofs.lemmas.List.{append-nil}
 use Rattle.std.proofs.KnownBytes.{Appends-nil, Appends-trans}
 use Rattle.std.specs.Io.KnownBytes.{Appends}
+use Rattle.cg_sets.specs.declared.edges.Edge.{Edge}
 use Rattle.command_line.specs.declared.command.Letters.{Letters}
 use Rattle.command_line.specs.declared.command.LoadCommand.{LoadCommand}
-use Rattle.go_base.specs.Devices.{AppendsFront}
 use Rattle.go_base.specs.declared.ending.Ending.{Ending}
 use Rattle.go_base.specs.declared.ending.Ending.TheVariants.{Bound}
 use Rattle.go_base.specs.declared.rule.Rule.TheVariants as rules
@@ -19,10 +19,11 @@ use Rattle.program_work.specs.declared.outcome.Outcome.TheVariants as outcomes
 use Rattle.program_work.specs.declared.stop.Stop.{Stop}
 use Rattle.program_work.specs.declared.stop.Stop.TheVariants as stops
 use Rattle.program_work.specs.Asked.{lack_naive, wants_registers}
+use Rattle.program_work.specs.Graphs.{AreAsked}
 use Rattle.program_work.specs.Outputs.{Comes, Finishes, IsUnfinished}
 use Rattle.program_work.specs.Stopping.{outcome_at}
 use Rattle.program_work.specs.Working.{EndsIn, IsCodeText, IsListing, IsNotBuilt, IsServed, IsSound, IsSoundText, IsWork, Lists, ListsFront, done, ran, outside, worked, first_path, start_of}
-use Rattle.program_work.proofs.Listings.{nothing_listed}
+use Rattle.program_work.proofs.Listings.{some_listing}
 use Rattle.program_work.proofs.Written.{whole_front, front_behind, front_longer, finished, stopped, finishes_as, unfinished_as}
 
 -- ---- parts that were not asked
@@ -111,20 +112,21 @@ Printed code letters old new = shown.Writes code letters.functions letters.count
 sound_text : (code : Code) (letters : Letters) (text : List ℕ) → IsSound code → shown.IsCodeText (setting_of code) letters.functions letters.counts text → IsSoundText letters text
 sound_text code letters text sound is = record { code = code; sound = sound; is = is }
 
-pub printing_stops : {S : Type 0} (command : LoadCommand) (files : List SourceFile) (program : Program) (letters : Letters) (code : Code) (before after : S) (written : S → Option (List ℕ)) → wants_registers command ≡ false → command.build ≡ Some letters → IsSound code → (after ≡ before) ⊎ shown.WritesFront code letters.functions letters.counts (written before) (written after) → IsUnfinished (IsWork command files program) (written before) (written after)
-printing_stops command files program letters code before after written built e sound (inl same) = inl (subst (λ s. Appends (written before) (written s) []) (sym same) (Appends-nil (written before)))
-printing_stops command files program letters code before after written built e sound (inr w) =
+pub printing_stops : {S : Type 0} (command : LoadCommand) (files : List SourceFile) (program : Program) (letters : Letters) (code : Code) (edges : Option (List Edge)) (before after : S) (written : S → Option (List ℕ)) → wants_registers command ≡ false → command.build ≡ Some letters → IsSound code → AreAsked command.callgraph program edges → (after ≡ before) ⊎ shown.WritesFront code letters.functions letters.counts (written before) (written after) → IsUnfinished (IsWork command files program) (written before) (written after)
+printing_stops command files program letters code edges before after written built e sound are (inl same) = inl (subst (λ s. Appends (written before) (written s) []) (sym same) (Appends-nil (written before)))
+printing_stops command files program letters code edges before after written built e sound are (inr w) =
     let end = some_end command in
-    let front : AppendsFront (written before) (written after) (w.text ++ ([] ++ [])) = subst (λ (t : List ℕ). AppendsFront (written before) (written after) t) (sym (append-nil w.text)) w.appends in
-    stopped (IsWork command files program) end.outcome (w.text ++ ([] ++ [])) (written before) (written after) (printed_work command files program letters w.text [] end.outcome [] built e (sound_text code letters w.text sound w.is) (nothing_listed files program command.callgraph) end.ends) front
+    let l = some_listing files program command.callgraph edges are in
+    stopped (IsWork command files program) end.outcome (w.text ++ (l.0 ++ [])) (written before) (written after) (printed_work command files program letters w.text l.0 end.outcome [] built e (sound_text code letters w.text sound w.is) l.1 end.ends) (front_longer (written before) (written after) w.text (l.0 ++ []) w.appends)
 
-pub printed_listing_stops : (command : LoadCommand) (files : List SourceFile) (program : Program) (letters : Letters) (code : Code) (old mid new : Option (List ℕ)) → wants_registers command ≡ false → command.build ≡ Some letters → IsSound code → Printed code letters old mid → ListsFront files program command.callgraph mid new → IsUnfinished (IsWork command files program) old new
-printed_listing_stops command files program letters code old mid new built e sound w (inl l) =
+pub printed_listing_stops : (command : LoadCommand) (files : List SourceFile) (program : Program) (letters : Letters) (code : Code) (edges : Option (List Edge)) (old mid new : Option (List ℕ)) → wants_registers command ≡ false → command.build ≡ Some letters → IsSound code → AreAsked command.callgraph program edges → Printed code letters old mid → ListsFront files program command.callgraph mid new → IsUnfinished (IsWork command files program) old new
+printed_listing_stops command files program letters code edges old mid new built e sound are w (inl l) =
     let end = some_end command in
     stopped (IsWork command files program) end.outcome (w.text ++ (l.text ++ [])) old new (printed_work command files program letters w.text l.text end.outcome [] built e (sound_text code letters w.text sound w.is) l.is_listing end.ends) (front_behind old mid new w.text (l.text ++ []) w.appends (front_longer mid new l.text [] l.appends))
-printed_listing_stops command files program letters code old mid new built e sound w (inr nothing) =
+printed_listing_stops command files program letters code edges old mid new built e sound are w (inr nothing) =
     let end = some_end command in
-    stopped (IsWork command files program) end.outcome (w.text ++ ([] ++ [])) old new (printed_work command files program letters w.text [] end.outcome [] built e (sound_text code letters w.text sound w.is) (nothing_listed files program command.callgraph) end.ends) (front_behind old mid new w.text [] w.appends (whole_front mid new [] nothing))
+    let l = some_listing files program command.callgraph edges are in
+    stopped (IsWork command files program) end.outcome (w.text ++ (l.0 ++ [])) old new (printed_work command files program letters w.text l.0 end.outcome [] built e (sound_text code letters w.text sound w.is) l.1 end.ends) (front_behind old mid new w.text (l.0 ++ []) w.appends (front_longer mid new [] (l.0 ++ []) (whole_front mid new [] nothing)))
 
 pub printed_finishes : (command : LoadCommand) (files : List SourceFile) (program : Program) (letters : Letters) (code : Code) (old mid new : Option (List ℕ)) → wants_registers command ≡ false → command.build ≡ Some letters → IsSound code → command.run ≡ false → Printed code letters old mid → Lists files program command.callgraph mid new → Finishes (IsWork command files program) outcomes.Done old new
 printed_finishes command files program letters code old mid new built e sound idle w l =

@@ -23,6 +23,7 @@ use Rattle.program_work.specs.declared.outcome.Outcome.{Outcome}
 use Rattle.program_work.specs.declared.outcome.Outcome.TheVariants as outcomes
 use Rattle.program_work.specs.Asked.{wants_registers}
 use Rattle.program_work.specs.Checking.{IsBroken}
+use Rattle.program_work.specs.Graphs.{IsGraph}
 
 -- the path of the target's first file
 abbrev pub first_path : List SourceFile → List ℕ
@@ -52,22 +53,24 @@ abbrev pub IsCodeText : Option Letters → List ℕ → Type 0
 IsCodeText None text = text ≡ []
 IsCodeText (Some letters) text = IsSoundText letters text
 
--- the listing of some edges between functions of a program; that they are those of the graph is not said yet
-pub record IsGraphText (files : List SourceFile) (program : Program) (text : List ℕ) : Type 0 where
+-- the listing of a graph of a program
+pub record IsGraphText (files : List SourceFile) (program : Program) (graph : Graph) (text : List ℕ) : Type 0 where
   pub edges : List Edge
+  pub are : IsGraph graph program edges
   pub is : listed.IsListing files program edges text
 
 -- the listing of a graph, where one is asked
 abbrev pub IsListing : List SourceFile → Program → Option Graph → List ℕ → Type 0
 IsListing files program None text = text ≡ []
-IsListing files program (Some graph) text = IsGraphText files program text
+IsListing files program (Some graph) text = IsGraphText files program graph text
 
 -- how the work ends; of what a run writes, and of which ending it has, nothing is said yet
 pub data EndsIn (command : LoadCommand) (outcome : Outcome) (output : List ℕ) : Type 0 where
   done : command.run ≡ false → outcome ≡ outcomes.Done → output ≡ [] → EndsIn command outcome output
   ran : command.run ≡ true → (ending : Ending) → outcome ≡ outcomes.Ended ending → EndsIn command outcome output
 
--- the work that a command asks for, which is built: the text of the code, the listing, and what the run writes
+-- the work that a command asks for of one program, which is built: the text of the code, the listing, and what the run
+-- writes
 pub record IsWork (command : LoadCommand) (files : List SourceFile) (program : Program) (outcome : Outcome)
     (output : List ℕ) : Type 0 where
   pub built : wants_registers command ≡ false

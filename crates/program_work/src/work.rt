@@ -5,15 +5,17 @@ ghost use Rattle.go_base.specs.Devices.{HasFaulted};
 ghost use Rattle.go_interp.specs.Output.{HasWritten};
 ghost use Rattle.go_sources.specs.Sources.{files_of};
 ghost use Rattle.program_work.specs.Asked.{wants_registers};
+ghost use Rattle.program_work.specs.Graphs.{AreAsked};
 ghost use Rattle.program_work.specs.Outputs.{Comes, Does};
 ghost use Rattle.program_work.specs.Working.{first_path, IsNotBuilt, IsServed, IsSound, IsWork};
 ghost use Rattle.program_work.specs.declared.stop.Stop.TheVariants.{WriteFault};
 
 use crate::coding::sound_code;
-use crate::graphs::list_graph;
+use crate::graphs::{asked_edges, list_asked, list_graph};
 use crate::outcome::Outcome;
 use crate::printing::print_code;
 use crate::stop::Stop;
+use cg_sets::Edges;
 use command_line::{Letters, LoadCommand};
 use go_base::{Ending, Place, Rule, Sink, Text};
 use go_interp::run;
@@ -106,7 +108,7 @@ fn work_built<O: Sink>(
     }
 }
 
-// Builds and prints the code, and does what else is asked.
+// Builds the code and the graph, prints the code, and does what else is asked.
 fn print_and_work<O: Sink>(
     alloc: Global,
     letters: Letters,
@@ -122,14 +124,18 @@ fn print_and_work<O: Sink>(
     ensures later { O.faults out.old ≤ O.faults out.new }
 {
     let code = sound_code(alloc, program)?;
-    work_with_code(alloc, letters, &code, command, sources, program, out)
+    let edges = asked_edges(alloc, command.callgraph, program)?;
+    work_with_code(
+        alloc, letters, &code, &edges, command, sources, program, out,
+    )
 }
 
-// Prints a code that was built, and does what else is asked.
+// Prints a code that was built, lists the edges of the graph that is asked, and does what else is asked.
 fn work_with_code<O: Sink>(
     alloc: Global,
     letters: Letters,
     code: &Code,
+    edges: &Option<Edges>,
     command: &LoadCommand,
     sources: &Sources,
     program: &Program,
@@ -138,12 +144,13 @@ fn work_with_code<O: Sink>(
     requires built { wants_registers command.now ≡ false }
     requires asked { command.now.build ≡ Some letters }
     requires sound { IsSound code.now }
+    requires graph { AreAsked command.now.callgraph program.now edges.now }
     ensures does { Does (IsWork command.now (files_of sources.now) program.now) result (O.written out.old) (O.written out.new) }
     ensures fault { IsErrOf result WriteFault → HasFaulted (O.faults out.old) (O.faults out.new) }
     ensures later { O.faults out.old ≤ O.faults out.new }
 {
     print_code(alloc, code, letters, out)?;
-    list_graph(alloc, command.callgraph, sources, program, out)?;
+    list_asked(alloc, edges, sources, program, out)?;
     if !command.run {
         return Ok(Outcome::Done);
     }

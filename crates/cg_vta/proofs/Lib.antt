@@ -1,0 +1,10 @@
+mod Answered
+mod Choices
+mod Ending
+mod Following
+mod Gathering
+mod Keyed
+mod Reaches
+mod Rowed
+mod Standings
+mod Streams

@@ -1,7 +1,0 @@
-use Rattle.flow_rules.proofs.initialising.nodes_on_cycles.Goals as goal
-
-pub components_of-requires : goal.components_of-requires
-components_of-requires c = c.is_graph.ensures.0 c.if-not-is_graph.false
-
-pub on_themselves-requires-clause-graph : goal.on_themselves-requires-clause-graph
-on_themselves-requires-clause-graph c = c.is_graph.ensures.0 c.if-not-is_graph.false

@@ -1,0 +1,10 @@
+pub mod RowLaws
+pub mod OneOrder
+pub mod Counting
+pub mod EdgeLists
+pub mod Kahn
+pub mod Taken
+pub mod Telling
+pub mod Picking
+pub mod Whole
+pub mod Parts

@@ -1,0 +1,4 @@
+pub mod Naming
+pub mod Order
+pub mod Groups
+pub mod Taking

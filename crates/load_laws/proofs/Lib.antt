@@ -1,0 +1,5 @@
+mod SameFiles
+mod SamePackages
+mod OneFront
+mod OneResult
+mod OneAnswer
