@@ -1,0 +1,7 @@
+mod Outcomes
+mod HandMade
+mod Tied
+mod Outputs
+mod Fronts
+mod Sampled
+mod Slotted
