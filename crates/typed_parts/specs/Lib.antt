@@ -6,3 +6,5 @@ pub mod Shapes
 pub mod Numbers
 pub mod Several
 pub mod Retyping
+pub mod Adapting
+pub mod Wholes

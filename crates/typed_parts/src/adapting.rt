@@ -1,7 +1,13 @@
 //! Values made ones of the types that they are assigned to. Go specification, "Assignability" and "Variables".
 
-ghost use Rattle.std.specs.Prelude.{◌≡◌, ◌↔◌, IsTrue};
+ghost use Rattle.std.specs.Prelude.{◌≡◌, ◌↔◌, IsTrue, IfOk, Some};
+ghost use Rattle.go_rules.specs.Untyped.{kind_at};
 ghost use Rattle.go_type.specs.Assignable.{Assignable};
+ghost use Rattle.go_type.specs.Table.{basic_id};
+ghost use Rattle.go_tree.specs.declared.exprs.ExprKind.TheVariants as kinds;
+ghost use Rattle.typed_parts.specs.Adapting.{IsAssigned, IsAssignedTo, IsDefaultFor, IsMade, IsOkAssigned, IsPassed, IsSettled, IsThroughDefault};
+ghost use Rattle.typed_parts.specs.Judged.{Comes};
+ghost use Rattle.typed_parts.specs.Nodes.{node};
 ghost use Rattle.typed_parts.specs.Shapes.{is_interface, is_nil};
 
 use crate::ground::Ground;
@@ -16,7 +22,9 @@ use go_type::{Basic, TypeTerm, Types, assignable, basic, identical, implements};
 
 /// A value with a type of its own: an untyped operand takes its default type. `UseOfUntypedNil` at `nil`, and
 /// `ConstantOutOfRange` at a constant that is no value of its default type.
-pub fn by_default(ground: &mut Ground, x: Option<Given>) -> Result<Option<TypedExpr>, NoMemory> {
+pub fn by_default(ground: &mut Ground, x: Option<Given>) -> Result<Option<TypedExpr>, NoMemory>
+    ensures { Comes ground.old ground.new result (IsDefaultFor ground.old.types x) }
+{
     let Some(x) = x else {
         return Ok(None);
     };
@@ -40,14 +48,18 @@ pub fn assigned(
     ground: &mut Ground,
     x: Option<Given>,
     to: Option<TypeId>,
-) -> Result<Option<TypedExpr>, NoMemory> {
+) -> Result<Option<TypedExpr>, NoMemory>
+    ensures { Comes ground.old ground.new result (IsAssignedTo ground.old.types x to) }
+{
     match x.zip(to) {
         Some((x, to)) => assigned_to(ground, x, to),
         None => Ok(None),
     }
 }
 
-fn assigned_to(ground: &mut Ground, x: Given, to: TypeId) -> Result<Option<TypedExpr>, NoMemory> {
+fn assigned_to(ground: &mut Ground, x: Given, to: TypeId) -> Result<Option<TypedExpr>, NoMemory>
+    ensures { Comes ground.old ground.new result (IsAssigned ground.old.types x to) }
+{
     let Given { at, expr } = x;
     match untyped_kind(&ground.types, expr.of) {
         Some(kind) => assigned_untyped(ground, at, expr, kind, to),
@@ -61,7 +73,10 @@ fn assigned_untyped(
     expr: TypedExpr,
     kind: Untyped,
     to: TypeId,
-) -> Result<Option<TypedExpr>, NoMemory> {
+) -> Result<Option<TypedExpr>, NoMemory>
+    requires { kind_at ground.old.types expr.of ≡ Some kind }
+    ensures { Comes ground.old ground.new result (IsAssigned ground.old.types (record { at = at; expr = expr }) to) }
+{
     if kind_fits(&ground.types, kind, to) {
         return retyped(ground, expr, to);
     }
@@ -82,7 +97,9 @@ fn into_interface(
     expr: TypedExpr,
     of: TypeId,
     to: TypeId,
-) -> Result<Option<TypedExpr>, NoMemory> {
+) -> Result<Option<TypedExpr>, NoMemory>
+    ensures { Comes ground.old ground.new result (IsThroughDefault ground.old.types at expr of to) }
+{
     match retyped(ground, expr, of)? {
         Some(expr) => passed(ground, at, expr, to),
         None => Ok(None),
@@ -95,7 +112,9 @@ pub fn passed(
     at: Pos,
     expr: TypedExpr,
     to: TypeId,
-) -> Result<Option<TypedExpr>, NoMemory> {
+) -> Result<Option<TypedExpr>, NoMemory>
+    ensures { Comes ground.old ground.new result (IsPassed ground.old.types at expr to) }
+{
     if may_pass(&ground.types, expr.of, to) {
         return sound(made(ground, expr, to));
     }
@@ -112,7 +131,9 @@ pub fn may_pass(types: &Types, from: TypeId, to: TypeId) -> bool
 }
 
 /// A typed value made one of a type, to which it may be assigned or converted.
-pub fn made(ground: &Ground, expr: TypedExpr, to: TypeId) -> Result<TypedExpr, NoMemory> {
+pub fn made(ground: &Ground, expr: TypedExpr, to: TypeId) -> Result<TypedExpr, NoMemory>
+    ensures { IfOk result (IsMade ground.now.types expr to) }
+{
     if identical(&ground.types, expr.of, to) {
         return Ok(expr);
     }
@@ -138,7 +159,9 @@ pub fn settle(
     ground: &mut Ground,
     x: Option<Given>,
     to: Option<TypeId>,
-) -> Result<Option<TypedExpr>, NoMemory> {
+) -> Result<Option<TypedExpr>, NoMemory>
+    ensures { Comes ground.old ground.new result (IsSettled ground.old.types x to) }
+{
     match to {
         Some(to) => assigned(ground, x, Some(to)),
         None => by_default(ground, x),
@@ -153,7 +176,9 @@ pub fn assigned_part(
     part: u32,
     of: TypeId,
     to: TypeId,
-) -> Result<Option<TypedExpr>, NoMemory> {
+) -> Result<Option<TypedExpr>, NoMemory>
+    ensures { Comes ground.old ground.new result (IsPassed ground.old.types at (node at of (kinds.PartOf part)) to) }
+{
     passed(ground, at, node(at, of, ExprKind::PartOf(part)), to)
 }
 
@@ -163,7 +188,9 @@ pub fn assigned_ok(
     ground: &mut Ground,
     at: Pos,
     to: TypeId,
-) -> Result<Option<TypedExpr>, NoMemory> {
+) -> Result<Option<TypedExpr>, NoMemory>
+    ensures { Comes ground.old ground.new result (IsOkAssigned ground.old.types at to) }
+{
     if kind_fits(&ground.types, Untyped::Bool, to) || is_empty_interface(&ground.types, to) {
         let part = node(at, basic(Basic::Bool), ExprKind::PartOf(1));
         return sound(made(ground, part, to));

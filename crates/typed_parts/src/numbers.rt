@@ -2,6 +2,9 @@
 //! "Slice expressions".
 
 ghost use Rattle.std.specs.Prelude.{◌≡◌, is_some};
+ghost use Rattle.typed_parts.specs.Judged.{Comes};
+ghost use Rattle.typed_parts.specs.Retyping.{IsAsUntyped};
+ghost use Rattle.typed_parts.specs.Wholes.{IsWhole};
 ghost use Rattle.typed_parts.specs.Numbers.{constant_in, integer_of, text_length, whole_breach};
 
 use crate::ground::Ground;
@@ -49,7 +52,9 @@ pub fn whole_index(
     ground: &mut Ground,
     i: Option<Given>,
     rule: Rule,
-) -> Result<Option<TypedExpr>, NoMemory> {
+) -> Result<Option<TypedExpr>, NoMemory>
+    ensures { Comes ground.old ground.new result (IsWhole ground.old.types i rule) }
+{
     let is_whole = ask_whole(ground, &i, rule);
     match only(i, is_whole) {
         Some(i) => as_untyped(ground, i.expr, basic(Basic::Int)),
@@ -89,7 +94,9 @@ pub fn as_untyped(
     ground: &mut Ground,
     expr: TypedExpr,
     to: TypeId,
-) -> Result<Option<TypedExpr>, NoMemory> {
+) -> Result<Option<TypedExpr>, NoMemory>
+    ensures { Comes ground.old ground.new result (IsAsUntyped ground.old.types to expr) }
+{
     if untyped_kind(&ground.types, expr.of).is_some() {
         retyped(ground, expr, to)
     } else {

@@ -1,8 +1,10 @@
 //! Untyped operands given types. Go specification, "Constants" and "Representability".
 
 ghost use Rattle.std.specs.Prelude.{◌≡◌};
-ghost use Rattle.typed_parts.specs.Judged.{reported};
-ghost use Rattle.typed_parts.specs.Retyping.{constant_as, rekinded};
+ghost use Rattle.go_tree.specs.declared.exprs.ExprKind.TheVariants as kinds;
+ghost use Rattle.typed_parts.specs.Joining.{both};
+ghost use Rattle.typed_parts.specs.Judged.{Comes, reported};
+ghost use Rattle.typed_parts.specs.Retyping.{AreRetyped, IsDefaulted, IsOfEach, IsOfOne, IsOfTwo, IsRetyped, IsShifted, Makes, constant_as, items_of, listed, rekinded};
 
 use crate::ground::{Ground, lost};
 use crate::joining::{both, with_last};
@@ -19,7 +21,9 @@ pub fn retyped(
     ground: &mut Ground,
     expr: TypedExpr,
     to: TypeId,
-) -> Result<Option<TypedExpr>, NoMemory> {
+) -> Result<Option<TypedExpr>, NoMemory>
+    ensures { Comes ground.old ground.new result (IsRetyped ground.old.types to expr) }
+{
     let TypedExpr { at, of: _, kind } = expr;
     match kind {
         ExprKind::ConstOf(value) => Ok(retyped_constant(ground, at, value, to)),
@@ -72,7 +76,9 @@ fn retyped_shifted(
     ground: &mut Ground,
     left: Box<TypedExpr>,
     to: TypeId,
-) -> Result<Option<TypedExpr>, NoMemory> {
+) -> Result<Option<TypedExpr>, NoMemory>
+    ensures { Comes ground.old ground.new result (IsShifted ground.old.types to left.value) }
+{
     if int_kind(&ground.types, to).is_some() {
         return retyped(ground, Box::into_inner(left), to);
     }
@@ -86,7 +92,9 @@ fn retyped_each(
     ground: &mut Ground,
     exprs: Vec<TypedExpr>,
     to: TypeId,
-) -> Result<Option<Vec<TypedExpr>>, NoMemory> {
+) -> Result<Option<Vec<TypedExpr>>, NoMemory>
+    ensures { Comes ground.old ground.new (listed result) (AreRetyped ground.old.types to exprs.items) }
+{
     let mut typed = Some(Vec::new(ground.alloc));
     for expr in exprs {
         let expr = retyped(ground, expr, to)?;
@@ -114,7 +122,9 @@ fn unary_of(
     of: TypeId,
     op: UnaryOp,
     operand: Result<Option<TypedExpr>, NoMemory>,
-) -> Result<Option<TypedExpr>, NoMemory> {
+) -> Result<Option<TypedExpr>, NoMemory>
+    ensures { Makes (IsOfOne at of (kinds.UnaryOf op)) operand result }
+{
     match boxed_sound(ground, operand)? {
         Some(operand) => Ok(Some(node(at, of, ExprKind::UnaryOf { op, operand }))),
         None => Ok(None),
@@ -128,7 +138,9 @@ pub fn and_also(
     of: TypeId,
     left: Result<Option<TypedExpr>, NoMemory>,
     right: Result<Option<TypedExpr>, NoMemory>,
-) -> Result<Option<TypedExpr>, NoMemory> {
+) -> Result<Option<TypedExpr>, NoMemory>
+    ensures { Makes (IsOfTwo at of kinds.AndAlso) (both left right) result }
+{
     match boxed_both(ground, left, right)? {
         Some((left, right)) => Ok(Some(node(at, of, ExprKind::AndAlso { left, right }))),
         None => Ok(None),
@@ -142,7 +154,9 @@ pub fn or_else(
     of: TypeId,
     left: Result<Option<TypedExpr>, NoMemory>,
     right: Result<Option<TypedExpr>, NoMemory>,
-) -> Result<Option<TypedExpr>, NoMemory> {
+) -> Result<Option<TypedExpr>, NoMemory>
+    ensures { Makes (IsOfTwo at of kinds.OrElse) (both left right) result }
+{
     match boxed_both(ground, left, right)? {
         Some((left, right)) => Ok(Some(node(at, of, ExprKind::OrElse { left, right }))),
         None => Ok(None),
@@ -157,7 +171,9 @@ pub fn binary_of(
     op: BinaryOp,
     left: Result<Option<TypedExpr>, NoMemory>,
     right: Result<Option<TypedExpr>, NoMemory>,
-) -> Result<Option<TypedExpr>, NoMemory> {
+) -> Result<Option<TypedExpr>, NoMemory>
+    ensures { Makes (IsOfTwo at of (kinds.BinaryOf op)) (both left right) result }
+{
     match boxed_both(ground, left, right)? {
         Some((left, right)) => Ok(Some(node(at, of, ExprKind::BinaryOf { op, left, right }))),
         None => Ok(None),
@@ -171,7 +187,9 @@ fn shift_of(
     op: BinaryOp,
     left: Result<Option<TypedExpr>, NoMemory>,
     right: Box<TypedExpr>,
-) -> Result<Option<TypedExpr>, NoMemory> {
+) -> Result<Option<TypedExpr>, NoMemory>
+    ensures { Makes (IsOfOne at of (λ b. kinds.BinaryOf op b right)) left result }
+{
     match both(boxed_sound(ground, left), Ok(Some(right)))? {
         Some((left, right)) => Ok(Some(node(at, of, ExprKind::BinaryOf { op, left, right }))),
         None => Ok(None),
@@ -183,7 +201,9 @@ fn built_in_of(
     of: TypeId,
     builtin: Builtin,
     arguments: Result<Option<Vec<TypedExpr>>, NoMemory>,
-) -> Result<Option<TypedExpr>, NoMemory> {
+) -> Result<Option<TypedExpr>, NoMemory>
+    ensures { Makes (λ each. IsOfEach at of builtin (items_of each)) arguments result }
+{
     match arguments? {
         Some(arguments) => Ok(Some(node(
             at,
@@ -216,7 +236,9 @@ pub fn rekinded(ground: &mut Ground, expr: TypedExpr, kind: Untyped) -> Option<T
 }
 
 /// An untyped operand but `nil` with its default type, and a typed one as it is.
-pub fn defaulted(ground: &mut Ground, expr: TypedExpr) -> Result<Option<TypedExpr>, NoMemory> {
+pub fn defaulted(ground: &mut Ground, expr: TypedExpr) -> Result<Option<TypedExpr>, NoMemory>
+    ensures { Comes ground.old ground.new result (IsDefaulted ground.old.types expr) }
+{
     let Some(kind) = untyped_kind(&ground.types, expr.of) else {
         return Ok(Some(expr));
     };
