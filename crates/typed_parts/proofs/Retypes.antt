@@ -20,7 +20,7 @@ plainly old Is x is = record { judged = fine x; is = is; answers = refl; reports
 pub of_one : (old new : Ground) (at : Pos) (to : TypeId) (form : Box TypedExpr → ExprKind)
     (IsFirst Is : Judged TypedExpr → Type 0)
     → ((one : Judged TypedExpr) (result : Option TypedExpr) → IsFirst one → IsOfOne at to form one.sound result
-      → Is (record { sound = result; broken = one.broken }))
+    → Is (record { sound = result; broken = one.broken }))
     → (operand result : Result (Option TypedExpr) NoMemory)
     → Comes old new operand IsFirst → Makes (IsOfOne at to form) operand result → Comes old new result Is
 of_one old new at to form IsFirst Is build operand (Err error) h m = tt
@@ -36,9 +36,9 @@ of_one old new at to form IsFirst Is build (Ok operand) (Ok result) h m =
 pub of_two : (old mid new : Ground) (at : Pos) (to : TypeId) (form : Box TypedExpr → Box TypedExpr → ExprKind)
     (x y : TypedExpr) (Is : Judged TypedExpr → Type 0)
     → ((one other : Judged TypedExpr) (result : Option TypedExpr)
-      → IsRetyped old.types to x one → IsRetyped old.types to y other
-      → IsOfTwo at to form (option_zip one.sound other.sound) result
-      → Is (record { sound = result; broken = one.broken ++ other.broken }))
+    → IsRetyped old.types to x one → IsRetyped old.types to y other
+    → IsOfTwo at to form (option_zip one.sound other.sound) result
+    → Is (record { sound = result; broken = one.broken ++ other.broken }))
     → (left right result : Result (Option TypedExpr) NoMemory)
     → Comes old mid left (IsRetyped old.types to x) → Comes mid new right (IsRetyped mid.types to y)
     → Makes (IsOfTwo at to form) (both left right) result → Comes old new result Is

@@ -8,3 +8,4 @@ pub mod Several
 pub mod Retyping
 pub mod Adapting
 pub mod Wholes
+pub mod Places

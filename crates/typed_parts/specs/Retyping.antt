@@ -46,15 +46,6 @@ IsOfEach at of builtin None result = result ≡ None
 IsOfEach at of builtin (Some xs) result =
     (v : Vec TypedExpr) × ((v.items ≡ xs) × (result ≡ Some (node at of (BuiltinOf builtin None v false))))
 
--- the list that a vector holds
-abbrev pub items_of : Option (Vec TypedExpr) → Option (List TypedExpr)
-items_of (Some v) = Some v.items
-items_of None = None
-
-abbrev pub listed : {E : Type 0} → Result (Option (Vec TypedExpr)) E → Result (Option (List TypedExpr)) E
-listed (Ok v) = Ok (items_of v)
-listed (Err error) = Err error
-
 -- the same of operands that came, unless memory ran out
 abbrev pub Makes : {A E : Type 0} → (A → Option TypedExpr → Type 0) → Result A E → Result (Option TypedExpr) E → Type 0
 Makes Is operands (Err error) = Unit {0}
@@ -89,14 +80,14 @@ mutual
         → IsRetyped types to y.value other
         → IsOfTwo at to AndAlso (option_zip one.sound other.sound) result
         → IsRetyped types to (node at of (AndAlso x y))
-          (record { sound = result; broken = one.broken ++ other.broken })
+        (record { sound = result; broken = one.broken ++ other.broken })
     disjunction : (at : Pos) (of : TypeId) (x y : Box TypedExpr) (one other : Judged TypedExpr)
         (result : Option TypedExpr)
         → IsRetyped types to x.value one
         → IsRetyped types to y.value other
         → IsOfTwo at to OrElse (option_zip one.sound other.sound) result
         → IsRetyped types to (node at of (OrElse x y))
-          (record { sound = result; broken = one.broken ++ other.broken })
+        (record { sound = result; broken = one.broken ++ other.broken })
     arithmetic : (at : Pos) (of : TypeId) (op : BinaryOp) (x y : Box TypedExpr) (one other : Judged TypedExpr)
         (result : Option TypedExpr)
         → shift_of op ≡ None
@@ -104,7 +95,7 @@ mutual
         → IsRetyped types to y.value other
         → IsOfTwo at to (BinaryOf op) (option_zip one.sound other.sound) result
         → IsRetyped types to (node at of (BinaryOf op x y))
-          (record { sound = result; broken = one.broken ++ other.broken })
+        (record { sound = result; broken = one.broken ++ other.broken })
     shift : (at : Pos) (of : TypeId) (op : BinaryOp) (left : Bool) (x count : Box TypedExpr) (one : Judged TypedExpr)
         (result : Option TypedExpr)
         → shift_of op ≡ Some left
@@ -121,7 +112,7 @@ mutual
         → AreRetyped types to xs.items each
         → IsOfEach at to builtin each.sound result
         → IsRetyped types to (node at of (BuiltinOf builtin form xs spread))
-          (record { sound = result; broken = each.broken })
+        (record { sound = result; broken = each.broken })
 
   -- each of several, and one more
   pub data AreRetyped (types : Table) (to : TypeId) : List TypedExpr → Judged (List TypedExpr) → Type 0 where
@@ -130,7 +121,7 @@ mutual
         → AreRetyped types to xs each
         → IsRetyped types to x one
         → AreRetyped types to (xs ++ x ∷ [])
-          (record { sound = with_last each.sound one.sound; broken = each.broken ++ one.broken })
+        (record { sound = with_last each.sound one.sound; broken = each.broken ++ one.broken })
 
 abbrev pub kind_as : Table → Untyped → Pos → ExprKind → Judged TypedExpr
 kind_as types kind at (ConstOf value) = constant_as types at value (untyped kind)

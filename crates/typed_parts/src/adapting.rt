@@ -1,17 +1,20 @@
 //! Values made ones of the types that they are assigned to. Go specification, "Assignability" and "Variables".
 
-ghost use Rattle.std.specs.Prelude.{◌≡◌, ◌↔◌, IsTrue, IfOk, Some};
-ghost use Rattle.go_rules.specs.Untyped.{kind_at};
+ghost use Rattle.std.specs.Prelude.{◌≡◌, ◌↔◌, ◌||◌, ◌∷◌, [], IsTrue, IfOk, Some, None};
+ghost use Rattle.go_base.specs.declared.rule.Rule.TheVariants.{NotAssignable};
+ghost use Rattle.go_rules.specs.declared.untyped.Untyped.TheVariants as bool_kind;
+ghost use Rattle.go_rules.specs.Matching.{is_empty_interface};
+ghost use Rattle.go_rules.specs.Untyped.{fits_type, kind_at};
 ghost use Rattle.go_type.specs.Assignable.{Assignable};
 ghost use Rattle.go_type.specs.Table.{basic_id};
 ghost use Rattle.go_tree.specs.declared.exprs.ExprKind.TheVariants as kinds;
 ghost use Rattle.typed_parts.specs.Adapting.{IsAssigned, IsAssignedTo, IsDefaultFor, IsMade, IsOkAssigned, IsPassed, IsSettled, IsThroughDefault};
-ghost use Rattle.typed_parts.specs.Judged.{Comes};
+ghost use Rattle.typed_parts.specs.Judged.{Comes, reported};
 ghost use Rattle.typed_parts.specs.Nodes.{node};
 ghost use Rattle.typed_parts.specs.Shapes.{is_interface, is_nil};
 
 use crate::ground::Ground;
-use crate::joining::{asked, sound};
+use crate::joining::sound;
 use crate::meaning::Given;
 use crate::nodes::{boxed, node};
 use crate::retyping::{defaulted, retyped};
@@ -28,11 +31,12 @@ pub fn by_default(ground: &mut Ground, x: Option<Given>) -> Result<Option<TypedE
     let Some(x) = x else {
         return Ok(None);
     };
-    let has_default = !is_nil(&ground.types, x.expr.of);
-    match asked(ground, x, has_default, Rule::UseOfUntypedNil) {
-        Some(x) => defaulted(ground, x.expr),
-        None => Ok(None),
+    if is_nil(&ground.types, x.expr.of) {
+        ground.report(x.at, Rule::UseOfUntypedNil);
+        drop(x);
+        return Ok(None);
     }
+    defaulted(ground, x.expr)
 }
 
 /// Whether a type is that of `nil` without a type.
@@ -51,9 +55,15 @@ pub fn assigned(
 ) -> Result<Option<TypedExpr>, NoMemory>
     ensures { Comes ground.old ground.new result (IsAssignedTo ground.old.types x to) }
 {
-    match x.zip(to) {
-        Some((x, to)) => assigned_to(ground, x, to),
-        None => Ok(None),
+    let Some(x) = x else {
+        return Ok(None);
+    };
+    match to {
+        Some(to) => assigned_to(ground, x, to),
+        None => {
+            drop(x);
+            Ok(None)
+        }
     }
 }
 
@@ -80,14 +90,23 @@ fn assigned_untyped(
     if kind_fits(&ground.types, kind, to) {
         return retyped(ground, expr, to);
     }
-    match kind.default_type() {
-        Some(of) if is_interface(&ground.types, to) => into_interface(ground, at, expr, of, to),
-        _ => {
-            drop(expr);
-            ground.report(at, Rule::NotAssignable);
-            Ok(None)
-        }
+    if !is_interface(&ground.types, to) {
+        return Ok(refused(ground, at, expr));
     }
+    match kind.default_type() {
+        Some(of) => into_interface(ground, at, expr, of, to),
+        None => Ok(refused(ground, at, expr)),
+    }
+}
+
+/// What may not be assigned.
+fn refused(ground: &mut Ground, at: Pos, expr: TypedExpr) -> Option<TypedExpr>
+    ensures answer { result ≡ None }
+    ensures broken { ground.new ≡ reported ground.old (record { at = at; rule = NotAssignable } ∷ []) }
+{
+    drop(expr);
+    ground.report(at, Rule::NotAssignable);
+    None
 }
 
 /// An untyped operand by its default type made a value of an interface.
@@ -118,9 +137,7 @@ pub fn passed(
     if may_pass(&ground.types, expr.of, to) {
         return sound(made(ground, expr, to));
     }
-    drop(expr);
-    ground.report(at, Rule::NotAssignable);
-    Ok(None)
+    Ok(refused(ground, at, expr))
 }
 
 /// Whether a typed value of a type may be assigned to another.
@@ -184,17 +201,20 @@ pub fn assigned_part(
 
 /// The second part of a comma-ok form, an untyped boolean, as a value of a type to which it is assigned. `NotAssignable`
 /// at the place of the form.
-pub fn assigned_ok(
-    ground: &mut Ground,
-    at: Pos,
-    to: TypeId,
-) -> Result<Option<TypedExpr>, NoMemory>
+pub fn assigned_ok(ground: &mut Ground, at: Pos, to: TypeId) -> Result<Option<TypedExpr>, NoMemory>
     ensures { Comes ground.old ground.new result (IsOkAssigned ground.old.types at to) }
 {
-    if kind_fits(&ground.types, Untyped::Bool, to) || is_empty_interface(&ground.types, to) {
+    if takes_bool(&ground.types, to) {
         let part = node(at, basic(Basic::Bool), ExprKind::PartOf(1));
         return sound(made(ground, part, to));
     }
     ground.report(at, Rule::NotAssignable);
     Ok(None)
+}
+
+/// Whether an untyped boolean may be assigned to a type that is a boolean one, or an interface without methods.
+fn takes_bool(types: &Types, to: TypeId) -> bool
+    ensures { result ≡ (fits_type types.now bool_kind.Bool to || is_empty_interface types.now to) }
+{
+    kind_fits(types, Untyped::Bool, to) || is_empty_interface(types, to)
 }

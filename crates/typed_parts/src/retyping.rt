@@ -2,9 +2,9 @@
 
 ghost use Rattle.std.specs.Prelude.{◌≡◌};
 ghost use Rattle.go_tree.specs.declared.exprs.ExprKind.TheVariants as kinds;
-ghost use Rattle.typed_parts.specs.Joining.{both};
+ghost use Rattle.typed_parts.specs.Joining.{both, items_of, listed};
 ghost use Rattle.typed_parts.specs.Judged.{Comes, reported};
-ghost use Rattle.typed_parts.specs.Retyping.{AreRetyped, IsDefaulted, IsOfEach, IsOfOne, IsOfTwo, IsRetyped, IsShifted, Makes, constant_as, items_of, listed, rekinded};
+ghost use Rattle.typed_parts.specs.Retyping.{AreRetyped, IsDefaulted, IsOfEach, IsOfOne, IsOfTwo, IsRetyped, IsShifted, Makes, constant_as, rekinded};
 
 use crate::ground::{Ground, lost};
 use crate::joining::{both, with_last};
@@ -46,13 +46,16 @@ pub fn retyped(
             or_else(ground, at, to, left, right)
         }
         ExprKind::BinaryOf { op, left, right } => {
-            if op.shift().is_none() {
-                let left = retyped(ground, Box::into_inner(left), to);
-                let right = retyped(ground, Box::into_inner(right), to);
-                binary_of(ground, at, to, op, left, right)
-            } else {
-                let left = retyped_shifted(ground, left, to);
-                shift_of(ground, at, to, op, left, right)
+            match op.shift() {
+                None => {
+                    let left = retyped(ground, Box::into_inner(left), to);
+                    let right = retyped(ground, Box::into_inner(right), to);
+                    binary_of(ground, at, to, op, left, right)
+                }
+                Some(_) => {
+                    let left = retyped_shifted(ground, left, to);
+                    shift_of(ground, at, to, op, left, right)
+                }
             }
         }
         ExprKind::BuiltinOf {
