@@ -39,9 +39,9 @@ pub constant_comes : (old new : Ground) (to : TypeId) (expr : TypedExpr) (value 
     → expr.kind ≡ kinds.ConstOf value
     → answer ≡ (constant_as old.types expr.at value to).sound
     → new ≡ reported old (constant_as old.types expr.at value to).broken
-    → Comes old new (Ok answer) (IsRetyped old.types to expr)
+    → Comes old new (came answer) (IsRetyped old.types to expr)
 constant_comes old new to expr value answer is a r =
-    of_form old new to expr (kinds.ConstOf value) (Ok answer) is
+    of_form old new to expr (kinds.ConstOf value) (came answer) is
     (record {
       judged = constant_as old.types expr.at value to;
       is = IsRetyped.constant expr.at expr.of value;
@@ -50,9 +50,9 @@ constant_comes old new to expr value answer is a r =
     })
 
 pub nil_comes : (old : Ground) (to : TypeId) (expr made : TypedExpr) → expr.kind ≡ ExprKind.NilOf
-    → made ≡ node expr.at to ExprKind.NilOf → Comes old old (Ok (Some made)) (IsRetyped old.types to expr)
+    → made ≡ node expr.at to ExprKind.NilOf → Comes old old (came (Some made)) (IsRetyped old.types to expr)
 nil_comes old to expr made is m =
-    of_form old old to expr ExprKind.NilOf (Ok (Some made)) is
+    of_form old old to expr ExprKind.NilOf (came (Some made)) is
     (record {
       judged = fine (node expr.at to ExprKind.NilOf);
       is = IsRetyped.nil expr.at expr.of;
@@ -62,9 +62,9 @@ nil_comes old to expr made is m =
 
 pub comparison_comes : (old : Ground) (to : TypeId) (expr made : TypedExpr) (op : CompareOp) (x y : Box TypedExpr)
     → expr.kind ≡ kinds.CompareOf op x y → made ≡ node expr.at to (kinds.CompareOf op x y)
-    → Comes old old (Ok (Some made)) (IsRetyped old.types to expr)
+    → Comes old old (came (Some made)) (IsRetyped old.types to expr)
 comparison_comes old to expr made op x y is m =
-    of_form old old to expr (kinds.CompareOf op x y) (Ok (Some made)) is
+    of_form old old to expr (kinds.CompareOf op x y) (came (Some made)) is
     (record {
       judged = fine (node expr.at to (kinds.CompareOf op x y));
       is = IsRetyped.comparison expr.at expr.of op x y;
