@@ -1,5 +1,7 @@
 pub mod Bytes
 pub mod Codes
+pub mod CodesOf
+pub mod Hashed
 pub mod KindsOf
 pub mod Leaves
 pub mod Sames
