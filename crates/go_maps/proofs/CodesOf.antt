@@ -9,7 +9,7 @@ use Rattle.go_value.specs.declared.values.Dynamic.{Dynamic}
 use Rattle.go_value.specs.declared.values.Part.{Part}
 use Rattle.go_value.specs.declared.values.Value.TheVariants as values
 use Rattle.go_value.proofs.Variants.{parts_is, interface_is, truth_is, int_is, text_is, pointer_is, chan_is, nil_interface_is, dynamic_is, part_is}
-use Rattle.go_maps.specs.Keys.{code, parts_code, number_code, steps_code, pointer_code}
+use Rattle.go_maps.specs.Keys.{code, parts_code, number_code, steps_code, pointer_code, key_code, of_number}
 
 pub truth_code : (it : Bool) → code (value_of (values.Truth it)) ≡ code (vals.truth it)
 truth_code it = ap code (truth_is it)
@@ -59,3 +59,8 @@ address_code p it cell old b n m new steps len same at first second third long a
     ∙ ap (λ s. old ++ 1 ∷ (A ++ (number_code (length it.path) ++ steps_code s))) all
     ∙ ap (λ c. old ++ pointer_code c it.path) (sym at)
     ∙ ap (λ (q : Pointer). old ++ pointer_code q.cell q.path) same
+
+-- ---- what a key is looked up by
+
+pub int_key : (it : ℤ) → key_code (value_of (values.Int it)) ≡ of_number it
+int_key it = ap key_code (int_is it)

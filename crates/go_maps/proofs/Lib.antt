@@ -4,5 +4,6 @@ pub mod CodesOf
 pub mod Hashed
 pub mod KindsOf
 pub mod Leaves
+pub mod LookedUp
 pub mod Sames
 pub mod Shown

@@ -82,9 +82,10 @@ pub push_parts-loop-part-preserved : goal.push_parts-loop-part-preserved
 push_parts-loop-part-preserved t c =
     let xs = c.args.parts.now in
     let i = c.loop-part.part-index in
-    let x = c.part-item.result in
-    ( next_code xs i x c.loop-part.bytes.items c.push_part.new.bytes.items _ c.loop-part.invariant.0 c.loop-part-test.true c.part-item.is c.in_ok-push_part.ensures.code,
-      λ test tells. c.loop-part.invariant.1 test tells ∙ next_hashes test xs i x c.loop-part-test.true c.part-item.is ∙ passed _ _ (c.in_ok-push_part.ensures.fault test tells) )
+    let x = c.part-item.result in (
+      next_code xs i x c.loop-part.bytes.items c.push_part.new.bytes.items _ c.loop-part.invariant.0 c.loop-part-test.true c.part-item.is c.in_ok-push_part.ensures.code,
+      λ test tells. c.loop-part.invariant.1 test tells ∙ next_hashes test xs i x c.loop-part-test.true c.part-item.is ∙ passed _ _ (c.in_ok-push_part.ensures.fault test tells),
+    )
 
 pub push_parts-returns-in_err-push_part-clause-fault : goal.push_parts-returns-in_err-push_part-clause-fault
 push_parts-returns-in_err-push_part-clause-fault t c =

@@ -12,5 +12,5 @@ returns-in-Int c =
     let plain : to_z w128 (of_z w128 c.in-Int.number) ≡ c.in-Int.number = grind (arith, ints, to_z-of_z) in
     IfOk-weaker c.push_int.result _ _
     (λ _ h. h ∙ ap (λ z. c.args.bytes.now.items ++ code (number z)) plain
-      ∙ ap (λ l. c.args.bytes.now.items ++ l) (sym (ap (λ v. code (value_of v)) c.in-Int.is ∙ int_code c.in-Int.number)))
+    ∙ ap (λ l. c.args.bytes.now.items ++ l) (sym (ap (λ v. code (value_of v)) c.in-Int.is ∙ int_code c.in-Int.number)))
     c.push_int.ensures
