@@ -1,6 +1,7 @@
 -- What keys are looked up by: integers by themselves, others by their code.
 use Rattle.std.proofs.Common.{◌≡◌, refl}
 use Rattle.std.proofs.lemmas.List.{map-append}
+use Rattle.std.proofs.lemmas.Option.{slice_get-map}
 use Rattle.go_value.specs.Values as vals
 use Rattle.go_value.specs.Values.{Val}
 use Rattle.go_maps.specs.Keys.{code, key_code, of_bytes}
@@ -25,3 +26,5 @@ other_key (vals.text_range x y) h = refl
 other_key (vals.map_range x y) h = refl
 
 pub ruleset appending = (map-append)
+
+pub ruleset mapped = (slice_get-map)

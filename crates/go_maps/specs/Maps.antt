@@ -10,6 +10,7 @@ use Rattle.go_value.specs.declared.faults.ValueError.{ValueError}
 use Rattle.go_value.specs.Values.{Val, value_of}
 use Rattle.go_maps.specs.Equality.{TellsComparable}
 use Rattle.go_maps.specs.Keys.{KeyCode, of_number, of_bytes, TellsFault, unhashable}
+use Rattle.go_maps.specs.declared.maps.Entry.{Entry}
 use Rattle.go_maps.specs.declared.maps.Look.{Look}
 use Rattle.go_maps.specs.declared.maps.Look.TheVariants as look
 use Rattle.go_maps.specs.declared.maps.MapEntries.{MapEntries}
@@ -52,6 +53,13 @@ entry_of (Some entries) number = entry_at entries number
 abbrev pub entry_in : List Map → Option MapId → ℕ → Option Pair
 entry_in maps None number = None
 entry_in maps (Some id) number = entry_of (slice_get maps id.number) number
+
+-- an entry with its number
+abbrev pub numbered : ℕ → Pair → ℕ × Val × Val
+numbered number pair = (number, pair.key, pair.value)
+
+abbrev pub pair_made : Entry → ℕ × Val × Val
+pair_made entry = (entry.number, value_of entry.key, value_of entry.value)
 
 -- ---- keys
 

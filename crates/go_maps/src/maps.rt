@@ -1,9 +1,9 @@
 //! Maps. Go specification, "Map types", "Index expressions" and "Deletion of map elements".
 
-ghost use Rattle.std.specs.Prelude.{◌≡◌, ◌++◌, ◌∷◌, [], IfOk, OnErr, option_map, option_copied, is_some, length};
+ghost use Rattle.std.specs.Prelude.{◌≡◌, ◌++◌, ◌∷◌, [], IfOk, OnErr, option_map, option_copied, is_some, length, slice_get, Some};
 ghost use Rattle.go_value.specs.Values.{value_of};
 ghost use Rattle.go_maps.specs.Keys.{Hashes, key_code};
-ghost use Rattle.go_maps.specs.Maps.{maps_of, map_of, pair_of, entry_at, entry_in, looked_up, FaultsPut};
+ghost use Rattle.go_maps.specs.Maps.{maps_of, map_of, pair_of, entry_at, entry_in, pair_made, numbered, looked_up, FaultsPut};
 
 use crate::keys::key_bytes;
 use crate::memory::lost;
@@ -218,7 +218,10 @@ impl Maps {
         Ok(MapId { number })
     }
 
-    fn map(&self, map: MapId) -> Result<&MapEntries, NoMemory> {
+    #[tactic(auto, using(crate::proofs::LookedUp::mapped))]
+    fn map(&self, map: MapId) -> Result<&MapEntries, NoMemory>
+        ensures { IfOk result (λ entries. slice_get (maps_of self.now) map.number ≡ Some (map_of entries.now)) }
+    {
         match self.maps.get(map.number as usize) {
             Some(entries) => Ok(entries),
             None => Err(lost()),
@@ -334,7 +337,9 @@ impl Maps {
         alloc: Global,
         map: Option<MapId>,
         number: u64,
-    ) -> Result<Option<Entry>, NoMemory> {
+    ) -> Result<Option<Entry>, NoMemory>
+        ensures { IfOk result (λ found. option_map pair_made found ≡ option_map (numbered number) (entry_in (maps_of self.now) map number)) }
+    {
         let Some(map) = map else {
             return Ok(None);
         };
@@ -376,7 +381,9 @@ fn put_entry(
     }
 }
 
-fn copy_entry(alloc: Global, number: u64, slot: &Slot) -> Result<Entry, NoMemory> {
+fn copy_entry(alloc: Global, number: u64, slot: &Slot) -> Result<Entry, NoMemory>
+    ensures { IfOk result (λ entry. pair_made entry ≡ numbered number (pair_of slot.now)) }
+{
     Ok(Entry {
         number,
         key: slot.key.copy(alloc)?,
