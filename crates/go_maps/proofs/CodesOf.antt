@@ -5,10 +5,8 @@ use Rattle.go_base.specs.declared.ids.CellId.{CellId}
 use Rattle.go_value.specs.declared.address.Pointer.{Pointer}
 use Rattle.go_value.specs.Values as vals
 use Rattle.go_value.specs.Values.{Val, value_of, dynamic_of, part_of, parts_of}
-use Rattle.go_value.specs.declared.values.Dynamic.{Dynamic}
-use Rattle.go_value.specs.declared.values.Part.{Part}
 use Rattle.go_value.specs.declared.values.Value.TheVariants as values
-use Rattle.go_value.proofs.Variants.{parts_is, interface_is, truth_is, int_is, text_is, pointer_is, chan_is, nil_interface_is, dynamic_is, part_is}
+use Rattle.go_value.proofs.Variants.{parts_is, interface_is, truth_is, int_is, text_is, pointer_is, chan_is, nil_interface_is}
 use Rattle.go_maps.specs.Keys.{code, parts_code, number_code, steps_code, pointer_code, key_code, of_number}
 
 pub truth_code : (it : Bool) → code (value_of (values.Truth it)) ≡ code (vals.truth it)

@@ -1,5 +1,5 @@
 -- The code of a key and its fault, part by part.
-use Rattle.std.proofs.Common.{◌≡◌, ◌<◌, ◌≤◌, ◌+◌, ℕ, ap, refl, sym, subst, ◌∙◌, map, List, [], ◌∷◌, ◌++◌, Bool, true, false, Option, Some, None, Result, Ok, Err, IfOk, drop, get_or, length, append_assoc}
+use Rattle.std.proofs.Common.{◌≡◌, ◌<◌, ◌≤◌, ◌+◌, ℕ, ap, refl, sym, ◌∙◌, map, List, [], ◌∷◌, ◌++◌, Bool, true, false, Option, Some, None, Err, drop, get_or, length, append_assoc}
 use Rattle.std.specs.Prelude.{IsTrue, ◌↔◌}
 use Rattle.std.proofs.lemmas.Bool.{cond-true, cond-false}
 use Rattle.std.proofs.lemmas.List.{append-nil}
@@ -16,7 +16,7 @@ use Rattle.go_value.specs.Values as vals
 use Rattle.go_value.specs.Values.{Val, Field, value_of, dynamic_of, part_of, parts_of, part}
 use Rattle.go_value.proofs.Variants.{part_is}
 use Rattle.go_maps.specs.Equality.{TellsComparable}
-use Rattle.go_maps.specs.Keys.{code, parts_code, part_code, number_code, unhashable, unhashable_in, unhashable_part, first_fault, TellsFault, Hashes}
+use Rattle.go_maps.specs.Keys.{code, parts_code, part_code, number_code, unhashable, unhashable_in, unhashable_part, first_fault, TellsFault}
 use Rattle.go_maps.proofs.KindsOf.{kind, interfaces, compounds}
 use Rattle.go_maps.proofs.Sames.{dynamic_as, told, not_told, next_part, drop_whole}
 

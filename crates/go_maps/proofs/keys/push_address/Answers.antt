@@ -1,4 +1,3 @@
-use Rattle.std.proofs.Common.{◌≡◌}
 use Rattle.std.proofs.lemmas.Result.{IfOk-weaker, IfOk-at_ok}
 use Rattle.go_maps.proofs.CodesOf.{address_code}
 use Rattle.go_maps.proofs.keys.push_address.Goals as goal

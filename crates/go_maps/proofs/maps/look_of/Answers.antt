@@ -1,4 +1,4 @@
-use Rattle.std.proofs.Common.{◌≡◌, ap, ◌∙◌}
+use Rattle.std.proofs.Common.{ap, ◌∙◌}
 use Rattle.go_value.specs.Values.{value_of}
 use Rattle.go_value.proofs.Variants.{int_is}
 use Rattle.go_maps.specs.Keys.{unhashable, of_bytes}

@@ -1,4 +1,4 @@
-use Rattle.std.proofs.Common.{◌≡◌, Some, ap, sym, ◌∙◌, option_map}
+use Rattle.std.proofs.Common.{Some, ap, sym, ◌∙◌, option_map}
 use Rattle.go_maps.specs.Maps.{maps_of, entry_in, entry_of, numbered}
 use Rattle.go_maps.proofs.maps.Maps.entry.Goals as goal
 
