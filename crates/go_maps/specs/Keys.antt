@@ -12,8 +12,8 @@ use Rattle.go_value.specs.declared.faults.Fault.TheVariants as fault
 use Rattle.go_value.specs.declared.faults.ValueError.{ValueError}
 use Rattle.go_value.specs.declared.faults.ValueError.TheVariants as errors
 use Rattle.go_type.specs.Table.{Table}
-use Rattle.go_value.specs.Values.{Val, Field, Parts, none, part, truth, number, text, pointer, chan_number, nil_interface}
-use Rattle.go_value.specs.Values.{dynamic, parts}
+use Rattle.go_value.specs.Values.{Val, Field, Parts, none, part, truth, number, text, pointer, chan_number}
+use Rattle.go_value.specs.Values.{nil_interface, dynamic, parts}
 use Rattle.go_maps.specs.Equality.{compared, TellsComparable}
 
 -- ---- the code of a key

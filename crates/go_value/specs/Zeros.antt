@@ -13,8 +13,8 @@ use Rattle.go_value.specs.Values.{Val, Parts, none, part, truth, number, text, p
 use Rattle.go_value.specs.Values.{nil_function, closure, bound, expression, nil_interface, dynamic, parts, text_range}
 use Rattle.go_value.specs.Values.{map_range, Field, parts_of}
 
--- ---- of a type: false for booleans, 0 for numbers, "" for strings, and nil for pointers, functions, interfaces, slices,
--- channels and maps. No constant nil and no state of a range is a zero value.
+-- ---- of a type: false for booleans, 0 for numbers, "" for strings, and nil for pointers, functions, interfaces,
+-- slices, channels and maps. The untyped nil and the state of a range have none.
 
 abbrev pub zero_of_basic : Basic → Option Val
 zero_of_basic Boolean = Some (truth false)
