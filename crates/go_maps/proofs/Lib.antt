@@ -1,6 +1,9 @@
 pub mod Bytes
 pub mod Codes
+pub mod CodesOf
+pub mod Hashed
 pub mod KindsOf
 pub mod Leaves
+pub mod LookedUp
 pub mod Sames
 pub mod Shown

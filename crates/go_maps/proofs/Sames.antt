@@ -22,7 +22,7 @@ use Rattle.go_maps.specs.Equality.{TellsComparable, Tells, Compares, compared, c
 pub others : (types : Table) (a b : TypeId) (it other : Val) → (a.number ≡ b.number → ⊥) → Compares types (dynamic a it) (dynamic b other) (Ok false)
 others types a b it other ne test tells = cond-false (a.number == b.number) _ _ (ne_eqb a.number b.number ne)
 
-not_told : (types : Table) (test : TypeId → Bool) (of : TypeId) (known : Bool) → TellsComparable types test → (IsTrue known ↔ Comparable types of) → known ≡ false → (b : Bool) → test of ≡ b → test of ≡ false
+pub not_told : (types : Table) (test : TypeId → Bool) (of : TypeId) (known : Bool) → TellsComparable types test → (IsTrue known ↔ Comparable types of) → known ≡ false → (b : Bool) → test of ≡ b → test of ≡ false
 not_told types test of known tells means no_way true is = absurd (false≢true (sym no_way ∙ means.1 ((tells of).0 is)))
 not_told types test of known tells means no_way false is = is
 
@@ -30,7 +30,7 @@ pub uncomparable : (types : Table) (a b : TypeId) (it other : Val) (known : Bool
 uncomparable types a b it other known same means no_way test tells =
     cond-true (a.number == b.number) _ _ (eq-eqb a.number b.number same) ∙ cond-false (test a) _ _ (not_told types test a known tells means no_way (test a) refl)
 
-told : (types : Table) (test : TypeId → Bool) (of : TypeId) (known : Bool) → TellsComparable types test → (IsTrue known ↔ Comparable types of) → known ≡ true → test of ≡ true
+pub told : (types : Table) (test : TypeId → Bool) (of : TypeId) (known : Bool) → TellsComparable types test → (IsTrue known ↔ Comparable types of) → known ≡ true → test of ≡ true
 told types test of known tells means yes_way = (tells of).1 (means.0 yes_way)
 
 pub within : (types : Table) (a b : TypeId) (it other : Val) (known : Bool) (answer : Result Bool ValueError) → a.number ≡ b.number → (IsTrue known ↔ Comparable types a) → known ≡ true → Compares types it other answer → Compares types (dynamic a it) (dynamic b other) answer

@@ -1,7 +1,7 @@
 -- Keys of maps: what stands for a key, so that keys of one type have one code exactly where they are equal. Go
 -- specification, "Map types".
 use Rattle.std.specs.Prelude.{ℕ, ℤ, ◌≡◌, ◌<◌, ◌^◌, Bool, true, false, List, [], ◌∷◌, ◌++◌, length}
-use Rattle.std.specs.Prelude.{Option, Some, None, Ok, ◌↔◌, if◌then◌else◌, FitsSigned}
+use Rattle.std.specs.Prelude.{Option, Some, None, Result, Ok, Err, ◌↔◌, if◌then◌else◌, FitsSigned}
 use Rattle.std.specs.Int.{to_le_bytes, cast_unsigned, w64, w128}
 use Rattle.go_base.specs.declared.ids.CellId.{CellId}
 use Rattle.go_base.specs.declared.ids.ChanId.{ChanId}
@@ -9,9 +9,12 @@ use Rattle.go_base.specs.declared.ids.TypeId.{TypeId}
 use Rattle.go_value.specs.declared.address.Pointer.{Pointer}
 use Rattle.go_value.specs.declared.faults.Fault.{Fault}
 use Rattle.go_value.specs.declared.faults.Fault.TheVariants as fault
-use Rattle.go_value.specs.Values.{Val, Parts, none, part, truth, number, text, pointer, chan_number, nil_interface}
-use Rattle.go_value.specs.Values.{dynamic, parts}
-use Rattle.go_maps.specs.Equality.{compared}
+use Rattle.go_value.specs.declared.faults.ValueError.{ValueError}
+use Rattle.go_value.specs.declared.faults.ValueError.TheVariants as errors
+use Rattle.go_type.specs.Table.{Table}
+use Rattle.go_value.specs.Values.{Val, Field, Parts, none, part, truth, number, text, pointer, chan_number}
+use Rattle.go_value.specs.Values.{nil_interface, dynamic, parts}
+use Rattle.go_maps.specs.Equality.{compared, TellsComparable}
 
 -- ---- the code of a key
 
@@ -72,6 +75,30 @@ abbrev mutual
   unhashable_in test none = None
   unhashable_in test (part it true rest) = unhashable_in test rest
   unhashable_in test (part it false rest) = first_fault (unhashable test it) (unhashable_in test rest)
+
+-- a call gives the fault of a key, and gives none where the key has none; nothing is said where memory does not suffice
+abbrev pub TellsFault : {A : Type 0} → Result A ValueError → Option Fault → Type 0
+TellsFault (Ok it) wanted = wanted ≡ None
+TellsFault (Err (errors.Fault it)) wanted = wanted ≡ Some it
+TellsFault (Err (errors.OutOfMemory)) wanted = Unit {0}
+
+abbrev pub Hashes : {A : Type 0} → Table → Val → Result A ValueError → Type 0
+Hashes types key answer = (test : TypeId → Bool) → TellsComparable types test → TellsFault answer (unhashable test key)
+
+abbrev pub HashesIn : {A : Type 0} → Table → Parts → Result A ValueError → Type 0
+HashesIn types keys answer =
+    (test : TypeId → Bool) → TellsComparable types test → TellsFault answer (unhashable_in test keys)
+
+-- a part, of which nothing counts where it is named `_`
+abbrev pub part_code : Field → List ℕ
+part_code it = if it.blank then [] else code it.value
+
+abbrev pub unhashable_part : (TypeId → Bool) → Field → Option Fault
+unhashable_part test it = if it.blank then None else unhashable test it.value
+
+abbrev pub HashesPart : {A : Type 0} → Table → Field → Result A ValueError → Type 0
+HashesPart types it answer =
+    (test : TypeId → Bool) → TellsComparable types test → TellsFault answer (unhashable_part test it)
 
 -- ---- keys of one type
 

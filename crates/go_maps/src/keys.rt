@@ -1,14 +1,22 @@
 //! Keys of maps, as bytes. Two keys of one type have the same bytes where they are equal.
 
+ghost use Rattle.std.specs.Prelude.{◌≡◌, ◌++◌, ◌∷◌, [], Bool, IfOk, map, length};
+ghost use Rattle.go_base.specs.declared.ids.TypeId.{TypeId};
+ghost use Rattle.go_value.specs.Values.{value_of, dynamic_of, part_of, parts_of, dynamic, chan_number, number as number_value};
+ghost use Rattle.go_maps.specs.Keys.{code, parts_code, number_code, steps_code, pointer_code, Hashes, HashesIn, HashesPart, part_code};
+
 use crate::equality::is_comparable;
 use crate::memory::lost;
-use go_base::NoMemory;
+use go_base::{ChanId, NoMemory};
 use go_type::Types;
 use go_value::{Address, Dynamic, Fault, Part, Value, ValueError};
 use std::alloc::Global;
 
 /// The bytes of a key. `Unhashable` exactly where an interface in it holds a value of a type that is not comparable.
-pub(crate) fn key_bytes(alloc: Global, types: &Types, key: &Value) -> Result<Vec<u8>, ValueError> {
+pub(crate) fn key_bytes(alloc: Global, types: &Types, key: &Value) -> Result<Vec<u8>, ValueError>
+    ensures code { IfOk result (λ bytes. bytes.items ≡ code (value_of key.now)) }
+    ensures fault { Hashes types.now (value_of key.now) result }
+{
     let mut bytes = Vec::new(alloc);
     push_key(alloc, types, key, &mut bytes)?;
     Ok(bytes)
@@ -20,7 +28,10 @@ fn push_key(
     types: &Types,
     key: &Value,
     bytes: &mut Vec<u8>,
-) -> Result<(), ValueError> {
+) -> Result<(), ValueError>
+    ensures code { IfOk result (λ _. bytes.new.items ≡ bytes.old.items ++ code (value_of key.now)) }
+    ensures fault { Hashes types.now (value_of key.now) result }
+{
     match key {
         Value::Interface(dynamic) => push_dynamic(alloc, types, dynamic, bytes),
         Value::Parts(parts) => push_parts(alloc, types, parts.as_slice(), bytes),
@@ -32,15 +43,18 @@ fn push_key(
 fn push_dynamic(
     alloc: Global,
     types: &Types,
-    dynamic: &Dynamic,
+    held: &Dynamic,
     bytes: &mut Vec<u8>,
-) -> Result<(), ValueError> {
-    if !is_comparable(types, dynamic.of) {
-        return Err(ValueError::Fault(Fault::Unhashable(dynamic.of)));
+) -> Result<(), ValueError>
+    ensures code { IfOk result (λ _. bytes.new.items ≡ bytes.old.items ++ code (dynamic (dynamic_of held.now).of (dynamic_of held.now).value)) }
+    ensures fault { Hashes types.now (dynamic (dynamic_of held.now).of (dynamic_of held.now).value) result }
+{
+    if !is_comparable(types, held.of) {
+        return Err(ValueError::Fault(Fault::Unhashable(held.of)));
     }
-    bytes.push(1)?;
-    push_number(bytes, dynamic.of.number)?;
-    push_key(alloc, types, &dynamic.value, bytes)
+    push_byte(bytes, 1)?;
+    push_number(bytes, held.of.number)?;
+    push_key(alloc, types, &held.value, bytes)
 }
 
 #[cycle(key)]
@@ -49,54 +63,106 @@ fn push_parts(
     types: &Types,
     parts: &[Part],
     bytes: &mut Vec<u8>,
-) -> Result<(), ValueError> {
+) -> Result<(), ValueError>
+    ensures code { IfOk result (λ _. bytes.new.items ≡ bytes.old.items ++ parts_code (parts_of (map part_of parts.now))) }
+    ensures fault { HashesIn types.now (parts_of (map part_of parts.now)) result }
+{
     for part in parts {
-        if !part.blank {
-            push_key(alloc, types, &part.value, bytes)?;
-        }
+        push_part(alloc, types, part, bytes)?;
     }
     Ok(())
 }
 
-fn push_leaf(alloc: Global, key: &Value, bytes: &mut Vec<u8>) -> Result<(), NoMemory> {
+/// Fields named `_` are left out.
+#[cycle(key)]
+fn push_part(
+    alloc: Global,
+    types: &Types,
+    part: &Part,
+    bytes: &mut Vec<u8>,
+) -> Result<(), ValueError>
+    ensures code { IfOk result (λ _. bytes.new.items ≡ bytes.old.items ++ part_code (part_of part.now)) }
+    ensures fault { HashesPart types.now (part_of part.now) result }
+{
+    if part.blank {
+        return Ok(());
+    }
+    push_key(alloc, types, &part.value, bytes)
+}
+
+#[tactic(auto, using(crate::proofs::CodesOf::leaf_codes))]
+fn push_leaf(alloc: Global, key: &Value, bytes: &mut Vec<u8>) -> Result<(), NoMemory>
+    ensures { IfOk result (λ _. bytes.new.items ≡ bytes.old.items ++ code (value_of key.now)) }
+{
     match key {
-        Value::NilInterface | Value::Truth(false) | Value::Chan(None) => bytes.push(0)?,
-        Value::Truth(true) => bytes.push(1)?,
-        Value::Int(number) => bytes.extend_from_slice(&number.to_le_bytes())?,
-        Value::Text(text) => {
-            push_number(bytes, text.as_slice().len() as u64)?;
-            bytes.extend_from_slice(text.as_slice())?;
-        }
-        Value::Chan(Some(chan)) => {
-            bytes.push(1)?;
-            push_number(bytes, chan.number)?;
-        }
-        Value::Pointer(address) => push_address(alloc, address, bytes)?,
-        _ => return Err(lost()),
+        Value::NilInterface => push_byte(bytes, 0),
+        Value::Truth(false) => push_byte(bytes, 0),
+        Value::Truth(true) => push_byte(bytes, 1),
+        Value::Int(number) => push_int(bytes, *number),
+        Value::Text(text) => push_text(bytes, text.as_slice()),
+        Value::Chan(chan) => push_chan(bytes, *chan),
+        Value::Pointer(address) => push_address(alloc, address, bytes),
+        _ => Err(lost()),
     }
+}
+
+fn push_byte(bytes: &mut Vec<u8>, byte: u8) -> Result<(), NoMemory>
+    ensures { IfOk result (λ _. bytes.new.items ≡ bytes.old.items ++ byte ∷ []) }
+{
+    bytes.push(byte)?;
     Ok(())
 }
 
-fn push_address(alloc: Global, address: &Address, bytes: &mut Vec<u8>) -> Result<(), NoMemory> {
+fn push_int(bytes: &mut Vec<u8>, number: i128) -> Result<(), NoMemory>
+    ensures { IfOk result (λ _. bytes.new.items ≡ bytes.old.items ++ code (number_value number)) }
+{
+    bytes.extend_from_slice(&number.to_le_bytes())?;
+    Ok(())
+}
+
+fn push_text(bytes: &mut Vec<u8>, text: &[u8]) -> Result<(), NoMemory>
+    ensures { IfOk result (λ _. bytes.new.items ≡ bytes.old.items ++ (number_code (length text.now) ++ text.now)) }
+{
+    push_number(bytes, text.len() as u64)?;
+    bytes.extend_from_slice(text)?;
+    Ok(())
+}
+
+fn push_chan(bytes: &mut Vec<u8>, chan: Option<ChanId>) -> Result<(), NoMemory>
+    ensures { IfOk result (λ _. bytes.new.items ≡ bytes.old.items ++ code (chan_number chan)) }
+{
+    let Some(chan) = chan else {
+        return push_byte(bytes, 0);
+    };
+    push_byte(bytes, 1)?;
+    push_number(bytes, chan.number)
+}
+
+fn push_address(alloc: Global, address: &Address, bytes: &mut Vec<u8>) -> Result<(), NoMemory>
+    ensures { IfOk result (λ _. bytes.new.items ≡ bytes.old.items ++ pointer_code address.now.cell address.now.path) }
+{
     let pointer = address.pointer(alloc)?;
     let Some(cell) = pointer.cell else {
-        bytes.push(0)?;
-        return Ok(());
+        return push_byte(bytes, 0);
     };
-    bytes.push(1)?;
+    push_byte(bytes, 1)?;
     push_number(bytes, cell.number)?;
     push_number(bytes, pointer.path.len() as u64)?;
     push_steps(bytes, pointer.path.as_slice())
 }
 
-fn push_steps(bytes: &mut Vec<u8>, steps: &[u32]) -> Result<(), NoMemory> {
+fn push_steps(bytes: &mut Vec<u8>, steps: &[u32]) -> Result<(), NoMemory>
+    ensures { IfOk result (λ _. bytes.new.items ≡ bytes.old.items ++ steps_code steps.now) }
+{
     for step in steps {
         push_number(bytes, u64::from(*step))?;
     }
     Ok(())
 }
 
-fn push_number(bytes: &mut Vec<u8>, number: u64) -> Result<(), NoMemory> {
+fn push_number(bytes: &mut Vec<u8>, number: u64) -> Result<(), NoMemory>
+    ensures { IfOk result (λ _. bytes.new.items ≡ bytes.old.items ++ number_code number) }
+{
     bytes.extend_from_slice(&number.to_le_bytes())?;
     Ok(())
 }

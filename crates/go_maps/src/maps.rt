@@ -1,7 +1,9 @@
 //! Maps. Go specification, "Map types", "Index expressions" and "Deletion of map elements".
 
-ghost use Rattle.std.specs.Prelude.{◌≡◌, []};
-ghost use Rattle.go_maps.specs.Maps.{maps_of};
+ghost use Rattle.std.specs.Prelude.{◌≡◌, ◌++◌, ◌∷◌, [], IfOk, OnErr, option_map, option_copied, is_some, length, slice_get, Some};
+ghost use Rattle.go_value.specs.Values.{value_of};
+ghost use Rattle.go_maps.specs.Keys.{Hashes, key_code};
+ghost use Rattle.go_maps.specs.Maps.{maps_of, map_of, pair_of, entry_at, entry_in, pair_made, numbered, looked_up, FaultsPut};
 
 use crate::keys::key_bytes;
 use crate::memory::lost;
@@ -93,7 +95,11 @@ impl Entries {
     }
 }
 
-fn look_of(alloc: Global, types: &Types, key: &Value) -> Result<Look, ValueError> {
+#[tactic(auto, using(crate::proofs::CodesOf::int_key))]
+fn look_of(alloc: Global, types: &Types, key: &Value) -> Result<Look, ValueError>
+    ensures code { IfOk result (λ look. looked_up look ≡ key_code (value_of key.now)) }
+    ensures fault { Hashes types.now (value_of key.now) result }
+{
     match key {
         Value::Int(number) => Ok(Look::Int(*number)),
         _ => Ok(Look::Other(key_bytes(alloc, types, key)?)),
@@ -101,7 +107,9 @@ fn look_of(alloc: Global, types: &Types, key: &Value) -> Result<Look, ValueError
 }
 
 impl MapEntries {
-    fn new(alloc: Global) -> MapEntries {
+    fn new(alloc: Global) -> MapEntries
+        ensures { map_of result ≡ [] }
+    {
         MapEntries {
             slots: Vec::new(alloc),
             live: 0,
@@ -118,7 +126,9 @@ impl MapEntries {
         }
     }
 
-    fn slot(&self, number: u64) -> Option<&Slot> {
+    fn slot(&self, number: u64) -> Option<&Slot>
+        ensures { option_map pair_of (option_copied result) ≡ entry_at (map_of self.now) number }
+    {
         match self.slots.get(number as usize) {
             Some(Some(slot)) => Some(slot),
             _ => None,
@@ -197,13 +207,21 @@ impl Maps {
     }
 
     /// A new map without entries. After `NoMemory` the maps are as before.
-    pub fn make(&mut self) -> Result<MapId, NoMemory> {
+    #[tactic(auto, using(crate::proofs::LookedUp::appending))]
+    pub fn make(&mut self) -> Result<MapId, NoMemory>
+        ensures number { IfOk result (λ made. made.number ≡ length (maps_of self.old)) }
+        ensures ok { IfOk result (λ _. maps_of self.new ≡ maps_of self.old ++ [] ∷ []) }
+        ensures err { OnErr result (maps_of self.new ≡ maps_of self.old) }
+    {
         let number = self.maps.len() as u64;
         self.maps.push(MapEntries::new(self.alloc))?;
         Ok(MapId { number })
     }
 
-    fn map(&self, map: MapId) -> Result<&MapEntries, NoMemory> {
+    #[tactic(auto, using(crate::proofs::LookedUp::mapped))]
+    fn map(&self, map: MapId) -> Result<&MapEntries, NoMemory>
+        ensures { IfOk result (λ entries. slice_get (maps_of self.now) map.number ≡ Some (map_of entries.now)) }
+    {
         match self.maps.get(map.number as usize) {
             Some(entries) => Ok(entries),
             None => Err(lost()),
@@ -217,7 +235,9 @@ impl Maps {
         types: &Types,
         map: Option<MapId>,
         key: &Value,
-    ) -> Result<Option<Value>, ValueError> {
+    ) -> Result<Option<Value>, ValueError>
+        ensures fault { Hashes types.now (value_of key.now) result }
+    {
         let look = look_of(alloc, types, key)?;
         let Some(map) = map else {
             return Ok(None);
@@ -241,7 +261,9 @@ impl Maps {
         map: Option<MapId>,
         key: Value,
         value: Value,
-    ) -> Result<(), ValueError> {
+    ) -> Result<(), ValueError>
+        ensures fault { FaultsPut types.now map (value_of key) result }
+    {
         let Some(map) = map else {
             return Err(ValueError::Fault(Fault::NilMap));
         };
@@ -259,7 +281,10 @@ impl Maps {
         types: &Types,
         map: Option<MapId>,
         key: &Value,
-    ) -> Result<(), ValueError> {
+    ) -> Result<(), ValueError>
+        ensures fault { Hashes types.now (value_of key.now) result }
+        ensures err { OnErr result (maps_of self.new ≡ maps_of self.old) }
+    {
         let look = look_of(self.alloc, types, key)?;
         let Some(map) = map else {
             return Ok(());
@@ -294,7 +319,9 @@ impl Maps {
     }
 
     /// Whether the entry of a number stands in a map.
-    pub fn has_entry(&self, map: Option<MapId>, entry: u64) -> bool {
+    pub fn has_entry(&self, map: Option<MapId>, entry: u64) -> bool
+        ensures { result ≡ is_some (entry_in (maps_of self.now) map entry) }
+    {
         match map {
             Some(map) => match self.maps.get(map.number as usize) {
                 Some(entries) => entries.slot(entry).is_some(),
@@ -310,7 +337,9 @@ impl Maps {
         alloc: Global,
         map: Option<MapId>,
         number: u64,
-    ) -> Result<Option<Entry>, NoMemory> {
+    ) -> Result<Option<Entry>, NoMemory>
+        ensures { IfOk result (λ found. option_map pair_made found ≡ option_map (numbered number) (entry_in (maps_of self.now) map number)) }
+    {
         let Some(map) = map else {
             return Ok(None);
         };
@@ -352,7 +381,9 @@ fn put_entry(
     }
 }
 
-fn copy_entry(alloc: Global, number: u64, slot: &Slot) -> Result<Entry, NoMemory> {
+fn copy_entry(alloc: Global, number: u64, slot: &Slot) -> Result<Entry, NoMemory>
+    ensures { IfOk result (λ entry. pair_made entry ≡ numbered number (pair_of slot.now)) }
+{
     Ok(Entry {
         number,
         key: slot.key.copy(alloc)?,

@@ -7,3 +7,5 @@ pub mod KindOf
 pub mod Written
 pub mod ZeroOf
 pub mod Mapped
+pub mod ZeroTo
+pub mod RuneAt

@@ -7,3 +7,4 @@ pub mod Interfaces
 pub mod Texts
 pub mod Kinds
 pub mod Zeros
+pub mod Runes

@@ -1,9 +1,10 @@
 //! Zero values. Go specification, "The zero value".
 
-ghost use Rattle.std.specs.Prelude.{◌≡◌, IfOk, map};
+ghost use Rattle.std.specs.Prelude.{◌≡◌, IfOk, Some, None, false, map};
 ghost use Rattle.go_value.specs.Values.{value_of, part_of, parts_of};
 ghost use Rattle.go_value.specs.Values as vals;
-ghost use Rattle.go_value.specs.Zeros.{zeroed, zeroed_parts};
+ghost use Rattle.go_type.specs.Table.{is_name};
+ghost use Rattle.go_value.specs.Zeros.{zeroed, zeroed_parts, zero_to, zero_of_term, zero_of_basic, all_parts, parts_by, array_of};
 
 use crate::address::{Address, SliceValue};
 use crate::memory::lost;
@@ -18,7 +19,9 @@ pub fn zero_value(
     types: &Types,
     blank: Option<NameId>,
     of: TypeId,
-) -> Result<Value, NoMemory> {
+) -> Result<Value, NoMemory>
+    ensures { IfOk result (λ zero. zero_to 1000 types.now blank of ≡ Some (value_of zero)) }
+{
     zero_within(alloc, types, blank, of, MAX_NESTING)
 }
 
@@ -29,7 +32,9 @@ fn zero_within(
     blank: Option<NameId>,
     of: TypeId,
     depth: usize,
-) -> Result<Value, NoMemory> {
+) -> Result<Value, NoMemory>
+    ensures { IfOk result (λ zero. zero_to depth types.now blank of ≡ Some (value_of zero)) }
+{
     if depth == 0 {
         return Err(lost());
     }
@@ -61,13 +66,15 @@ fn zero_fields(
     blank: Option<NameId>,
     fields: &[Field],
     depth: usize,
-) -> Result<Value, NoMemory> {
+) -> Result<Value, NoMemory>
+    ensures { IfOk result (λ zero. all_parts (parts_by (λ field. zero_to depth types.now blank field.of) (λ field. is_name blank field.name) fields.now) ≡ Some (value_of zero)) }
+{
     let mut parts = Vec::new(alloc);
     for field in fields {
         let value = zero_within(alloc, types, blank, field.of, depth)?;
         parts.push(Part {
             value,
-            blank: blank == Some(field.name),
+            blank: is_named(blank, field.name),
         })?;
     }
     Value::parts(alloc, parts)
@@ -80,7 +87,9 @@ fn zero_parts(
     blank: Option<NameId>,
     ids: &[TypeId],
     depth: usize,
-) -> Result<Value, NoMemory> {
+) -> Result<Value, NoMemory>
+    ensures { IfOk result (λ zero. all_parts (parts_by (zero_to depth types.now blank) (λ _. false) ids.now) ≡ Some (value_of zero)) }
+{
     let mut parts = Vec::new(alloc);
     for id in ids {
         let value = zero_within(alloc, types, blank, *id, depth)?;
@@ -89,17 +98,32 @@ fn zero_parts(
     Value::parts(alloc, parts)
 }
 
+/// Whether a name is the one that is told.
+fn is_named(told: Option<NameId>, name: NameId) -> bool
+    ensures { result ≡ is_name told name }
+{
+    match told {
+        Some(told) => told.number == name.number,
+        None => false,
+    }
+}
+
 /// An array of one value.
-fn repeated(alloc: Global, value: &Value, len: u64) -> Result<Value, NoMemory> {
+fn repeated(alloc: Global, value: &Value, len: u64) -> Result<Value, NoMemory>
+    ensures { IfOk result (λ array. value_of array ≡ array_of len (value_of value.now)) }
+{
     let mut parts = Vec::new(alloc);
-    for _ in 0..len {
+    'parts: for _ in 0..len {
         parts.push(Part::plain(value.copy(alloc)?))?;
     }
     Value::parts(alloc, parts)
 }
 
 /// The zero value of a type without parts.
-fn zero_leaf(alloc: Global, term: &TypeTerm) -> Result<Value, NoMemory> {
+#[tactic(auto, using(crate::proofs::ZeroOf::zero_leaves))]
+fn zero_leaf(alloc: Global, term: &TypeTerm) -> Result<Value, NoMemory>
+    ensures { IfOk result (λ zero. zero_of_term (λ _. None) None (Some term.now) ≡ Some (value_of zero)) }
+{
     match term {
         TypeTerm::Basic(basic) => zero_basic(alloc, *basic),
         TypeTerm::Pointer(_) => Ok(Value::Pointer(Address::nil())),
@@ -112,7 +136,10 @@ fn zero_leaf(alloc: Global, term: &TypeTerm) -> Result<Value, NoMemory> {
     }
 }
 
-fn zero_basic(alloc: Global, basic: Basic) -> Result<Value, NoMemory> {
+#[tactic(auto, using(crate::proofs::ZeroOf::zero_leaves, crate::proofs::Variants::text_is))]
+fn zero_basic(alloc: Global, basic: Basic) -> Result<Value, NoMemory>
+    ensures { IfOk result (λ zero. zero_of_basic basic ≡ Some (value_of zero)) }
+{
     match basic {
         Basic::Bool | Basic::UntypedBool => Ok(Value::Truth(false)),
         Basic::Text | Basic::UntypedText => Value::text(alloc, Bytes::new(Vec::new(alloc))),
