@@ -1,0 +1,7 @@
+//! What a run of code is: the machine that runs it, as definitions, and the laws about them. The crate has no code that
+//! runs.
+#![tactic(auto)]
+
+mod laws;
+
+pub use laws::one_outcome;
