@@ -18,3 +18,4 @@ pub mod Channels
 pub mod Ranges
 pub mod Step
 pub mod Runs
+pub mod Examples

@@ -4,4 +4,6 @@
 
 mod laws;
 
-pub use laws::one_outcome;
+pub use laws::{
+    choices_decide, lone_send_blocks, one_outcome, phis_swap, ranges_choose, recovery_gives_results,
+};
