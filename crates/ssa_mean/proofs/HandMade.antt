@@ -1,6 +1,6 @@
 -- The runs of the codes that are written by hand.
 use mathlib.Core.Bool.{true≢false}
-use Rattle.std.proofs.Common.{◌≡◌, ℕ, zero, suc, ◌<◌, List, [], ◌∷◌, Option, Some, None, Bool, true, false, IsTrue, ◌↔◌}
+use Rattle.std.proofs.Common.{◌≡◌, ℕ, zero, suc, List, [], ◌∷◌, Option, Some, None, Bool, true, false, IsTrue, ◌↔◌}
 use Rattle.std.proofs.Common.{refl, sym, subst, arith}
 use Rattle.std.specs.Prelude.{codes}
 use Rattle.std.specs.Fmt.{digits}
@@ -9,7 +9,6 @@ use Rattle.go_base.specs.declared.ending.Ending.TheVariants.{Exited, Bound, Dead
 use Rattle.go_base.specs.declared.ids.TypeId.{TypeId}
 use Rattle.go_type.specs.Assignable.{Implements}
 use Rattle.go_type.specs.Comparable.{incomparable_to}
-use Rattle.go_type.specs.Table.{Table}
 use Rattle.ssa_ir.specs.declared.code.Code.{Code}
 use Rattle.ssa_mean.specs.Answers.{Answers, AreAnswers}
 use Rattle.ssa_mean.specs.Examples.{few_types, swap_code, recover_code, go_code, send_code, map_code}

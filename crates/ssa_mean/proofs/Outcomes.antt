@@ -1,12 +1,11 @@
 -- Two runs come to one end.
 use mathlib.Core.Path.{fun_ext}
-use Rattle.std.proofs.Common.{◌≡◌, ℕ, zero, suc, List, [], Option, Some, None, Bool, true, false, IsTrue, ◌↔◌, refl, sym, ◌∙◌, ap, subst}
+use Rattle.std.proofs.Common.{◌≡◌, ℕ, zero, suc, List, [], Option, Some, Bool, true, false, IsTrue, ◌↔◌, refl, sym, ◌∙◌, ap, subst}
 use Rattle.go_base.specs.declared.ending.Ending.{Ending}
-use Rattle.go_base.specs.declared.ids.TypeId.{TypeId}
 use Rattle.go_type.specs.Table.{Table}
 use Rattle.ssa_ir.specs.declared.code.Code.{Code}
 use Rattle.ssa_mean.specs.Answers.{Answers, AreAnswers}
-use Rattle.ssa_mean.specs.Runs.{steps, then_step, first_machine, IsRunOf, OneOutcome}
+use Rattle.ssa_mean.specs.Runs.{steps, then_step, OneOutcome}
 use Rattle.ssa_mean.specs.State.{Machine, Next, goes, ends, stuck}
 use Rattle.ssa_mean.specs.Step.{step}
 
@@ -24,10 +23,10 @@ both_tell p q = (λ a. q.1 (p.0 a), λ b. p.1 (q.0 b))
 same_answers : (types : Table) (a b : Answers) → AreAnswers types a → AreAnswers types b → a ≡ b
 same_answers types a b p q =
     let one : a.comparable ≡ b.comparable =
-        fun_ext (λ of. same_test (a.comparable of) (b.comparable of) (both_tell (p.comparable of) (q.comparable of))) in
+    fun_ext (λ of. same_test (a.comparable of) (b.comparable of) (both_tell (p.comparable of) (q.comparable of))) in
     let other : a.implements ≡ b.implements =
-        fun_ext (λ of. fun_ext (λ wanted. same_test (a.implements of wanted) (b.implements of wanted)
-        (both_tell (p.implements of wanted) (q.implements of wanted)))) in
+    fun_ext (λ of. fun_ext (λ wanted. same_test (a.implements of wanted) (b.implements of wanted)
+    (both_tell (p.implements of wanted) (q.implements of wanted)))) in
     λ i. record { comparable = one i; implements = other i }
 
 -- ---- what goes on has not ended
@@ -85,8 +84,8 @@ one_outcome_lem code choices bound output output' ending ending' a b =
     let answers : b.answers ≡ a.answers = same_answers code.types b.answers a.answers b.told a.told in
     let first : b.first ≡ a.first = ap (machine_of b.first) (sym b.begins ∙ a.begins) in
     let leads : steps b.count a.answers code a.first ≡ ends ending' output' =
-        subst (λ m. steps b.count a.answers code m ≡ ends ending' output') first
-        (subst (λ given. steps b.count given code b.first ≡ ends ending' output') answers b.leads) in
+    subst (λ m. steps b.count a.answers code m ≡ ends ending' output') first
+    (subst (λ given. steps b.count given code b.first ≡ ends ending' output') answers b.leads) in
     let same : ends ending output ≡ ends ending' output' =
-        one_end a.answers code a.count b.count a.first ending ending' output output' a.leads leads in
+    one_end a.answers code a.count b.count a.first ending ending' output output' a.leads leads in
     (ap output_of same, ap (ending_of ending) same)

@@ -1,6 +1,6 @@
 -- Operators. Go specification, "Arithmetic operators", "Comparison operators" and "Logical operators".
-use Rattle.std.specs.Prelude.{ℕ, ◌+◌, ◌++◌, Bool, true, false, not, List, ℤ, pos, negsuc, ◌-ℤ◌, Option, Some, None}
-use Rattle.std.specs.Prelude.{Result, Ok, Err, nat_lt, length, if◌then◌else◌}
+use Rattle.std.specs.Prelude.{ℕ, ◌++◌, Bool, not, List, ℤ, pos, negsuc, ◌-ℤ◌, Option, Some, None}
+use Rattle.std.specs.Prelude.{Result, nat_lt, length, if◌then◌else◌}
 use Rattle.std.specs.Cmp.Lexicographic.{slice_cmp}
 use Rattle.std.specs.declared.cmp.Ordering.{Ordering}
 use Rattle.std.specs.Ordering.{nat_cmp, int_cmp, is_eq, is_ne, is_lt, is_le, is_gt, is_ge}

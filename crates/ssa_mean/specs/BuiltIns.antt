@@ -1,17 +1,16 @@
 -- Built-in functions. Go specification, "Built-in functions".
-use Rattle.std.specs.Prelude.{ℕ, ◌+◌, ◌==◌, min, Bool, true, false, List, [], ◌∷◌, ◌++◌, ℤ, pos, int_lt, Option, Some, None}
-use Rattle.std.specs.Prelude.{length, take, replicate, unwrap_or, is_some, if◌then◌else◌}
+use Rattle.std.specs.Prelude.{ℕ, min, Bool, true, false, List, [], ◌∷◌, pos, int_lt, Option, Some, None}
+use Rattle.std.specs.Prelude.{length, take, replicate, if◌then◌else◌}
 use Rattle.std.specs.Cmp.Lexicographic.{slice_cmp}
 use Rattle.std.specs.Ordering.{nat_cmp, is_lt}
-use Rattle.std.specs.Option.{option_and_then, option_map, option_map_or}
+use Rattle.std.specs.Option.{option_map}
 use Rattle.go_base.specs.declared.ids.TypeId.{TypeId}
-use Rattle.go_sched.specs.Goroutines.{State, meant, queue_length, size_of}
+use Rattle.go_sched.specs.Goroutines.{meant, queue_length, size_of}
 use Rattle.go_store.specs.Arrays.{array_of}
 use Rattle.go_store.specs.Slices.{later, has_room, elements_of, with_run_in, append_fault, appended_slice, grown_array}
 use Rattle.go_store.specs.Slices.{copy_count, copied}
 use Rattle.go_store.specs.Stores.{Stored, made}
 use Rattle.go_type.specs.Same.{same_id}
-use Rattle.go_type.specs.Table.{Table}
 use Rattle.go_type.specs.declared.operators.Builtin.{Builtin}
 use Rattle.go_type.specs.declared.operators.Builtin.TheVariants as builtin
 use Rattle.go_type.specs.declared.term.Basic.TheVariants as basic

@@ -1,5 +1,5 @@
 -- Calls. Go specification, "Calls", "Method sets", "Defer statements", "Go statements" and "Return statements".
-use Rattle.std.specs.Prelude.{ℕ, suc, ◌+◌, ◌==◌, Bool, true, false, ◌&&◌, ◌||◌, List, [], ◌∷◌, ◌++◌, map, ℤ, pos, Option}
+use Rattle.std.specs.Prelude.{ℕ, suc, ◌==◌, Bool, false, ◌&&◌, ◌||◌, List, [], ◌∷◌, ◌++◌, map, pos, Option}
 use Rattle.std.specs.Prelude.{Some, None, nat_le, nat_lt, length, replicate, take, unsigned_abs, if◌then◌else◌, codes}
 use Rattle.std.specs.Prelude.{option_map}
 use Rattle.std.specs.Int.{int_rem_euclid}
@@ -10,25 +10,22 @@ use Rattle.go_base.specs.declared.ending.Ending.TheVariants as ending
 use Rattle.go_base.specs.declared.ids.FuncId.{FuncId}
 use Rattle.go_base.specs.declared.ids.NameId.{NameId}
 use Rattle.go_base.specs.declared.ids.TypeId.{TypeId}
-use Rattle.go_sched.specs.Goroutines.{State, spawned}
+use Rattle.go_sched.specs.Goroutines.{spawned}
 use Rattle.go_sched.specs.declared.scheduling.Point.TheVariants as point
 use Rattle.go_store.specs.Arrays.{array_of}
 use Rattle.go_type.specs.Same.{same_id}
 use Rattle.go_value.specs.Values.{Val, number, pointer, nil_function, nil_interface, closure, bound, dynamic}
-use Rattle.go_value.specs.declared.address.Pointer.{Pointer}
 use Rattle.go_value.specs.declared.faults.Fault.TheVariants as fault
-use Rattle.go_value.specs.declared.values.BoundTarget.{BoundTarget}
 use Rattle.go_value.specs.declared.values.BoundTarget.TheVariants as target
 use Rattle.ssa_ir.specs.declared.code.Code.{Code}
 use Rattle.ssa_ir.specs.declared.code.Function.{Function}
 use Rattle.ssa_ir.specs.declared.code.FunctionKind.{FunctionKind}
 use Rattle.ssa_ir.specs.declared.code.FunctionKind.TheVariants as kind
 use Rattle.ssa_ir.specs.declared.code.MethodLine.{MethodLine}
-use Rattle.ssa_ir.specs.declared.operands.Operand.{Operand}
 use Rattle.ssa_ir.specs.declared.ops.Call.{Call}
 use Rattle.ssa_ir.specs.declared.ops.Call.TheVariants as call
 use Rattle.ssa_mean.specs.BuiltIns.{built_in_of}
-use Rattle.ssa_mean.specs.Comes.{Comes, to, faults, nowhere, and_then, where_some, then_to, of_option}
+use Rattle.ssa_mean.specs.Comes.{Comes, faults, nowhere, where_some, then_to, of_option}
 use Rattle.ssa_mean.specs.Operands.{function_at, value_of, values_of}
 use Rattle.ssa_mean.specs.State.{Callee, of_function, of_built_in, of_nil, Later, Frame, running, Goroutine, Machine, Next}
 use Rattle.ssa_mean.specs.State.{goes, ends, stuck, where_there, current, with_frames, with_result}

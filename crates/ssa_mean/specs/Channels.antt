@@ -1,10 +1,9 @@
 -- Sends, receives, selects and closes. Go specification, "Send statements", "Receive operator", "Select statements" and
 -- "Close".
-use Rattle.std.specs.Prelude.{ℕ, suc, ◌+◌, ◌==◌, Bool, true, false, not, List, [], ◌∷◌, ℤ, pos, negsuc, Option, Some, None}
-use Rattle.std.specs.Prelude.{Result, Ok, Err, is_some, slice_get, if◌then◌else◌, option_map}
+use Rattle.std.specs.Prelude.{ℕ, suc, ◌==◌, Bool, true, false, List, [], ◌∷◌, ℤ, pos, negsuc, Option, Some, None}
+use Rattle.std.specs.Prelude.{Result, Ok, Err, is_some, slice_get, option_map}
 use Rattle.std.specs.Option.{option_and_then}
 use Rattle.go_base.specs.declared.ids.ChanId.{ChanId}
-use Rattle.go_base.specs.declared.ids.TypeId.{TypeId}
 use Rattle.go_sched.specs.Channels as chans
 use Rattle.go_sched.specs.Channels.{Case}
 use Rattle.go_sched.specs.Goroutines.{State}
@@ -25,8 +24,8 @@ use Rattle.ssa_ir.specs.declared.ops.SelectCase.{SelectCase}
 use Rattle.ssa_ir.specs.declared.ops.SelectCase.TheVariants as case
 use Rattle.ssa_mean.specs.Making.{value_or}
 use Rattle.ssa_mean.specs.Operands.{function_at, value_of, element_type}
-use Rattle.ssa_mean.specs.State.{Frame, Goroutine, Machine, Next, goes, stuck, where_there, current, with_frames}
-use Rattle.ssa_mean.specs.State.{with_goroutine, with_register, with_result, advanced}
+use Rattle.ssa_mean.specs.State.{Frame, Goroutine, Machine, Next, where_there, with_frames}
+use Rattle.ssa_mean.specs.State.{with_goroutine, with_result, advanced}
 use Rattle.ssa_mean.specs.Unwinding.{meets, switches}
 use Rattle.ssa_mean.specs.Zeros.{zero_where}
 

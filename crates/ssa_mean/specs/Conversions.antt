@@ -1,7 +1,7 @@
 -- Conversions that change the value. Go specification, "Conversions between numeric types" and "Conversions to and from
 -- a string type".
-use Rattle.std.specs.Prelude.{ℕ, ◌<◌, ◌^◌, Bool, true, false, List, [], ◌∷◌, ◌++◌, map, ℤ, pos, int_lt, Option, Some, None}
-use Rattle.std.specs.Prelude.{◌||◌, nat_lt, length, unsigned_abs, if◌then◌else◌}
+use Rattle.std.specs.Prelude.{ℕ, Bool, true, false, List, [], ◌∷◌, ◌++◌, map, ℤ, pos, Option, Some, None}
+use Rattle.std.specs.Prelude.{nat_lt, length, unsigned_abs, if◌then◌else◌}
 use Rattle.go_base.specs.declared.ids.TypeId.{TypeId}
 use Rattle.go_store.specs.Arrays.{array_of}
 use Rattle.go_store.specs.Slices.{elements_of, slice_of_new, most_leaves}

@@ -11,7 +11,6 @@ use Rattle.go_type.specs.declared.operators.Builtin.TheVariants as builtin
 use Rattle.go_type.specs.declared.operators.CompareOp.TheVariants as comparison
 use Rattle.go_type.specs.declared.term.Basic.TheVariants as basic
 use Rattle.go_type.specs.declared.term.Dir.TheVariants.{Both}
-use Rattle.go_type.specs.declared.term.TypeTerm.{TypeTerm}
 use Rattle.go_type.specs.declared.term.TypeTerm.TheVariants as term
 use Rattle.ssa_ir.specs.declared.code.Block.{Block}
 use Rattle.ssa_ir.specs.declared.code.Code.{Code}
@@ -25,7 +24,6 @@ use Rattle.ssa_ir.specs.declared.ops.Infix.TheVariants as infix_of
 use Rattle.ssa_ir.specs.declared.ops.Instr.{Instr}
 use Rattle.ssa_ir.specs.declared.ops.Op.{Op}
 use Rattle.ssa_ir.specs.declared.ops.Op.TheVariants as op
-use Rattle.ssa_ir.specs.declared.ops.PhiEdge.{PhiEdge}
 
 -- ---- what the codes are made of
 
@@ -62,9 +60,9 @@ abbrev pub few_types : Table
 few_types =
     record {
       terms =
-        term.Basic basic.Int ∷ term.Basic basic.Bool ∷ term.Interface [] ∷ term.Pointer int_type
-        ∷ term.Basic basic.Text ∷ term.Chan Both int_type ∷ term.Map int_type bool_type ∷ term.Iter map_type
-        ∷ term.Tuple (bool_type ∷ int_type ∷ bool_type ∷ []) ∷ [];
+          term.Basic basic.Int ∷ term.Basic basic.Bool ∷ term.Interface [] ∷ term.Pointer int_type
+          ∷ term.Basic basic.Text ∷ term.Chan Both int_type ∷ term.Map int_type bool_type ∷ term.Iter map_type
+          ∷ term.Tuple (bool_type ∷ int_type ∷ bool_type ∷ []) ∷ [];
       definitions = repeat 9 (no_definition ∷ []);
       error = record { number = 2 };
       blank = None;

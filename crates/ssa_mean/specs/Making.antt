@@ -1,8 +1,8 @@
 -- Interfaces, function values, and what makes maps, channels and slices. Go specification, "Type assertions", "Method
 -- values", "Function literals" and "Making slices, maps and channels".
-use Rattle.std.specs.Prelude.{ℕ, ◌+◌, ◌==◌, ◌||◌, Bool, true, false, List, [], ◌∷◌, ℤ, pos, int_lt, Option, Some, None}
+use Rattle.std.specs.Prelude.{ℕ, ◌==◌, ◌||◌, Bool, true, false, List, [], ◌∷◌, ℤ, pos, int_lt, Option, Some, None}
 use Rattle.std.specs.Prelude.{length, slice_get, unsigned_abs, if◌then◌else◌}
-use Rattle.std.specs.Option.{option_and_then, option_map}
+use Rattle.std.specs.Option.{option_map}
 use Rattle.go_base.specs.declared.ids.FuncId.{FuncId}
 use Rattle.go_base.specs.declared.ids.TypeId.{TypeId}
 use Rattle.go_sched.specs.Goroutines.{State, with_new_chan}
@@ -11,8 +11,7 @@ use Rattle.go_store.specs.Stores.{Stored}
 use Rattle.go_type.specs.Selector.{is_interface}
 use Rattle.go_type.specs.Sizes.{leaves_to}
 use Rattle.go_type.specs.Table.{Table}
-use Rattle.go_type.specs.declared.term.TypeTerm.{TypeTerm}
-use Rattle.go_value.specs.Interfaces.{is_interface_type, converted, bound_to, asserted, dynamic_type}
+use Rattle.go_value.specs.Interfaces.{is_interface_type, bound_to, asserted, dynamic_type}
 use Rattle.go_value.specs.Values.{Val, none, part, truth, slice, pointer, chan_number, nil_interface, dynamic, closure}
 use Rattle.go_value.specs.Values.{parts}
 use Rattle.go_value.specs.declared.address.Pointer.{Pointer}
@@ -23,7 +22,7 @@ use Rattle.ssa_ir.specs.declared.code.Function.{Function}
 use Rattle.ssa_ir.specs.declared.code.FunctionKind.{FunctionKind}
 use Rattle.ssa_ir.specs.declared.code.FunctionKind.TheVariants as kind
 use Rattle.ssa_mean.specs.Answers.{Answers}
-use Rattle.ssa_mean.specs.Comes.{Comes, to, faults, nowhere, of_result, then_to, where_some}
+use Rattle.ssa_mean.specs.Comes.{Comes, to, faults, nowhere, of_result, where_some}
 use Rattle.ssa_mean.specs.Conversions.{Stores}
 use Rattle.ssa_mean.specs.Zeros.{most_nesting}
 

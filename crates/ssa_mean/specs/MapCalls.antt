@@ -1,6 +1,6 @@
 -- What is done with maps. Go specification, "Map types", "Index expressions", "Deletion of map elements" and "Clear".
-use Rattle.std.specs.Prelude.{ℕ, suc, ◌+◌, Bool, true, false, List, [], ◌∷◌, ◌++◌, map, Option, Some, None, Result, Ok}
-use Rattle.std.specs.Prelude.{Err, is_some, length, slice_get, slice_set, if◌then◌else◌, option_map}
+use Rattle.std.specs.Prelude.{ℕ, suc, Bool, false, List, [], ◌∷◌, ◌++◌, map, Option, Some, None, Result, Ok}
+use Rattle.std.specs.Prelude.{Err, slice_get, slice_set, if◌then◌else◌, option_map}
 use Rattle.std.specs.Option.{option_and_then, option_flatten, option_map_or}
 use Rattle.go_base.specs.declared.ids.MapId.{MapId}
 use Rattle.go_base.specs.declared.ids.TypeId.{TypeId}
@@ -11,7 +11,7 @@ use Rattle.go_store.specs.Stores.{Stored}
 use Rattle.go_value.specs.Values.{Val}
 use Rattle.go_value.specs.declared.faults.Fault.{Fault}
 use Rattle.go_value.specs.declared.faults.Fault.TheVariants as fault
-use Rattle.ssa_mean.specs.Comes.{Comes, to, faults, nowhere, then_to}
+use Rattle.ssa_mean.specs.Comes.{Comes, to, faults}
 
 -- ---- entries
 

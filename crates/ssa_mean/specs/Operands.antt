@@ -1,7 +1,6 @@
 -- Operands: their values in a frame, and their types.
 use Rattle.std.specs.Prelude.{ℕ, List, [], ◌∷◌, Option, Some, None, slice_get}
 use Rattle.std.specs.Option.{option_and_then, option_flatten, option_map}
-use Rattle.go_base.specs.declared.ids.BlockId.{BlockId}
 use Rattle.go_base.specs.declared.ids.FuncId.{FuncId}
 use Rattle.go_base.specs.declared.ids.TypeId.{TypeId}
 use Rattle.go_base.specs.declared.ids.VarId.{VarId}
@@ -12,7 +11,6 @@ use Rattle.go_type.specs.declared.term.TypeTerm.TheVariants as term
 use Rattle.go_value.specs.Values.{Val, truth, number, text, pointer, closure}
 use Rattle.go_value.specs.declared.address.Pointer.{Pointer}
 use Rattle.ssa_ir.specs.declared.code.Code.{Code}
-use Rattle.ssa_ir.specs.declared.code.CodeVariable.{CodeVariable}
 use Rattle.ssa_ir.specs.declared.code.Function.{Function}
 use Rattle.ssa_ir.specs.declared.operands.ConstValue.{ConstValue}
 use Rattle.ssa_ir.specs.declared.operands.ConstValue.TheVariants as constant

@@ -1,18 +1,18 @@
 -- Cells, and parts of values. Go specification, "Variables", "Address operators", "Selectors", "Index expressions" and
 -- "Slice expressions".
-use Rattle.std.specs.Prelude.{ℕ, List, [], ◌∷◌, ℤ, pos, Option, Some, None, is_none, length, slice_get, unwrap_or}
+use Rattle.std.specs.Prelude.{ℕ, [], ℤ, pos, Option, Some, is_none, length, slice_get, unwrap_or}
 use Rattle.std.specs.Prelude.{if◌then◌else◌}
 use Rattle.go_store.specs.Arrays.{values_in}
 use Rattle.go_store.specs.Cells.{value_at}
 use Rattle.go_store.specs.Slices.{sliced, whole_array, element_of}
-use Rattle.go_store.specs.Stores.{Stored, made, loaded, put_in}
+use Rattle.go_store.specs.Stores.{Stored, loaded, put_in}
 use Rattle.go_value.specs.Address.{part_of}
 use Rattle.go_value.specs.Texts.{place_at, text_between}
 use Rattle.go_value.specs.Values.{Val, number, text, pointer, slice, parts}
 use Rattle.go_value.specs.declared.address.Pointer.{Pointer}
 use Rattle.go_value.specs.declared.address.SliceValue.{SliceValue}
 use Rattle.go_value.specs.declared.faults.Fault.TheVariants as fault
-use Rattle.ssa_mean.specs.Comes.{Comes, to, faults, nowhere, of_option, of_result, then_to, and_then, where_some}
+use Rattle.ssa_mean.specs.Comes.{Comes, to, faults, nowhere, of_option, of_result, then_to, and_then}
 
 -- ---- what a pointer points to
 

@@ -1,11 +1,11 @@
 -- Ranges over strings and maps. Go specification, "For statements with range clause".
 use Rattle.std.specs.Prelude.{ℕ, ◌+◌, Bool, true, false, List, [], ◌∷◌, reverse, drop, pos, Option, Some, None, nat_lt}
-use Rattle.std.specs.Prelude.{length, slice_index, slice_get, is_some, if◌then◌else◌, option_map}
+use Rattle.std.specs.Prelude.{length, slice_index, is_some, if◌then◌else◌, option_map}
 use Rattle.std.specs.List.{filter}
 use Rattle.std.specs.Option.{option_and_then}
 use Rattle.go_base.specs.declared.ids.MapId.{MapId}
 use Rattle.go_base.specs.declared.ids.TypeId.{TypeId}
-use Rattle.go_maps.specs.Maps.{Map, Pair}
+use Rattle.go_maps.specs.Maps.{Map}
 use Rattle.go_sched.specs.Choices.{chosen, picked}
 use Rattle.go_sched.specs.Goroutines.{State}
 use Rattle.go_store.specs.Stores.{Stored}
@@ -15,7 +15,7 @@ use Rattle.go_value.specs.Values.{Val, none, part, truth, number, text, map_numb
 use Rattle.ssa_ir.specs.declared.code.Code.{Code}
 use Rattle.ssa_mean.specs.MapCalls.{entries_of, entry_at, entry_numbers}
 use Rattle.ssa_mean.specs.Operands.{under}
-use Rattle.ssa_mean.specs.Runes.{Rune, first_rune}
+use Rattle.ssa_mean.specs.Runes.{first_rune}
 use Rattle.ssa_mean.specs.Zeros.{zero_where}
 
 -- the state of a range as it begins: of a map the entries that are there then, the last first

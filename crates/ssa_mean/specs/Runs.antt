@@ -1,7 +1,6 @@
 -- Runs of code. Go specification, "Program initialization", "Program execution" and "Package initialization".
-use Rattle.std.specs.Prelude.{◌≡◌, ℕ, zero, suc, ◌==◌, ◌&&◌, Bool, true, false, List, [], ◌∷◌, ◌++◌, Option, Some, None}
-use Rattle.std.specs.Prelude.{length, if◌then◌else◌, option_map, codes}
-use Rattle.std.specs.Option.{option_and_then}
+use Rattle.std.specs.Prelude.{◌≡◌, ℕ, zero, suc, ◌&&◌, Bool, true, false, List, [], ◌∷◌, ◌++◌, Option, Some, None}
+use Rattle.std.specs.Prelude.{if◌then◌else◌, option_map, codes}
 use Rattle.std.specs.Str.{bytes_eq}
 use Rattle.go_base.specs.declared.ending.Ending.{Ending}
 use Rattle.go_base.specs.declared.ids.FuncId.{FuncId}

@@ -1,10 +1,10 @@
 -- One step of the machine: an instruction of the frame that runs, or what a frame that returns or panics does, or what a
 -- goroutine without frames does. What each instruction is for says the documentation of golang.org/x/tools/go/ssa under
 -- the name of its type; what it gives, the Go specification under the names of the sections that the other files name.
-use Rattle.std.specs.Prelude.{ℕ, suc, ◌+◌, ◌==◌, Bool, true, false, not, List, [], ◌∷◌, ◌++◌, ℤ, Option, Some, None}
-use Rattle.std.specs.Prelude.{Result, length, slice_get, if◌then◌else◌, option_map, is_none}
+use Rattle.std.specs.Prelude.{ℕ, ◌==◌, Bool, true, false, not, List, [], ◌∷◌, ◌++◌, ℤ, Option, Some, None}
+use Rattle.std.specs.Prelude.{length, slice_get, if◌then◌else◌, option_map}
 use Rattle.std.specs.List.{find}
-use Rattle.std.specs.Option.{option_and_then, option_map_or}
+use Rattle.std.specs.Option.{option_and_then}
 use Rattle.go_base.specs.declared.ending.Ending.TheVariants as ending
 use Rattle.go_base.specs.declared.ids.BlockId.{BlockId}
 use Rattle.go_base.specs.declared.ids.FuncId.{FuncId}
@@ -15,7 +15,6 @@ use Rattle.go_sched.specs.declared.scheduling.Point.TheVariants as point
 use Rattle.go_store.specs.Stores.{Stored, made}
 use Rattle.go_type.specs.Kinds.{kind_of}
 use Rattle.go_type.specs.declared.kinds.IntKind.{IntKind}
-use Rattle.go_type.specs.declared.operators.Builtin.{Builtin}
 use Rattle.go_type.specs.declared.operators.Builtin.TheVariants as builtin
 use Rattle.go_value.specs.Interfaces.{converted}
 use Rattle.go_value.specs.Values.{Val, truth, number, pointer, map_number, chan_number, nil_interface}
@@ -25,8 +24,6 @@ use Rattle.ssa_ir.specs.declared.code.Code.{Code}
 use Rattle.ssa_ir.specs.declared.code.Function.{Function}
 use Rattle.ssa_ir.specs.declared.operands.Operand.{Operand}
 use Rattle.ssa_ir.specs.declared.operands.Operand.TheVariants as operand
-use Rattle.ssa_ir.specs.declared.ops.Call.{Call}
-use Rattle.ssa_ir.specs.declared.ops.Call.TheVariants as call
 use Rattle.ssa_ir.specs.declared.ops.Instr.{Instr}
 use Rattle.ssa_ir.specs.declared.ops.Op.{Op}
 use Rattle.ssa_ir.specs.declared.ops.Op.TheVariants as op
@@ -36,18 +33,18 @@ use Rattle.ssa_mean.specs.Answers.{Answers}
 use Rattle.ssa_mean.specs.Arithmetic.{binary, unary_of}
 use Rattle.ssa_mean.specs.BuiltIns.{Done, built_in_call}
 use Rattle.ssa_mean.specs.Calls.{Entry, readied, enters, entry_of, given, with_new}
-use Rattle.ssa_mean.specs.Channels.{received, selected, chan_in, channel_of, cases_of, came_to, behind, with_sched}
-use Rattle.ssa_mean.specs.Comes.{Comes, to, faults, nowhere, of_option, of_result, then_to, and_then, where_some}
+use Rattle.ssa_mean.specs.Channels.{received, selected, cases_of, came_to, behind, with_sched}
+use Rattle.ssa_mean.specs.Comes.{Comes, to, faults, nowhere, of_option, of_result, then_to, where_some}
 use Rattle.ssa_mean.specs.Conversions.{Stores, kept, conversion}
 use Rattle.ssa_mean.specs.Making.{Channels, value_or, held_as, assertion, closed_over, leaves_of, made_chan, made_slice}
 use Rattle.ssa_mean.specs.MapCalls.{looked_up, updated, made_map}
 use Rattle.ssa_mean.specs.Operands.{function_at, value_of, values_of, type_of, under, term_of, pointed_length}
 use Rattle.ssa_mean.specs.Operands.{element_type, element_in}
-use Rattle.ssa_mean.specs.Places.{Bounds, load, assigned, new_pointer, field_of, field_address, index_of, index_address}
+use Rattle.ssa_mean.specs.Places.{load, assigned, new_pointer, field_of, field_address, index_of, index_address}
 use Rattle.ssa_mean.specs.Places.{part_between}
 use Rattle.ssa_mean.specs.Ranges.{Turn, range_of, ranged, next_turn}
 use Rattle.ssa_mean.specs.State.{BuiltIn, plain, Callee, of_function, of_built_in, of_nil, Later, Frame, FrameState, running}
-use Rattle.ssa_mean.specs.State.{returning, panicking, Goroutine, Machine, Next, goes, ends, stuck, where_there, current}
+use Rattle.ssa_mean.specs.State.{returning, Goroutine, Machine, Next, goes, ends, stuck, where_there, current}
 use Rattle.ssa_mean.specs.State.{with_current, with_frames, with_register, with_result, advanced}
 use Rattle.ssa_mean.specs.Unwinding.{is_phi, at_block, meets, panics_with, spends, switches, unwound, recovering}
 use Rattle.ssa_mean.specs.Unwinding.{recovered, may_recover}

@@ -1,10 +1,8 @@
 -- Panics, switch points, and endings. Go specification, "Handling panics", "Run-time panics" and "Go statements".
-use Rattle.std.specs.Prelude.{ℕ, zero, suc, ◌+◌, ◌==◌, Bool, true, false, not, ◌&&◌, List, [], ◌∷◌, Option, Some, None}
-use Rattle.std.specs.Prelude.{unwrap_or, slice_get, if◌then◌else◌, option_map}
-use Rattle.std.specs.Option.{option_and_then, option_map_or}
-use Rattle.go_base.specs.declared.ending.Ending.{Ending}
+use Rattle.std.specs.Prelude.{ℕ, zero, suc, Bool, true, false, ◌&&◌, List, [], ◌∷◌, Option, Some, None}
+use Rattle.std.specs.Prelude.{if◌then◌else◌}
+use Rattle.std.specs.Option.{option_map_or}
 use Rattle.go_base.specs.declared.ending.Ending.TheVariants as ending
-use Rattle.go_base.specs.declared.ids.BlockId.{BlockId}
 use Rattle.go_base.specs.declared.ids.GoId.{GoId}
 use Rattle.go_sched.specs.Choices.{next_at, switched}
 use Rattle.go_sched.specs.declared.scheduling.Point.{Point}
@@ -21,8 +19,8 @@ use Rattle.ssa_ir.specs.declared.ops.Op.{Op}
 use Rattle.ssa_ir.specs.declared.ops.Op.TheVariants as op
 use Rattle.ssa_mean.specs.Faults.{thrown_by, thrown_text}
 use Rattle.ssa_mean.specs.Operands.{function_at}
-use Rattle.ssa_mean.specs.State.{Frame, FrameState, running, returning, panicking, Thrown, of_value, of_text, Goroutine}
-use Rattle.ssa_mean.specs.State.{Machine, Next, goes, ends, stuck, where_there, current, with_current, with_frames}
+use Rattle.ssa_mean.specs.State.{Frame, FrameState, running, returning, panicking, Thrown, of_value, Goroutine}
+use Rattle.ssa_mean.specs.State.{Machine, Next, goes, ends, where_there, current, with_current, with_frames}
 
 -- ---- kinds of functions
 
