@@ -27,7 +27,8 @@ use Rattle.ssa_ir.specs.declared.ops.Call.TheVariants as call
 use Rattle.ssa_mean.specs.BuiltIns.{built_in_of}
 use Rattle.ssa_mean.specs.Comes.{Comes, faults, nowhere, where_some, then_to, of_option}
 use Rattle.ssa_mean.specs.Operands.{function_at, value_of, values_of}
-use Rattle.ssa_mean.specs.State.{Callee, of_function, of_built_in, of_nil, Later, Frame, running, Goroutine, Machine, Next}
+use Rattle.ssa_mean.specs.State.{Callee, of_function, of_built_in, of_nil, Later, Frame, running, Goroutine, Machine}
+use Rattle.ssa_mean.specs.State.{Next}
 use Rattle.ssa_mean.specs.State.{goes, ends, stuck, where_there, current, with_frames, with_result}
 use Rattle.ssa_mean.specs.Unwinding.{is_source, is_wrapper, is_wrapper_kind, at_block, spends, switches}
 

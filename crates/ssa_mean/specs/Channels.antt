@@ -7,7 +7,8 @@ use Rattle.go_base.specs.declared.ids.ChanId.{ChanId}
 use Rattle.go_sched.specs.Channels as chans
 use Rattle.go_sched.specs.Channels.{Case}
 use Rattle.go_sched.specs.Goroutines.{State}
-use Rattle.go_sched.specs.Operations.{How, Woken, Answer, Outcome, done, default, blocks, sends, receives, closes, selects}
+use Rattle.go_sched.specs.Operations.{How, Woken, Answer, Outcome, done, default, blocks, sends, receives, closes}
+use Rattle.go_sched.specs.Operations.{selects}
 use Rattle.go_sched.specs.Operations as operations
 use Rattle.go_sched.specs.declared.scheduling.Point.TheVariants as point
 use Rattle.go_value.specs.Values.{Val, Parts, none, part, truth, number, chan_number, parts}

@@ -54,8 +54,8 @@ range_type = record { number = 7 }
 abbrev pub turn_type : TypeId
 turn_type = record { number = 8 }
 
--- the types `int`, `bool`, `interface{}`, `*int`, `string`, `chan int`, `map[int]bool` and the state of a range over that,
--- with the tuple of its turns
+-- the types `int`, `bool`, `interface{}`, `*int`, `string`, `chan int`, `map[int]bool`, and the state of a range over
+-- that, with the tuple of its turns
 abbrev pub few_types : Table
 few_types =
     record {
@@ -95,7 +95,9 @@ words text = Constant (constant.Text text) text_type
 
 abbrev pub phi_of_two : ℕ → Operand → ℕ → Operand → Op
 phi_of_two from first other second =
-    op.Phi (record { from = block_number from; value = first } ∷ record { from = block_number other; value = second } ∷ [])
+    op.Phi
+    (record { from = block_number from; value = first }
+    ∷ record { from = block_number other; value = second } ∷ [])
 
 abbrev pub printing : List Operand → Op
 printing operands = op.Call (call.Builtin builtin.Println operands)

@@ -19,3 +19,4 @@ pub mod Ranges
 pub mod Step
 pub mod Runs
 pub mod Examples
+pub mod Ties

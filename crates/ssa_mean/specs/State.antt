@@ -87,7 +87,8 @@ pub record Machine : Type 0 where
   pub ticks : ℕ
   pub output : List ℕ
 
--- what a step leads to: a further state; the ending of the run, with its output; or nothing, where typed code never comes
+-- what a step leads to: a further state; the ending of the run, with its output; or nothing, where typed code never
+-- comes
 pub data Next : Type 0 where
   goes : Machine → Next
   ends : Ending → List ℕ → Next

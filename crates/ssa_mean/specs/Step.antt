@@ -1,6 +1,6 @@
--- One step of the machine: an instruction of the frame that runs, or what a frame that returns or panics does, or what a
--- goroutine without frames does. What each instruction is for says the documentation of golang.org/x/tools/go/ssa under
--- the name of its type; what it gives, the Go specification under the names of the sections that the other files name.
+-- One step of the machine: an instruction of the frame that runs, or what a frame that returns or panics does, or what
+-- a goroutine without frames does. What each instruction is for says the documentation of golang.org/x/tools/go/ssa
+-- under the name of its type; what it gives, the Go specification in the sections that the other files name.
 use Rattle.std.specs.Prelude.{ℕ, ◌==◌, Bool, true, false, not, List, [], ◌∷◌, ◌++◌, ℤ, Option, Some, None}
 use Rattle.std.specs.Prelude.{length, slice_get, if◌then◌else◌, option_map}
 use Rattle.std.specs.List.{find}
@@ -43,7 +43,8 @@ use Rattle.ssa_mean.specs.Operands.{element_type, element_in}
 use Rattle.ssa_mean.specs.Places.{load, assigned, new_pointer, field_of, field_address, index_of, index_address}
 use Rattle.ssa_mean.specs.Places.{part_between}
 use Rattle.ssa_mean.specs.Ranges.{Turn, range_of, ranged, next_turn}
-use Rattle.ssa_mean.specs.State.{BuiltIn, plain, Callee, of_function, of_built_in, of_nil, Later, Frame, FrameState, running}
+use Rattle.ssa_mean.specs.State.{BuiltIn, plain, Callee, of_function, of_built_in, of_nil, Later, Frame, FrameState}
+use Rattle.ssa_mean.specs.State.{running}
 use Rattle.ssa_mean.specs.State.{returning, Goroutine, Machine, Next, goes, ends, stuck, where_there, current}
 use Rattle.ssa_mean.specs.State.{with_current, with_frames, with_register, with_result, advanced}
 use Rattle.ssa_mean.specs.Unwinding.{is_phi, at_block, meets, panics_with, spends, switches, unwound, recovering}
@@ -125,7 +126,8 @@ new_cell s of =
 abbrev pub look_up : Site → Operand → Bool → Val → Val → Comes Val
 look_up s operand comma_ok (map_number id) key =
     where_some (λ other. then_to (λ found. value_or comma_ok found other)
-    (looked_up s.answers.comparable s.machine.store id key)) (zero_where s.code (element_type s.code s.function operand))
+    (looked_up s.answers.comparable s.machine.store id key))
+    (zero_where s.code (element_type s.code s.function operand))
 look_up s operand comma_ok _ key = nowhere
 
 abbrev pub update : Site → Val → Val → Val → Comes Stored
@@ -281,7 +283,8 @@ select_among s register blocking cases outcome =
     came_to s.code (with_sched outcome.after s.machine)
     (λ index it. option_map (λ given. behind_with s register outcome.after (Some given))
     (selected s.code s.function cases (Some index) it))
-    (option_map (λ given. behind_with s register outcome.after (Some given)) (selected s.code s.function cases None None))
+    (option_map (λ given. behind_with s register outcome.after (Some given))
+    (selected s.code s.function cases None None))
     outcome.answer
 
 abbrev pub selects_of : Site → Option ℕ → Bool → List SelectCase → Next
@@ -320,7 +323,8 @@ acts s register (op.Index it index) = gives_value s register (with_two s it inde
 acts s register (op.IndexAddress it index) =
     gives_value s register (with_two s it index (index_address (pointed_length s.code s.function it)))
 acts s register (op.Lookup it key comma_ok) = gives_value s register (with_two s it key (look_up s it comma_ok))
-acts s register (op.Update it key new) = changes_store s (with_two s it key (λ it key. with_one s new (update s it key)))
+acts s register (op.Update it key new) =
+    changes_store s (with_two s it key (λ it key. with_one s new (update s it key)))
 acts s register (op.Slice it low high max) = gives_value s register (slice_part s it low high max)
 acts s register (op.Convert of it) = gives_stored s register (convert s of it)
 acts s register (op.ChangeType of it) = gives_value s register (with_one s it to)

@@ -1,5 +1,5 @@
--- What `print` writes of a value, and the texts of panics, of values without where they lie in memory. Go specification,
--- "Bootstrapping" and "Handling panics".
+-- What `print` writes of a value, and the texts of panics, of values without where they lie in memory. Go
+-- specification, "Bootstrapping" and "Handling panics".
 use Rattle.std.specs.Prelude.{ℕ, true, false, List, [], ◌∷◌, ◌++◌, Option, Some, codes, if◌then◌else◌}
 use Rattle.std.specs.Fmt.{signed_decimal}
 use Rattle.go_base.specs.declared.ids.TypeId.{TypeId}

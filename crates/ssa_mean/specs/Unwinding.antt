@@ -33,10 +33,12 @@ is_wrapper_kind kind.Wrapper = true
 is_wrapper_kind _ = false
 
 abbrev pub is_source : Code → Frame → Bool
-is_source code frame = option_map_or (λ function. is_source_kind function.kind) (function_at code frame.function) false
+is_source code frame =
+    option_map_or (λ function. is_source_kind function.kind) (function_at code frame.function) false
 
 abbrev pub is_wrapper : Code → Frame → Bool
-is_wrapper code frame = option_map_or (λ function. is_wrapper_kind function.kind) (function_at code frame.function) false
+is_wrapper code frame =
+    option_map_or (λ function. is_wrapper_kind function.kind) (function_at code frame.function) false
 
 -- ---- where frames stand
 

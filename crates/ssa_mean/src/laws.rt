@@ -5,6 +5,7 @@ ghost use Rattle.std.specs.Prelude.{[], ◌∷◌, codes};
 ghost use Rattle.go_base.specs.declared.ending.Ending.TheVariants.{Exited, Bound, Deadlock};
 ghost use Rattle.ssa_mean.specs.Examples.{swap_code, recover_code, go_code, send_code, map_code};
 ghost use Rattle.ssa_mean.specs.Runs.{OneOutcome, IsRunOf};
+ghost use Rattle.ssa_mean.specs.Ties.{PrintsAlike, PanicsAlike, AppendsOne};
 
 /// Two runs of one code with one list of choices and one bound have one output and one ending.
 pub fn one_outcome()
@@ -36,4 +37,15 @@ pub fn lone_send_blocks()
 /// A range over a map produces each entry that is still there, by choices.
 pub fn ranges_choose()
     ensures { IsRunOf map_code (2 ∷ 0 ∷ []) 10 (codes "3\n1\n") (Exited 0) }
+{}
+
+/// What is printed of a value, and the text of a panic with it, are those of the value as it lies in memory.
+pub fn texts_are_one()
+    ensures printed { PrintsAlike }
+    ensures panics { PanicsAlike }
+{}
+
+/// What `append` makes of a store is the one store that the contract of the store allows.
+pub fn appends_are_one()
+    ensures { AppendsOne }
 {}

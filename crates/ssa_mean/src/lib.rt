@@ -5,5 +5,6 @@
 mod laws;
 
 pub use laws::{
-    choices_decide, lone_send_blocks, one_outcome, phis_swap, ranges_choose, recovery_gives_results,
+    appends_are_one, choices_decide, lone_send_blocks, one_outcome, phis_swap, ranges_choose,
+    recovery_gives_results, texts_are_one,
 };
