@@ -5,7 +5,7 @@ use Rattle.go_base.specs.declared.ending.Ending.{Ending}
 use Rattle.go_type.specs.Table.{Table}
 use Rattle.ssa_ir.specs.declared.code.Code.{Code}
 use Rattle.ssa_mean.specs.Answers.{Answers, AreAnswers}
-use Rattle.ssa_mean.specs.Runs.{steps, then_step, OneOutcome}
+use Rattle.ssa_mean.specs.Runs.{first_machine, steps, then_step, OneOutcome}
 use Rattle.ssa_mean.specs.State.{Machine, Next, goes, ends, stuck}
 use Rattle.ssa_mean.specs.Step.{step}
 
@@ -20,7 +20,7 @@ same_test false true h = h.1 refl
 both_tell : {A B C : Type 0} → A ↔ C → B ↔ C → A ↔ B
 both_tell p q = (λ a. q.1 (p.0 a), λ b. p.1 (q.0 b))
 
-same_answers : (types : Table) (a b : Answers) → AreAnswers types a → AreAnswers types b → a ≡ b
+pub same_answers : (types : Table) (a b : Answers) → AreAnswers types a → AreAnswers types b → a ≡ b
 same_answers types a b p q =
     let one : a.comparable ≡ b.comparable =
     fun_ext (λ of. same_test (a.comparable of) (b.comparable of) (both_tell (p.comparable of) (q.comparable of))) in
@@ -36,7 +36,7 @@ has_gone (goes m) = Unit {0}
 has_gone (ends e o) = ⊥
 has_gone stuck = ⊥
 
-unended : {A : Type 0} (m : Machine) (e : Ending) (o : List ℕ) → goes m ≡ ends e o → A
+pub unended : {A : Type 0} (m : Machine) (e : Ending) (o : List ℕ) → goes m ≡ ends e o → A
 unfolding has_gone
 unended m e o h = absurd (subst has_gone h tt)
 
@@ -74,15 +74,20 @@ output_of (goes m) = m.output
 output_of (ends e o) = o
 output_of stuck = []
 
-machine_of : Machine → Option Machine → Machine
+pub machine_of : Machine → Option Machine → Machine
 machine_of other (Some m) = m
 machine_of other _ = other
 
+pub first_is : (code : Code) (choices : List ℕ) (bound : ℕ) (one other : Machine)
+    → first_machine code choices bound ≡ Some one → first_machine code choices bound ≡ Some other → one ≡ other
+unfolding machine_of
+first_is code choices bound one other p q = ap (machine_of one) (sym p ∙ q)
+
 pub one_outcome_lem : OneOutcome
-unfolding ending_of output_of machine_of IsOneEnd
+unfolding ending_of output_of IsOneEnd
 one_outcome_lem code choices bound output output' ending ending' a b =
     let answers : b.answers ≡ a.answers = same_answers code.types b.answers a.answers b.told a.told in
-    let first : b.first ≡ a.first = ap (machine_of b.first) (sym b.begins ∙ a.begins) in
+    let first : b.first ≡ a.first = first_is code choices bound b.first a.first b.begins a.begins in
     let leads : steps b.count a.answers code a.first ≡ ends ending' output' =
     subst (λ m. steps b.count a.answers code m ≡ ends ending' output') first
     (subst (λ given. steps b.count given code b.first ≡ ends ending' output') answers b.leads) in

@@ -104,3 +104,10 @@ OneOutcome =
     (code : Code) (choices : List ℕ) (bound : ℕ) (output output' : List ℕ) (ending ending' : Ending) →
     IsRunOf code choices bound output ending → IsRunOf code choices bound output' ending' →
     (output ≡ output') × (ending ≡ ending')
+
+-- what a run has written on its way stands first in what it writes in all
+abbrev pub FrontsStand : Type 0
+FrontsStand =
+    (code : Code) (choices : List ℕ) (bound : ℕ) (front output : List ℕ) (ending : Ending) →
+    HasWritten code choices bound front → IsRunOf code choices bound output ending →
+    (rest : List ℕ) × (output ≡ front ++ rest)

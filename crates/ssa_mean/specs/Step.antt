@@ -363,17 +363,17 @@ acts s register (op.Panic it) = where_there (panics_with s.code s.machine) (valu
 
 -- ---- calls that were put off, in the frame of the goroutine that makes them
 
+abbrev pub wrote : Code → Machine → Comes Done → Next
+wrote code m (to done) = goes (record m { store = done.store; output = m.output ++ done.written })
+wrote code m (faults it) = meets code m it
+wrote code m nowhere = stuck
+
 -- a built-in function in a frame of its own, where `recover` gives nothing
 abbrev pub alone : Answers → Code → Machine → BuiltIn → List Val → Next
 alone answers code m (plain builtin.Close) arguments = close_of code m m arguments
 alone answers code m (plain builtin.Panic) arguments = panic_of code m arguments
 alone answers code m (plain builtin.Recover) arguments = goes m
-alone answers code m it arguments = did (built_in_call answers m it arguments)
-  where
-    did : Comes Done → Next
-    did (to done) = goes (record m { store = done.store; output = m.output ++ done.written })
-    did (faults it) = meets code m it
-    did nowhere = stuck
+alone answers code m it arguments = wrote code m (built_in_call answers m it arguments)
 
 abbrev pub makes : Answers → Code → Machine → Later → Bool → Callee → Next
 makes answers code m it deferred (of_function id free) = enters code m (entry_of code m id free it deferred None)

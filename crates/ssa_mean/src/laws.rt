@@ -4,12 +4,17 @@
 ghost use Rattle.std.specs.Prelude.{[], ◌∷◌, codes};
 ghost use Rattle.go_base.specs.declared.ending.Ending.TheVariants.{Exited, Bound, Deadlock};
 ghost use Rattle.ssa_mean.specs.Examples.{swap_code, recover_code, go_code, send_code, map_code};
-ghost use Rattle.ssa_mean.specs.Runs.{OneOutcome, IsRunOf};
+ghost use Rattle.ssa_mean.specs.Runs.{OneOutcome, FrontsStand, IsRunOf};
 ghost use Rattle.ssa_mean.specs.Ties.{PrintsAlike, PanicsAlike, AppendsOne};
 
 /// Two runs of one code with one list of choices and one bound have one output and one ending.
 pub fn one_outcome()
     ensures { OneOutcome }
+{}
+
+/// What a run has written on its way stands first in what it writes in all.
+pub fn fronts_stand()
+    ensures { FrontsStand }
 {}
 
 /// A loop whose two phis swap 1 and 2 three times prints `2 1`. With no ticks the run ends before it.

@@ -5,6 +5,6 @@
 mod laws;
 
 pub use laws::{
-    appends_are_one, choices_decide, lone_send_blocks, one_outcome, phis_swap, ranges_choose,
+    appends_are_one, choices_decide, fronts_stand, lone_send_blocks, one_outcome, phis_swap, ranges_choose,
     recovery_gives_results, texts_are_one,
 };
