@@ -1,1 +1,3 @@
 pub mod Output
+pub mod Slots
+pub mod Frames

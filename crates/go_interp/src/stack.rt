@@ -1,5 +1,9 @@
 //! The slots of a goroutine's frames, in one stack.
 
+ghost use Rattle.std.specs.Prelude.{◌≡◌, ◌<◌, ◌++◌, take, length, replicate, None, Some, OnOk, OnErr, option_map};
+ghost use Rattle.go_value.specs.Values.{value_of};
+ghost use Rattle.go_value.specs.Values as vals;
+
 use go_base::NoMemory;
 use go_value::Value;
 use std::alloc::Global;
@@ -12,48 +16,64 @@ pub struct RegStack {
     bases: Vec<usize>,
     /// Where the top frame begins.
     base: usize,
-    depth: u64,
 }
 
 impl RegStack {
+    ghost use Rattle.std.specs.Prelude.{[]};
+    ghost use Rattle.go_interp.specs.Frames.{frames_of};
+    ghost use Rattle.go_interp.specs.Slots.{below_top, with_frame, slot_in, with_slot};
+
     /// No frames.
-    pub fn new(alloc: Global) -> RegStack {
+    pub fn new(alloc: Global) -> RegStack
+        ensures { frames_of result ≡ [] }
+    {
         RegStack {
             slots: Vec::new(alloc),
             bases: Vec::new(alloc),
             base: 0,
-            depth: 0,
         }
     }
 
-    /// A frame of so many slots on top, all unset.
-    pub fn enter(&mut self, slots: u32) -> Result<(), NoMemory> {
-        self.bases.push(self.base)?;
-        self.base = self.slots.len();
-        for _ in 0..slots {
-            self.slots.push(None)?;
+    /// A frame of so many slots on top, all unset. After `NoMemory` the frames are as before.
+    pub fn enter(&mut self, slots: u32) -> Result<(), NoMemory>
+        ensures ok { OnOk result (frames_of self.new ≡ with_frame slots (frames_of self.old)) }
+        ensures err { OnErr result (frames_of self.new ≡ frames_of self.old) }
+    {
+        let base = self.slots.len();
+        if push_unset(&mut self.slots, slots).is_err() {
+            self.slots.truncate(base);
+            return Err(NoMemory);
         }
-        self.depth = self.depth.saturating_add(1);
+        if self.bases.push(self.base).is_err() {
+            self.slots.truncate(base);
+            return Err(NoMemory);
+        }
+        self.base = base;
         Ok(())
     }
 
     /// The top frame goes.
-    pub fn leave(&mut self) {
+    pub fn leave(&mut self)
+        ensures { frames_of self.new ≡ below_top (frames_of self.old) }
+    {
         self.slots.truncate(self.base);
         self.base = self.bases.pop().unwrap_or(0);
-        self.depth = self.depth.saturating_sub(1);
     }
 
     /// How many frames there are.
-    pub fn depth(&self) -> u64 {
-        self.depth
+    pub fn depth(&self) -> u64
+        ensures { result ≡ length (frames_of self.now) }
+    {
+        self.bases.len() as u64
     }
 
-    /// The value of a slot of the top frame. None where it is unset, or there is no such slot.
-    pub fn get(&self, slot: u32) -> Option<&Value> {
+    /// The value of a slot of the top frame, where there is a frame. None where it is unset, or there is no such slot.
+    pub fn get(&self, slot: u32) -> Option<&Value>
+        ensures { 0 < length (frames_of self.now) → option_map (λ it. value_of it.now) result ≡ slot_in (frames_of self.now) slot }
+    {
         match self.slots.get(self.base.saturating_add(slot as usize)) {
-            Some(Some(value)) => Some(value),
-            _ => None,
+            Some(place) => place.as_ref(),
+            None => None,
         }
     }
 
@@ -65,19 +85,43 @@ impl RegStack {
         }
     }
 
-    /// Gives a slot of the top frame a value.
-    pub fn set(&mut self, slot: u32, value: Value) {
+    /// Gives a slot of the top frame a value. Where there is no such slot nothing changes.
+    pub fn set(&mut self, slot: u32, value: Value)
+        ensures { frames_of self.new ≡ with_slot slot (value_of value) (frames_of self.old) }
+    {
         if let Some(place) = self.slots.get_mut(self.base.saturating_add(slot as usize)) {
             *place = Some(value);
         }
     }
 
     /// Gives a slot of the top frame an integer: in place, where it holds one.
-    pub fn set_int(&mut self, slot: u32, number: i128) {
-        match self.slots.get_mut(self.base.saturating_add(slot as usize)) {
-            Some(Some(Value::Int(old))) => *old = number,
-            Some(place) => *place = Some(Value::Int(number)),
-            None => {}
+    pub fn set_int(&mut self, slot: u32, number: i128)
+        ensures { frames_of self.new ≡ with_slot slot (vals.number number) (frames_of self.old) }
+    {
+        if let Some(place) = self.slots.get_mut(self.base.saturating_add(slot as usize)) {
+            put_int(place, number);
         }
     }
+}
+
+/// Puts an integer into a slot: in place, where it holds one.
+#[inline(always)]
+fn put_int(place: &mut Option<Value>, number: i128)
+    ensures { option_map value_of place.new ≡ Some (vals.number number) }
+{
+    match place {
+        Some(Value::Int(old)) => *old = number,
+        _ => *place = Some(Value::Int(number)),
+    }
+}
+
+/// So many unset slots behind others. After `NoMemory` the others stand first.
+fn push_unset(slots: &mut Vec<Option<Value>>, count: u32) -> Result<(), NoMemory>
+    ensures ok { OnOk result (slots.new.items ≡ slots.old.items ++ replicate count None) }
+    ensures err { OnErr result (take (length slots.old.items) slots.new.items ≡ slots.old.items) }
+{
+    for _ in 0..count {
+        slots.push(None)?;
+    }
+    Ok(())
 }

@@ -1,0 +1,5 @@
+mod Outcomes
+mod HandMade
+mod Tied
+mod Outputs
+mod Fronts

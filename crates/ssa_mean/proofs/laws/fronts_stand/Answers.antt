@@ -1,0 +1,5 @@
+use Rattle.ssa_mean.proofs.Fronts.{fronts_stand}
+use Rattle.ssa_mean.proofs.laws.fronts_stand.Goals as goal
+
+pub returns : goal.returns
+returns c = fronts_stand
