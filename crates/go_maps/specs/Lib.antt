@@ -1,3 +1,6 @@
+pub mod Entries
 pub mod Equality
+pub mod Found
 pub mod Keys
 pub mod Maps
+pub mod Places

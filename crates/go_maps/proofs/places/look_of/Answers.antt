@@ -4,7 +4,7 @@ use Rattle.go_value.proofs.Variants.{int_is}
 use Rattle.go_maps.specs.Keys.{unhashable, of_bytes}
 use Rattle.go_maps.proofs.KindsOf.{number_of}
 use Rattle.go_maps.proofs.LookedUp.{other_key}
-use Rattle.go_maps.proofs.maps.look_of.Goals as goal
+use Rattle.go_maps.proofs.places.look_of.Goals as goal
 
 pub returns-in-Int-clause-fault : goal.returns-in-Int-clause-fault
 returns-in-Int-clause-fault c =
