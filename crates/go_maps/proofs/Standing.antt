@@ -149,7 +149,7 @@ count_le (Some p ∷ es) = let h = count_le es in omega arith
 -- ---- keys are found after changes
 
 module _ (find new : KeyCode → Option ℕ) (entries : Map) (all : AreFound find entries) where
-  same_finds : ((code : KeyCode) → new code ≡ find code) → AreFound new entries
+  pub same_finds : ((code : KeyCode) → new code ≡ find code) → AreFound new entries
   same_finds same code n = (λ h. (all code n).0 (sym (same code) ∙ h), λ h. same code ∙ (all code n).1 h)
 
   pub found_valued : (n : ℕ) (v : Val) → AreFound find (with_value_at n v entries)
