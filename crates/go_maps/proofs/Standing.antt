@@ -167,6 +167,7 @@ module _ (find new : KeyCode → Option ℕ) (entries : Map) (all : AreFound fin
           let is : length entries ≡ n = cc in
           subst (λ k. code_at (entries ++ Some pair ∷ []) k ≡ Some code) is (at_last entries pair ∙ ap Some e)
       to (inr apart) h = stays_code entries pair n code ((all code n).0 (sym (changes.others code apart) ∙ h))
+
       from : find (key_code pair.key) ≡ None → (code_at entries n ≡ Some code) ⊎ ((n ≡ length entries) × (key_code pair.key ≡ code)) → new code ≡ Some n
       from before (inl h) =
           let there : find code ≡ Some n = (all code n).1 h in
@@ -183,11 +184,13 @@ module _ (find new : KeyCode → Option ℕ) (entries : Map) (all : AreFound fin
           let other : code_at entries m ≡ Some code = (all code m).0 there in
           let both : Some gone ≡ Some code = sym one ∙ ap (code_at entries) e ∙ other in
           let same : gone ≡ code = cc in apart same
+
       to : (gone ≡ code) ⊎ (gone ≡ code → ⊥) → new code ≡ Some m → code_at (changed (λ _. None) entries n) m ≡ Some code
       to (inl e) h = let clash : None ≡ Some m = sym changes.here ∙ ap new e ∙ h in cc
       to (inr apart) h =
           let there : find code ≡ Some m = sym (changes.others code apart) ∙ h in
           open_other entries n m (apart_from apart there) ∙ (all code m).0 there
+
       from : (n ≡ m) ⊎ (n ≡ m → ⊥) → code_at (changed (λ _. None) entries n) m ≡ Some code → new code ≡ Some m
       from (inl e) h =
           let clash : None ≡ Some code = sym (open_here entries n) ∙ ap (code_at (changed (λ _. None) entries n)) e ∙ h in cc
@@ -200,6 +203,7 @@ found_none find none code n =
     (λ h. let clash : None ≡ Some n = sym (none code) ∙ h in cc, λ h. cc)
 
 pub found_cleared : (find : KeyCode → Option ℕ) (entries : Map) → ((code : KeyCode) → find code ≡ None) → AreFound find (cleared entries)
-found_cleared find entries none code n =
-    (λ h. let clash : None ≡ Some n = sym (none code) ∙ h in cc,
-    λ h. let clash : None ≡ Some code = sym (all_open entries n) ∙ h in cc)
+found_cleared find entries none code n = (
+  λ h. let clash : None ≡ Some n = sym (none code) ∙ h in cc,
+  λ h. let clash : None ≡ Some code = sym (all_open entries n) ∙ h in cc,
+)

@@ -11,8 +11,8 @@ invariant_of-self c =
     let slots = c.self.inside.slots in
     let after = (with_items slots c.open_all.new.slots).items in
     let same =
-        ap entries_of (with_items_is slots c.open_all.new.slots (c.open_all.auto.slots ∙ c.as_mut_slice.ensures.len))
-        ∙ c.open_all.ensures ∙ ap (λ s. cleared (entries_of s)) c.as_mut_slice.ensures.value in
+    ap entries_of (with_items_is slots c.open_all.new.slots (c.open_all.auto.slots ∙ c.as_mut_slice.ensures.len))
+    ∙ c.open_all.ensures ∙ ap (λ s. cleared (entries_of s)) c.as_mut_slice.ensures.value in
     record {
       found = cleared_found (place_in c.clear.new.self) slots.items after c.clear.ensures same;
       live = cleared_live slots.items after same;

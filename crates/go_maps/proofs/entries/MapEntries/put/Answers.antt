@@ -21,4 +21,4 @@ returns-in-None c =
     }
 
 pub add-requires : goal.add-requires
-add-requires c = record { code = c.requires; absent = sym c.in-None.ensures; }
+add-requires c = record { code = c.requires; absent = sym c.in-None.ensures }
