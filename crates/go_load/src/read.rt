@@ -19,6 +19,7 @@ use go_scan::{ScanError, scan};
 use go_sources::{SourceFile, place_at};
 use go_syntax::FileTree;
 use std::alloc::Global;
+use tree_roles::has_roles;
 
 /// The first byte of a file, whatever it holds.
 fn first_place(alloc: Global, path: &str) -> Result<Place, NoMemory>
@@ -123,7 +124,12 @@ fn tree_of(alloc: Global, path: &str, bytes: &[u8], tokens: &Tokens) -> Result<F
     ensures answer { ReadsTree path.now bytes.now result }
 {
     match parse(alloc, tokens) {
-        Ok(tree) => Ok(tree),
+        Ok(tree) => {
+            if !has_roles(&tree) {
+                return Err(lost());
+            }
+            Ok(tree)
+        }
         Err(ParseError::OutOfMemory) => Err(LoadError::OutOfMemory),
         Err(ParseError::TooDeep { index }) => {
             let offset = token_start(bytes, tokens, index);
@@ -134,6 +140,13 @@ fn tree_of(alloc: Global, path: &str, bytes: &[u8], tokens: &Tokens) -> Result<F
             Err(refuse_at(alloc, path, bytes, offset, Rule::SyntaxError))
         }
     }
+}
+
+/// The answer where a token of a tree is not of the kind of its field. The parser makes no such tree, which is not proved.
+fn lost() -> LoadError
+    ensures { result ≡ LoadError.OutOfMemory }
+{
+    LoadError::OutOfMemory
 }
 
 /// Where the token at an index begins; the end of the file where there is none.

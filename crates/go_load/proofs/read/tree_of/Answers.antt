@@ -13,7 +13,10 @@ returns-in-Err-Unexpected-clause-why c = λ files text.
 
 pub returns-in-Ok-clause-answer : goal.returns-in-Ok-clause-answer
 returns-in-Ok-clause-answer c =
-    record { tokens = c.args.tokens.now; list = c.requires.list; verdict = (c.in-Ok.ensures.too_deep, c.in-Ok.ensures.parsed) }
+    record {
+      has = record { tokens = c.args.tokens.now; list = c.requires.list; verdict = (c.in-Ok.ensures.too_deep, c.in-Ok.ensures.parsed) };
+      roles = search rules;
+    }
 
 pub returns-in-Err-TooDeep-clause-answer : goal.returns-in-Err-TooDeep-clause-answer
 returns-in-Err-TooDeep-clause-answer c =
