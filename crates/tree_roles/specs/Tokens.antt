@@ -53,16 +53,16 @@ abbrev pub is_guard : Token → Token → Token → Token → Bool
 is_guard dot «open» word close = is_kind kinds.Dot dot && parens «open» close && is_kind kinds.TypeWord word
 
 -- `[:]`
-abbrev pub slice_marks : Token → Token → Token → Bool
+unfoldable pub slice_marks : Token → Token → Token → Bool
 slice_marks «open» colon close = brackets «open» close && is_kind kinds.Colon colon
 
 -- `[::]`
-abbrev pub full_slice_marks : Token → Token → Token → Token → Bool
+unfoldable pub full_slice_marks : Token → Token → Token → Token → Bool
 full_slice_marks «open» first second close =
     brackets «open» close && is_kind kinds.Colon first && is_kind kinds.Colon second
 
 -- `()`, with `...` and a comma behind the last argument where they stand
-abbrev pub call_marks : Token → Option Token → Option Token → Token → Bool
+unfoldable pub call_marks : Token → Option Token → Option Token → Token → Bool
 call_marks «open» ellipsis comma close =
     parens «open» close && is_if kinds.Ellipsis ellipsis && is_if kinds.Comma comma
 

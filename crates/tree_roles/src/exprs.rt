@@ -1,6 +1,6 @@
 //! Expressions. Go specification, "Expressions".
 
-ghost use Rattle.std.specs.Prelude.{◌≡◌, ◌&&◌, map};
+ghost use Rattle.std.specs.Prelude.{◌≡◌, map};
 ghost use Rattle.tree_roles.specs.Roles.{roles_of_element, roles_of_expr, roles_of_listed_expr};
 ghost use Rattle.tree_roles.specs.Tokens.{held_by, in_turn};
 
@@ -83,7 +83,7 @@ pub fn has_expr_roles(expr: &Expr) -> bool
         } => {
             has_expr_roles(operand)
                 & are_full_slice_marks(*open, *colon, *second_colon, *close)
-                & have_bound_roles(low, high, max)
+                & (has_expr_roles_if(low) & has_expr_roles(high) & has_expr_roles(max))
         }
         Expr::Call {
             callee,
@@ -115,14 +115,6 @@ pub fn has_expr_roles_if(expr: &Option<Box<Expr>>) -> bool
         Some(expr) => has_expr_roles(expr),
         None => true,
     }
-}
-
-/// Whether the tokens of the bounds of a full slice have their roles.
-#[cycle(roles)]
-fn have_bound_roles(low: &Option<Box<Expr>>, high: &Expr, max: &Expr) -> bool
-    ensures { result ≡ (held_by roles_of_expr low.now && roles_of_expr high.now && roles_of_expr max.now) }
-{
-    has_expr_roles_if(low) & has_expr_roles(high) & has_expr_roles(max)
 }
 
 #[cycle(roles)]

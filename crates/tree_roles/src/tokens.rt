@@ -43,6 +43,7 @@ pub fn are_braces(open: Token, close: Token) -> bool
 }
 
 /// Whether these are `[`, `:` and `]`.
+#[tactic(auto, unfolding(crate::specs::Tokens::slice_marks))]
 pub fn are_slice_marks(open: Token, colon: Token, close: Token) -> bool
     ensures { result ≡ roles.slice_marks «open» colon close }
 {
@@ -50,6 +51,7 @@ pub fn are_slice_marks(open: Token, colon: Token, close: Token) -> bool
 }
 
 /// Whether these are `[`, `:`, `:` and `]`.
+#[tactic(auto, unfolding(crate::specs::Tokens::full_slice_marks))]
 pub fn are_full_slice_marks(open: Token, first: Token, second: Token, close: Token) -> bool
     ensures { result ≡ roles.full_slice_marks «open» first second close }
 {
@@ -57,6 +59,7 @@ pub fn are_full_slice_marks(open: Token, first: Token, second: Token, close: Tok
 }
 
 /// Whether these are `(` and `)`, with `...` and a comma between them where there are any.
+#[tactic(auto, unfolding(crate::specs::Tokens::call_marks))]
 pub fn are_call_marks(
     open: Token,
     ellipsis: Option<Token>,
