@@ -12,13 +12,14 @@ use Rattle.go_type.specs.declared.term.Basic.TheVariants as basic
 use Rattle.go_type.specs.declared.term.TypeTerm.{TypeTerm}
 use Rattle.go_type.specs.declared.term.TypeTerm.TheVariants as term
 use Rattle.go_value.specs.Ints.{wrapped}
+use Rattle.go_value.specs.Runes as runes
 use Rattle.go_value.specs.Values.{Val, number, text, slice}
 use Rattle.go_value.specs.declared.faults.Fault.TheVariants as fault
 use Rattle.ssa_ir.specs.declared.code.Code.{Code}
 use Rattle.ssa_mean.specs.Arithmetic.{within_limit}
 use Rattle.ssa_mean.specs.Comes.{Comes, to, faults, nowhere, then_to, where_some}
 use Rattle.ssa_mean.specs.Operands.{under, element_in}
-use Rattle.ssa_mean.specs.Runes.{bytes_of_rune, runes_of}
+use Rattle.ssa_mean.specs.Runes.{runes_of}
 
 -- a value, and the store after it
 pub record Stores : Type 0 where
@@ -44,7 +45,7 @@ byte_of (number it) = unsigned_abs it ∷ []
 byte_of _ = []
 
 abbrev pub rune_bytes : Val → List ℕ
-rune_bytes (number it) = bytes_of_rune it
+rune_bytes (number it) = runes.rune_bytes it
 rune_bytes _ = []
 
 abbrev pub joined_of : (Val → List ℕ) → List Val → List ℕ
@@ -76,7 +77,7 @@ slice_of_text store false bytes = new_slice store (numbers_of (runes_of bytes))
 
 abbrev pub converted_int : Option IntKind → ℤ → Val
 converted_int (Some kind) it = number (wrapped kind it)
-converted_int None it = text (bytes_of_rune it)
+converted_int None it = text (runes.rune_bytes it)
 
 -- a value of a type with an underlying term, converted to another type
 abbrev pub conversion : Code → Stored → Option TypeTerm → TypeId → Val → Comes Stores

@@ -1,7 +1,7 @@
 -- Code points in texts. Go specification, "For statements with range clause" and "Conversions to and from a string
 -- type"; the Unicode standard, "UTF-8".
-use Rattle.std.specs.Prelude.{ℕ, zero, suc, ◌+◌, ◌*◌, ◌%◌, Bool, List, [], ◌∷◌, ◌++◌, ℤ, pos, int_lt, unsigned_abs}
-use Rattle.std.specs.Prelude.{◌&&◌, not, take, drop, length, slice_index, if◌then◌else◌, encode_utf8}
+use Rattle.std.specs.Prelude.{ℕ, zero, suc, ◌+◌, ◌*◌, ◌%◌, List, [], ◌∷◌, ◌++◌}
+use Rattle.std.specs.Prelude.{take, drop, length, slice_index, if◌then◌else◌, encode_utf8}
 use Rattle.std.specs.Str.{is_utf8}
 
 -- a code point, and how many bytes it has
@@ -45,15 +45,6 @@ runes_within (suc n) (byte ∷ bytes) =
 
 abbrev pub runes_of : List ℕ → List ℕ
 runes_of text = runes_within (length text) text
-
--- code points go up to 10FFFF, and no surrogate is one
-abbrev pub is_code_point : ℤ → Bool
-is_code_point z =
-    not (int_lt z (pos 0)) && int_lt z (pos 0x110000) && not (not (int_lt z (pos 0xD800)) && int_lt z (pos 0xE000))
-
--- the bytes of a code point; an integer that is none counts as U+FFFD
-abbrev pub bytes_of_rune : ℤ → List ℕ
-bytes_of_rune z = encode_utf8 (if is_code_point z then unsigned_abs z else 0xFFFD)
 
 abbrev pub bytes_of_points : List ℕ → List ℕ
 bytes_of_points [] = []
