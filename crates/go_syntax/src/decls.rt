@@ -43,7 +43,6 @@ pub struct DeclLine {
 /// A declaration. One of constants, types or variables has one specification, or any number of them in parentheses.
 /// Within a function there is none of a function.
 #[cycle(syntax)]
-#[derive(Drop)]
 pub enum Decl {
     /// Go specification, "Constant declarations".
     Const {
@@ -69,10 +68,36 @@ pub enum Decl {
     Func(Box<FuncDecl>),
 }
 
+impl Drop for Decl {
+    #[cycle(drops)]
+    fn drop(self) {
+        match self {
+            Decl::Const {
+                word: _word,
+                open: _open,
+                specs: _specs,
+                close: _close,
+            } => {}
+            Decl::TypeDecl {
+                word: _word,
+                open: _open,
+                specs: _specs,
+                close: _close,
+            } => {}
+            Decl::Var {
+                word: _word,
+                open: _open,
+                specs: _specs,
+                close: _close,
+            } => {}
+            Decl::Func(_tree) => {}
+        }
+    }
+}
+
 /// Names of constants or variables with their type and values, and the semicolon behind them in parentheses. Constants
 /// without values have no type; variables have a type, values or both.
 #[cycle(syntax)]
-#[derive(Drop)]
 pub struct ValueSpec {
     pub names: Vec<ListedName>,
     pub form: Option<Box<TypeExpr>>,
@@ -81,9 +106,21 @@ pub struct ValueSpec {
     pub semicolon: Option<Token>,
 }
 
+impl Drop for ValueSpec {
+    #[cycle(drops)]
+    fn drop(self) {
+        let ValueSpec {
+            names: _names,
+            form: _form,
+            assign: _assign,
+            values: _values,
+            semicolon: _semicolon,
+        } = self;
+    }
+}
+
 /// A name and its type, with `=` where it is an alias, and the semicolon behind it in parentheses.
 #[cycle(syntax)]
-#[derive(Drop)]
 pub struct TypeSpec {
     pub name: Token,
     pub assign: Option<Token>,
@@ -91,14 +128,38 @@ pub struct TypeSpec {
     pub semicolon: Option<Token>,
 }
 
+impl Drop for TypeSpec {
+    #[cycle(drops)]
+    fn drop(self) {
+        let TypeSpec {
+            name: _name,
+            assign: _assign,
+            form: _form,
+            semicolon: _semicolon,
+        } = self;
+    }
+}
+
 /// A function, or a method, whose receiver is one parameter with at most one name. Go specification, "Function
 /// declarations", "Method declarations".
 #[cycle(syntax)]
-#[derive(Drop)]
 pub struct FuncDecl {
     pub word: Token,
     pub receiver: Option<Params>,
     pub name: Token,
     pub signature: Signature,
     pub body: Option<Block>,
+}
+
+impl Drop for FuncDecl {
+    #[cycle(drops)]
+    fn drop(self) {
+        let FuncDecl {
+            word: _word,
+            receiver: _receiver,
+            name: _name,
+            signature: _signature,
+            body: _body,
+        } = self;
+    }
 }

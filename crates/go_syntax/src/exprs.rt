@@ -1,12 +1,17 @@
 //! Expressions. Go specification, "Expressions".
 
+ghost use Rattle.std.specs.Prelude.{◌≡◌, IfOk, IfErr};
+ghost use Rattle.std.specs.Global.{Box};
+ghost use Rattle.go_syntax.specs.declared.type_exprs.TypeExpr.{TypeExpr};
+ghost use Rattle.go_syntax.specs.declared.exprs.Expr.TheVariants as exprs;
+ghost use Rattle.go_syntax.specs.declared.decls.Decl.TheViews.{out-ListedExpr};
+
 use crate::stmts::Block;
 use crate::type_exprs::{Signature, TypeExpr};
 use go_ast::Token;
 
 /// An expression; in an operand's parentheses, as an argument and in a case also a type that is no expression.
 #[cycle(syntax)]
-#[derive(Drop)]
 pub enum Expr {
     /// An integer literal.
     Int(Token),
@@ -101,20 +106,147 @@ pub enum Expr {
     },
 }
 
+impl Expr {
+    /// The type that stands here as an expression; anything else is given back.
+    pub fn into_type(self) -> Result<Box<TypeExpr>, Expr>
+        ensures form { IfOk result (λ form. self ≡ exprs.TypeForm form) }
+        ensures same { IfErr result (λ other. other ≡ self) }
+        ensures other { IfErr result (λ other. (form : Box TypeExpr) → self ≡ exprs.TypeForm form → ⊥) }
+    {
+        match self {
+            Expr::TypeForm(form) => Ok(form),
+            other => Err(other),
+        }
+    }
+}
+
+impl Drop for Expr {
+    #[cycle(drops)]
+    fn drop(self) {
+        match self {
+            Expr::Int(_token) => {}
+            Expr::Rune(_token) => {}
+            Expr::Text(_token) => {}
+            Expr::Name(_token) => {}
+            Expr::Paren {
+                open: _open,
+                inner: _inner,
+                close: _close,
+            } => {}
+            Expr::Function {
+                word: _word,
+                signature: _signature,
+                body: _body,
+            } => {}
+            Expr::TypeForm(_tree) => {}
+            Expr::Composite {
+                form: _form,
+                open: _open,
+                elements: _elements,
+                close: _close,
+            } => {}
+            Expr::Selector {
+                operand: _operand,
+                dot: _dot,
+                name: _name,
+            } => {}
+            Expr::Assertion {
+                operand: _operand,
+                dot: _dot,
+                open: _open,
+                form: _form,
+                close: _close,
+            } => {}
+            Expr::Index {
+                operand: _operand,
+                open: _open,
+                index: _index,
+                close: _close,
+            } => {}
+            Expr::Slice {
+                operand: _operand,
+                open: _open,
+                low: _low,
+                colon: _colon,
+                high: _high,
+                close: _close,
+            } => {}
+            Expr::FullSlice {
+                operand: _operand,
+                open: _open,
+                low: _low,
+                colon: _colon,
+                high: _high,
+                second_colon: _second_colon,
+                max: _max,
+                close: _close,
+            } => {}
+            Expr::Call {
+                callee: _callee,
+                open: _open,
+                arguments: _arguments,
+                ellipsis: _ellipsis,
+                comma: _comma,
+                close: _close,
+            } => {}
+            Expr::Unary {
+                operator: _operator,
+                operand: _operand,
+            } => {}
+            Expr::Binary {
+                left: _left,
+                operator: _operator,
+                right: _right,
+            } => {}
+        }
+    }
+}
+
 /// An expression of a list, and the comma behind it.
 #[cycle(syntax)]
-#[derive(Drop)]
 pub struct ListedExpr {
     pub expr: Box<Expr>,
     pub comma: Option<Token>,
 }
 
+impl ListedExpr {
+    /// The expression, and the comma behind it.
+    pub fn into_parts(self) -> (Box<Expr>, Option<Token>)
+        ensures expr { result.0 ≡ (out-ListedExpr self).expr }
+        ensures comma { result.1 ≡ (out-ListedExpr self).comma }
+    {
+        let ListedExpr { expr, comma } = self;
+        (expr, comma)
+    }
+}
+
+impl Drop for ListedExpr {
+    #[cycle(drops)]
+    fn drop(self) {
+        let ListedExpr {
+            expr: _expr,
+            comma: _comma,
+        } = self;
+    }
+}
+
 /// An element of a composite literal, with its key and colon where it has one, and the comma behind it.
 #[cycle(syntax)]
-#[derive(Drop)]
 pub struct Element {
     pub key: Option<Box<Expr>>,
     pub colon: Option<Token>,
     pub value: Box<Expr>,
     pub comma: Option<Token>,
+}
+
+impl Drop for Element {
+    #[cycle(drops)]
+    fn drop(self) {
+        let Element {
+            key: _key,
+            colon: _colon,
+            value: _value,
+            comma: _comma,
+        } = self;
+    }
 }

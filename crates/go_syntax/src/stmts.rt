@@ -6,24 +6,42 @@ use go_ast::Token;
 
 /// Statements in braces. Go specification, "Blocks".
 #[cycle(syntax)]
-#[derive(Drop)]
 pub struct Block {
     pub open: Token,
     pub statements: Vec<StmtLine>,
     pub close: Token,
 }
 
+impl Drop for Block {
+    #[cycle(drops)]
+    fn drop(self) {
+        let Block {
+            open: _open,
+            statements: _statements,
+            close: _close,
+        } = self;
+    }
+}
+
 /// A statement, or the empty one, and the semicolon behind it.
 #[cycle(syntax)]
-#[derive(Drop)]
 pub struct StmtLine {
     pub stmt: Option<Box<Stmt>>,
     pub semicolon: Option<Token>,
 }
 
+impl Drop for StmtLine {
+    #[cycle(drops)]
+    fn drop(self) {
+        let StmtLine {
+            stmt: _stmt,
+            semicolon: _semicolon,
+        } = self;
+    }
+}
+
 /// A statement that is not empty.
 #[cycle(syntax)]
-#[derive(Drop)]
 pub enum Stmt {
     /// A declaration of constants, types or variables.
     Decl(Box<Decl>),
@@ -103,6 +121,81 @@ pub enum Stmt {
     Range(Box<RangeStmt>),
 }
 
+impl Drop for Stmt {
+    #[cycle(drops)]
+    fn drop(self) {
+        match self {
+            Stmt::Decl(_tree) => {}
+            Stmt::Labeled {
+                labels: _labels,
+                stmt: _stmt,
+            } => {}
+            Stmt::Expr(_tree) => {}
+            Stmt::Send {
+                channel: _channel,
+                arrow: _arrow,
+                value: _value,
+            } => {}
+            Stmt::Step {
+                operand: _operand,
+                operator: _operator,
+            } => {}
+            Stmt::Assign {
+                targets: _targets,
+                operator: _operator,
+                values: _values,
+            } => {}
+            Stmt::Define {
+                targets: _targets,
+                operator: _operator,
+                values: _values,
+            } => {}
+            Stmt::Go {
+                word: _word,
+                call: _call,
+            } => {}
+            Stmt::Defer {
+                word: _word,
+                call: _call,
+            } => {}
+            Stmt::Return {
+                word: _word,
+                results: _results,
+            } => {}
+            Stmt::Break {
+                word: _word,
+                label: _label,
+            } => {}
+            Stmt::Continue {
+                word: _word,
+                label: _label,
+            } => {}
+            Stmt::Fallthrough(_token) => {}
+            Stmt::Block(_tree) => {}
+            Stmt::If {
+                arms: _arms,
+                else_word: _else_word,
+                otherwise: _otherwise,
+            } => {}
+            Stmt::Switch(_tree) => {}
+            Stmt::TypeSwitch(_tree) => {}
+            Stmt::Select {
+                word: _word,
+                open: _open,
+                clauses: _clauses,
+                close: _close,
+            } => {}
+            Stmt::While {
+                word: _word,
+                condition: _condition,
+                body: _body,
+            } => {}
+            Stmt::For(_tree) => {}
+            Stmt::Range(_tree) => {}
+        }
+    }
+}
+
 /// `name :`
 #[derive(Clone, Copy, Debug, PartialEq, Eq)]
 pub struct Label {
@@ -113,7 +206,6 @@ pub struct Label {
 /// An arm of an `if`, with the `else` before it where it is not the first. The first statement is a simple one; a
 /// semicolon stands behind it, or without it.
 #[cycle(syntax)]
-#[derive(Drop)]
 pub struct IfArm {
     pub else_word: Option<Token>,
     pub word: Token,
@@ -123,9 +215,22 @@ pub struct IfArm {
     pub body: Block,
 }
 
+impl Drop for IfArm {
+    #[cycle(drops)]
+    fn drop(self) {
+        let IfArm {
+            else_word: _else_word,
+            word: _word,
+            init: _init,
+            semicolon: _semicolon,
+            condition: _condition,
+            body: _body,
+        } = self;
+    }
+}
+
 /// `switch` over values. Go specification, "Expression switches".
 #[cycle(syntax)]
-#[derive(Drop)]
 pub struct SwitchStmt {
     pub word: Token,
     pub init: Option<Box<Stmt>>,
@@ -136,9 +241,23 @@ pub struct SwitchStmt {
     pub close: Token,
 }
 
+impl Drop for SwitchStmt {
+    #[cycle(drops)]
+    fn drop(self) {
+        let SwitchStmt {
+            word: _word,
+            init: _init,
+            semicolon: _semicolon,
+            tag: _tag,
+            open: _open,
+            clauses: _clauses,
+            close: _close,
+        } = self;
+    }
+}
+
 /// `switch` over types, of `operand.(type)`. Go specification, "Type switches".
 #[cycle(syntax)]
-#[derive(Drop)]
 pub struct TypeSwitchStmt {
     pub word: Token,
     pub init: Option<Box<Stmt>>,
@@ -154,6 +273,26 @@ pub struct TypeSwitchStmt {
     pub close: Token,
 }
 
+impl Drop for TypeSwitchStmt {
+    #[cycle(drops)]
+    fn drop(self) {
+        let TypeSwitchStmt {
+            word: _word,
+            init: _init,
+            semicolon: _semicolon,
+            binding: _binding,
+            operand: _operand,
+            dot: _dot,
+            open_paren: _open_paren,
+            type_word: _type_word,
+            close_paren: _close_paren,
+            open: _open,
+            clauses: _clauses,
+            close: _close,
+        } = self;
+    }
+}
+
 /// `name :=`
 #[derive(Clone, Copy, Debug, PartialEq, Eq)]
 pub struct Binding {
@@ -163,7 +302,6 @@ pub struct Binding {
 
 /// A clause of a switch: `case` with expressions or types, or `default` without.
 #[cycle(syntax)]
-#[derive(Drop)]
 pub struct CaseClause {
     pub word: Token,
     pub items: Vec<ListedExpr>,
@@ -171,10 +309,21 @@ pub struct CaseClause {
     pub statements: Vec<StmtLine>,
 }
 
+impl Drop for CaseClause {
+    #[cycle(drops)]
+    fn drop(self) {
+        let CaseClause {
+            word: _word,
+            items: _items,
+            colon: _colon,
+            statements: _statements,
+        } = self;
+    }
+}
+
 /// A clause of a select: `case` with a send, a receive, or an assignment or definition of what is received, or
 /// `default` without. Go specification, "Select statements".
 #[cycle(syntax)]
-#[derive(Drop)]
 pub struct CommClause {
     pub word: Token,
     pub comm: Option<Box<Stmt>>,
@@ -182,9 +331,20 @@ pub struct CommClause {
     pub statements: Vec<StmtLine>,
 }
 
+impl Drop for CommClause {
+    #[cycle(drops)]
+    fn drop(self) {
+        let CommClause {
+            word: _word,
+            comm: _comm,
+            colon: _colon,
+            statements: _statements,
+        } = self;
+    }
+}
+
 /// `for init; condition; post`. Go specification, "For statements with for clause".
 #[cycle(syntax)]
-#[derive(Drop)]
 pub struct ForStmt {
     pub word: Token,
     pub init: Option<Box<Stmt>>,
@@ -195,10 +355,24 @@ pub struct ForStmt {
     pub body: Block,
 }
 
+impl Drop for ForStmt {
+    #[cycle(drops)]
+    fn drop(self) {
+        let ForStmt {
+            word: _word,
+            init: _init,
+            first: _first,
+            condition: _condition,
+            second: _second,
+            post: _post,
+            body: _body,
+        } = self;
+    }
+}
+
 /// `for targets = range operand`, with `=` or `:=`, or without targets. Go specification, "For statements with range
 /// clause".
 #[cycle(syntax)]
-#[derive(Drop)]
 pub struct RangeStmt {
     pub word: Token,
     pub targets: Vec<ListedExpr>,
@@ -206,4 +380,18 @@ pub struct RangeStmt {
     pub range: Token,
     pub operand: Box<Expr>,
     pub body: Block,
+}
+
+impl Drop for RangeStmt {
+    #[cycle(drops)]
+    fn drop(self) {
+        let RangeStmt {
+            word: _word,
+            targets: _targets,
+            operator: _operator,
+            range: _range,
+            operand: _operand,
+            body: _body,
+        } = self;
+    }
 }
