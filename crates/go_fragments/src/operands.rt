@@ -22,7 +22,7 @@ use go_syntax::{Expr, ListedExpr, NamedType, TypeExpr};
 use std::alloc::Global;
 
 /// Where an expression stands.
-#[derive(Clone, Copy, Debug, PartialEq, Eq)]
+#[derive(Clone, Copy)]
 pub enum Context {
     Plain,
     /// In the header of an `if`, `for` or `switch`, outside brackets: there the braces behind the name of a type are no
@@ -133,9 +133,9 @@ pub fn begins_with_operand_type(context: Context, tokens: &[Token]) -> bool
 pub fn literal_type(alloc: Global, left: Box<Expr>) -> Result<Box<TypeExpr>, Stop>
     ensures { Gives (λ x. view_type_expr x.value) result (exprs.literal_type (view_expr left.value)) }
 {
-    match Box::into_inner(left) {
-        Expr::TypeForm(form) => Ok(form),
-        other => {
+    match Box::into_inner(left).into_type() {
+        Ok(form) => Ok(form),
+        Err(other) => {
             let name = type_name_of(&other)?;
             Ok(Box::new(alloc, TypeExpr::Name(name))?)
         }
@@ -169,12 +169,12 @@ pub fn starred(alloc: Global, star: Token, operand: Box<Expr>) -> Result<Box<Exp
     if !is_type_only(&operand) {
         return with_sign(alloc, star, operand);
     }
-    match Box::into_inner(operand) {
-        Expr::TypeForm(base) => {
+    match Box::into_inner(operand).into_type() {
+        Ok(base) => {
             let form = Box::new(alloc, TypeExpr::Pointer { star, base })?;
             Ok(Box::new(alloc, Expr::TypeForm(form))?)
         }
-        _other => Err(Stop::Unexpected),
+        Err(_other) => Err(Stop::Unexpected),
     }
 }
 
@@ -197,7 +197,7 @@ pub fn single(list: Vec<ListedExpr>) -> Result<Box<Expr>, Stop>
     if !list.is_empty() {
         return Err(Stop::Unexpected);
     }
-    let ListedExpr { expr, comma } = last;
+    let (expr, comma) = last.into_parts();
     if comma.is_some() {
         return Err(Stop::Unexpected);
     }

@@ -58,7 +58,7 @@ pub enum Simple {
 }
 
 /// `.(type)`
-#[derive(Clone, Copy, Debug, PartialEq, Eq)]
+#[derive(Clone, Copy)]
 pub struct GuardSuffix {
     pub dot: Token,
     pub open_paren: Token,

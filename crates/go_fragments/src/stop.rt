@@ -6,7 +6,7 @@ ghost use Rattle.go_fragments.specs.declared.stop.Stop.TheVariants.{Memory};
 use std::alloc::{AllocError, AllocFailed};
 
 /// Why a reader gave nothing.
-#[derive(Debug, Drop)]
+#[derive(Drop)]
 pub enum Stop {
     Unexpected,
     Memory,
