@@ -32,7 +32,7 @@ pub struct Received {
 
 /// The channel of a typed receive.
 fn receive_of(expr: TypedExpr) -> Option<Received> {
-    let TypedExpr { of, kind, .. } = expr;
+    let (_at, of, kind) = expr.into_parts();
     match kind {
         ExprKind::Receive { channel, .. } => Some(Received {
             channel: Box::into_inner(channel),

@@ -184,8 +184,8 @@ fn see_value(
 
 /// The type and the value of an expression that is constant.
 fn held_of(expr: TypedExpr) -> Result<Held, NoMemory> {
-    let of = expr.of;
-    match expr.kind {
+    let (_at, of, kind) = expr.into_parts();
+    match kind {
         ExprKind::ConstOf(value) => Ok(Held { of, value }),
         kind => given_up(kind),
     }

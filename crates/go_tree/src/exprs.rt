@@ -1,17 +1,42 @@
 //! Typed expressions: each with its type, and with implicit conversions, dereferences and address operations as nodes of
 //! their own. Go specification, "Expressions".
 
+ghost use Rattle.std.specs.Prelude.{◌≡◌};
+ghost use Rattle.go_tree.specs.declared.exprs.Callee.TheViews.{out-TypedExpr};
+
 use go_base::{FuncId, NameId, Pos, TypeId, VarId};
 use go_type::{BinaryOp, Builtin, CompareOp, Const, UnaryOp};
 
 /// An expression with its type. Parentheses leave no node.
 #[cycle(typed)]
-#[derive(Drop)]
 pub struct TypedExpr {
     /// The first byte; the `(` of a call, and the `{` of a composite literal. An implicit node has that of its operand.
     pub at: Pos,
     pub of: TypeId,
     pub kind: ExprKind,
+}
+
+impl TypedExpr {
+    /// Its place, its type and what it is made of.
+    pub fn into_parts(self) -> (Pos, TypeId, ExprKind)
+        ensures at { result.0 ≡ (out-TypedExpr self).at }
+        ensures of { result.1 ≡ (out-TypedExpr self).of }
+        ensures kind { result.2 ≡ (out-TypedExpr self).kind }
+    {
+        let TypedExpr { at, of, kind } = self;
+        (at, of, kind)
+    }
+}
+
+impl Drop for TypedExpr {
+    #[cycle(drops)]
+    fn drop(self) {
+        let TypedExpr {
+            at: _at,
+            of: _of,
+            kind: _kind,
+        } = self;
+    }
 }
 
 /// What an expression is made of. A place is a variable, a dereference, an element of a slice, and a field of a place or
@@ -138,7 +163,6 @@ pub enum SliceBase {
 
 /// What is called. Go specification, "Calls".
 #[cycle(typed)]
-#[derive(Drop)]
 pub enum Callee {
     /// A declared function.
     Function(FuncId),
@@ -159,9 +183,28 @@ pub enum Callee {
     Value(Box<TypedExpr>),
 }
 
+impl Drop for Callee {
+    #[cycle(drops)]
+    fn drop(self) {
+        match self {
+            Callee::Function(_held) => {}
+            Callee::Literal(_held) => {}
+            Callee::Method {
+                receiver: _receiver,
+                function: _function,
+            } => {}
+            Callee::Interface {
+                receiver: _receiver,
+                name: _name,
+                package: _package,
+            } => {}
+            Callee::Value(_held) => {}
+        }
+    }
+}
+
 /// The values of a list: one expression each, or one expression of several values with what is made of its parts.
 #[cycle(typed)]
-#[derive(Drop)]
 pub enum Values {
     Each(Vec<TypedExpr>),
     Spread {
@@ -170,9 +213,21 @@ pub enum Values {
     },
 }
 
+impl Drop for Values {
+    #[cycle(drops)]
+    fn drop(self) {
+        match self {
+            Values::Each(_held) => {}
+            Values::Spread {
+                tuple: _tuple,
+                parts: _parts,
+            } => {}
+        }
+    }
+}
+
 /// The elements of a composite literal. Go specification, "Composite literals".
 #[cycle(typed)]
-#[derive(Drop)]
 pub enum Elements {
     /// Of a struct, in the order in which they are written, each field at most once.
     Fields(Vec<FieldInit>),
@@ -182,26 +237,67 @@ pub enum Elements {
     Entries(Vec<EntryInit>),
 }
 
+impl Drop for Elements {
+    #[cycle(drops)]
+    fn drop(self) {
+        match self {
+            Elements::Fields(_held) => {}
+            Elements::Items {
+                items: _items,
+                len: _len,
+            } => {}
+            Elements::Entries(_held) => {}
+        }
+    }
+}
+
 /// A field, by its number, and its value.
 #[cycle(typed)]
-#[derive(Drop)]
 pub struct FieldInit {
     pub field: u32,
     pub value: TypedExpr,
 }
 
+impl Drop for FieldInit {
+    #[cycle(drops)]
+    fn drop(self) {
+        let FieldInit {
+            field: _field,
+            value: _value,
+        } = self;
+    }
+}
+
 /// An element, by its index, and its value.
 #[cycle(typed)]
-#[derive(Drop)]
 pub struct ItemInit {
     pub index: u64,
     pub value: TypedExpr,
 }
 
+impl Drop for ItemInit {
+    #[cycle(drops)]
+    fn drop(self) {
+        let ItemInit {
+            index: _index,
+            value: _value,
+        } = self;
+    }
+}
+
 /// A key and its value.
 #[cycle(typed)]
-#[derive(Drop)]
 pub struct EntryInit {
     pub key: TypedExpr,
     pub value: TypedExpr,
+}
+
+impl Drop for EntryInit {
+    #[cycle(drops)]
+    fn drop(self) {
+        let EntryInit {
+            key: _key,
+            value: _value,
+        } = self;
+    }
 }

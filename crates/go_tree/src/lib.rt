@@ -1,5 +1,9 @@
 //! Typed programs: what the checker makes of sources, and what code is built of. Names and types are those of the
 //! program's tables, and each tree is typed.
+//!
+//! The drops of trees are written out here, so that they are proved here: one that is derived is proved again, with those of
+//! all trees that lead back to it, in each crate that drops one. `ExprKind` is taken apart where it is used, so it keeps a
+//! derived one, which leads to those that are written out.
 #![tactic(auto)]
 
 mod exprs;

@@ -13,7 +13,6 @@ use std::alloc::Global;
 use std::marker::Model;
 
 /// The body of a function.
-#[derive(Drop)]
 pub struct Body {
     /// The receiver first.
     pub params: VarIds,
@@ -23,6 +22,18 @@ pub struct Body {
     /// Whether a `defer` of its own stands in it.
     pub has_defer: bool,
     pub block: TypedBlock,
+}
+
+impl Drop for Body {
+    fn drop(self) {
+        let Body {
+            params: _params,
+            results: _results,
+            captured: _captured,
+            has_defer: _has_defer,
+            block: _block,
+        } = self;
+    }
 }
 
 /// The bodies of functions, by the number of the function.
@@ -88,12 +99,22 @@ impl Bodies {
 }
 
 /// The initialisation of package variables by one specification, or of a variable by its value.
-#[derive(Drop)]
 pub struct InitStep {
     pub package: u32,
     pub at: Pos,
     pub variables: VarIds,
     pub values: Values,
+}
+
+impl Drop for InitStep {
+    fn drop(self) {
+        let InitStep {
+            package: _package,
+            at: _at,
+            variables: _variables,
+            values: _values,
+        } = self;
+    }
 }
 
 /// Initialisations, in order.

@@ -1,12 +1,13 @@
 //! Typed statements. Go specification, "Statements".
 
+ghost use Rattle.std.specs.Prelude.{◌≡◌};
+
 use crate::exprs::{TypedExpr, Values};
 use go_base::{NameId, Pos, TypeId, VarId};
 use go_type::BinaryOp;
 
 /// Statements with a scope of their own.
 #[cycle(typed_stmt)]
-#[derive(Drop)]
 pub struct TypedBlock {
     pub at: Pos,
     /// What closes the scope: the `}`, or the word of the next clause.
@@ -14,9 +15,19 @@ pub struct TypedBlock {
     pub statements: Vec<TypedStmt>,
 }
 
+impl Drop for TypedBlock {
+    #[cycle(drops)]
+    fn drop(self) {
+        let TypedBlock {
+            at: _at,
+            end: _end,
+            statements: _statements,
+        } = self;
+    }
+}
+
 /// A statement. `at` is its first byte.
 #[cycle(typed_stmt)]
-#[derive(Drop)]
 pub enum TypedStmt {
     /// A declaration of constants, which does nothing.
     Const {
@@ -142,11 +153,132 @@ pub enum TypedStmt {
     },
 }
 
+impl Drop for TypedStmt {
+    #[cycle(drops)]
+    fn drop(self) {
+        match self {
+            TypedStmt::Const { at: _at } => {}
+            TypedStmt::TypeDecl { at: _at } => {}
+            TypedStmt::Var {
+                at: _at,
+                variables: _variables,
+                values: _values,
+            } => {}
+            TypedStmt::Labeled {
+                at: _at,
+                labels: _labels,
+                stmt: _stmt,
+            } => {}
+            TypedStmt::Expr {
+                at: _at,
+                expr: _expr,
+            } => {}
+            TypedStmt::Send {
+                at: _at,
+                channel: _channel,
+                value: _value,
+            } => {}
+            TypedStmt::Step {
+                at: _at,
+                target: _target,
+                op: _op,
+                one: _one,
+            } => {}
+            TypedStmt::Assign {
+                at: _at,
+                targets: _targets,
+                values: _values,
+            } => {}
+            TypedStmt::AssignOp {
+                at: _at,
+                target: _target,
+                op: _op,
+                value: _value,
+            } => {}
+            TypedStmt::Define {
+                at: _at,
+                targets: _targets,
+                values: _values,
+            } => {}
+            TypedStmt::Go {
+                at: _at,
+                call: _call,
+            } => {}
+            TypedStmt::Defer {
+                at: _at,
+                call: _call,
+            } => {}
+            TypedStmt::Return {
+                at: _at,
+                values: _values,
+            } => {}
+            TypedStmt::Break {
+                at: _at,
+                levels: _levels,
+            } => {}
+            TypedStmt::Continue {
+                at: _at,
+                levels: _levels,
+            } => {}
+            TypedStmt::Fallthrough { at: _at } => {}
+            TypedStmt::Block(_held) => {}
+            TypedStmt::If {
+                at: _at,
+                arms: _arms,
+                otherwise: _otherwise,
+            } => {}
+            TypedStmt::Switch {
+                at: _at,
+                init: _init,
+                tag: _tag,
+                clauses: _clauses,
+                end: _end,
+            } => {}
+            TypedStmt::TypeSwitch {
+                at: _at,
+                init: _init,
+                operand: _operand,
+                clauses: _clauses,
+                end: _end,
+            } => {}
+            TypedStmt::Select {
+                at: _at,
+                clauses: _clauses,
+                end: _end,
+            } => {}
+            TypedStmt::For {
+                at: _at,
+                fresh: _fresh,
+                init: _init,
+                condition: _condition,
+                post: _post,
+                body: _body,
+            } => {}
+            TypedStmt::Range {
+                at: _at,
+                fresh: _fresh,
+                over: _over,
+                operand: _operand,
+                targets: _targets,
+                body: _body,
+            } => {}
+        }
+    }
+}
+
 /// What is assigned to: a place or an element of a map, or nothing.
-#[derive(Drop)]
 pub enum Target {
     Place(TypedExpr),
     Blank,
+}
+
+impl Drop for Target {
+    fn drop(self) {
+        match self {
+            Target::Place(_held) => {}
+            Target::Blank => {}
+        }
+    }
 }
 
 /// What `:=` sets.
@@ -159,7 +291,6 @@ pub enum DefineTarget {
 
 /// An arm of an `if`.
 #[cycle(typed_stmt)]
-#[derive(Drop)]
 pub struct TypedArm {
     pub at: Pos,
     pub init: Option<Box<TypedStmt>>,
@@ -167,9 +298,20 @@ pub struct TypedArm {
     pub body: TypedBlock,
 }
 
+impl Drop for TypedArm {
+    #[cycle(drops)]
+    fn drop(self) {
+        let TypedArm {
+            at: _at,
+            init: _init,
+            condition: _condition,
+            body: _body,
+        } = self;
+    }
+}
+
 /// A clause of a switch over values.
 #[cycle(typed_stmt)]
-#[derive(Drop)]
 pub struct TypedClause {
     pub at: Pos,
     pub is_default: bool,
@@ -177,8 +319,19 @@ pub struct TypedClause {
     pub body: TypedBlock,
 }
 
+impl Drop for TypedClause {
+    #[cycle(drops)]
+    fn drop(self) {
+        let TypedClause {
+            at: _at,
+            is_default: _is_default,
+            cases: _cases,
+            body: _body,
+        } = self;
+    }
+}
+
 /// A case: with a tag the value that it is compared with, and else the condition itself.
-#[derive(Drop)]
 pub struct TypedCase {
     pub at: Pos,
     /// The interface that the tag is made a value of before it is compared.
@@ -186,9 +339,30 @@ pub struct TypedCase {
     pub value: TypedExpr,
 }
 
+impl TypedCase {
+    /// Its place, the interface that the tag is made a value of, and its value.
+    pub fn into_parts(self) -> (Pos, Option<TypeId>, TypedExpr)
+        ensures at { result.0 ≡ self.at }
+        ensures tag_to { result.1 ≡ self.tag_to }
+        ensures value { result.2 ≡ self.value }
+    {
+        let TypedCase { at, tag_to, value } = self;
+        (at, tag_to, value)
+    }
+}
+
+impl Drop for TypedCase {
+    fn drop(self) {
+        let TypedCase {
+            at: _at,
+            tag_to: _tag_to,
+            value: _value,
+        } = self;
+    }
+}
+
 /// A clause of a switch over types.
 #[cycle(typed_stmt)]
-#[derive(Drop)]
 pub struct TypeClause {
     pub at: Pos,
     pub is_default: bool,
@@ -196,6 +370,19 @@ pub struct TypeClause {
     /// The variable of this clause, where the switch binds one.
     pub variable: Option<VarId>,
     pub body: TypedBlock,
+}
+
+impl Drop for TypeClause {
+    #[cycle(drops)]
+    fn drop(self) {
+        let TypeClause {
+            at: _at,
+            is_default: _is_default,
+            cases: _cases,
+            variable: _variable,
+            body: _body,
+        } = self;
+    }
 }
 
 /// A case of a switch over types.
@@ -207,15 +394,24 @@ pub enum TypeCase {
 
 /// A clause of a select.
 #[cycle(typed_stmt)]
-#[derive(Drop)]
 pub struct SelectClause {
     pub at: Pos,
     pub comm: Comm,
     pub body: TypedBlock,
 }
 
+impl Drop for SelectClause {
+    #[cycle(drops)]
+    fn drop(self) {
+        let SelectClause {
+            at: _at,
+            comm: _comm,
+            body: _body,
+        } = self;
+    }
+}
+
 /// What a clause of a select waits for.
-#[derive(Drop)]
 pub enum Comm {
     Default,
     Send {
@@ -228,8 +424,23 @@ pub enum Comm {
     },
 }
 
+impl Drop for Comm {
+    fn drop(self) {
+        match self {
+            Comm::Default => {}
+            Comm::Send {
+                channel: _channel,
+                value: _value,
+            } => {}
+            Comm::Receive {
+                channel: _channel,
+                into: _into,
+            } => {}
+        }
+    }
+}
+
 /// Where what is received goes: its parts are the value, and whether it was sent.
-#[derive(Drop)]
 pub enum ReceiveInto {
     Nothing,
     Define {
@@ -239,6 +450,19 @@ pub enum ReceiveInto {
         targets: Vec<Target>,
         parts: Vec<TypedExpr>,
     },
+}
+
+impl Drop for ReceiveInto {
+    fn drop(self) {
+        match self {
+            ReceiveInto::Nothing => {}
+            ReceiveInto::Define { targets: _targets } => {}
+            ReceiveInto::Assign {
+                targets: _targets,
+                parts: _parts,
+            } => {}
+        }
+    }
 }
 
 /// What a range goes over.
@@ -256,7 +480,6 @@ pub enum RangeOver {
 }
 
 /// What a range sets in each turn: its parts are the key and the value.
-#[derive(Drop)]
 pub enum RangeTargets {
     None,
     Define {
@@ -268,4 +491,21 @@ pub enum RangeTargets {
         value: Option<Target>,
         parts: Vec<TypedExpr>,
     },
+}
+
+impl Drop for RangeTargets {
+    fn drop(self) {
+        match self {
+            RangeTargets::None => {}
+            RangeTargets::Define {
+                key: _key,
+                value: _value,
+            } => {}
+            RangeTargets::Assign {
+                key: _key,
+                value: _value,
+                parts: _parts,
+            } => {}
+        }
+    }
 }

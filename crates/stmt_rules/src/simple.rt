@@ -323,7 +323,8 @@ impl<'s> Walker<'s> {
         let Some(whole) = only(whole, is_target) else {
             return Ok(None);
         };
-        match whole.kind {
+        let (_at, _of, kind) = whole.into_parts();
+        match kind {
             ExprKind::BinaryOf { op, left, right } => Ok(Some(TypedStmt::AssignOp {
                 at,
                 target: Box::into_inner(left),

@@ -133,7 +133,7 @@ fn result_of(ground: &mut Ground, results: &[TypeId]) -> Result<TypeId, NoMemory
 
 /// What is called, by the value that is.
 fn callee_of(ground: &Ground, expr: TypedExpr) -> Result<Callee, NoMemory> {
-    let TypedExpr { at, of, kind } = expr;
+    let (at, of, kind) = expr.into_parts();
     match kind {
         ExprKind::FunctionOf(function) => Ok(Callee::Function(function)),
         ExprKind::LiteralOf(function) => Ok(Callee::Literal(function)),

@@ -251,7 +251,10 @@ fn placed(
     at: Pos,
 ) -> Result<Option<TypedExpr>, NoMemory> {
     match expr? {
-        Some(expr) => Ok(Some(node(at, expr.of, expr.kind))),
+        Some(expr) => {
+            let (_at, of, kind) = expr.into_parts();
+            Ok(Some(node(at, of, kind)))
+        }
         None => Ok(None),
     }
 }

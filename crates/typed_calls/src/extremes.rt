@@ -37,7 +37,7 @@ fn extreme_among(
             Ok(Some(node(call.at, of, ExprKind::ConstOf(value))))
         }
         None => {
-            let kind = call.node(of, None, values, false).kind;
+            let (_at, _of, kind) = call.node(of, None, values, false).into_parts();
             Ok(Some(node(place_for(ground, call, of), of, kind)))
         }
     }

@@ -247,7 +247,7 @@ pub fn truth_case(ground: &mut Ground, value: Seen) -> Result<Option<TypedCase>,
 
 /// A case that is compared with `true` as one that is true or false.
 fn with_truth(ground: &Ground, case: TypedCase) -> Result<TypedCase, NoMemory> {
-    let TypedCase { at, tag_to, value } = case;
+    let (at, tag_to, value) = case.into_parts();
     let value = match tag_to {
         None => Ok(value),
         Some(to) => is_truth(ground, at, to, value),

@@ -48,11 +48,7 @@ fn signed(ground: &mut Ground, x: Seen) -> Option<Given> {
 
 /// `+x`, which is no place.
 fn plus(ground: &Ground, at: Pos, x: Given) -> Result<TypedExpr, NoMemory> {
-    let TypedExpr {
-        at: below,
-        of,
-        kind,
-    } = x.expr;
+    let (below, of, kind) = x.expr.into_parts();
     if matches!(&kind, ExprKind::ConstOf(_)) || untyped_kind(&ground.types, of).is_some() {
         return Ok(node(at, of, kind));
     }

@@ -130,7 +130,7 @@ fn placed(types: &Types, at: Pos, expr: TypedExpr) -> TypedExpr {
     if untyped_kind(types, expr.of).is_none() {
         return expr;
     }
-    let TypedExpr { at: _, of, kind } = expr;
+    let (_at, of, kind) = expr.into_parts();
     TypedExpr { at, of, kind }
 }
 

@@ -16,7 +16,7 @@ pub fn retyped(
     expr: TypedExpr,
     to: TypeId,
 ) -> Result<Option<TypedExpr>, NoMemory> {
-    let TypedExpr { at, of: _, kind } = expr;
+    let (at, _of, kind) = expr.into_parts();
     match kind {
         ExprKind::ConstOf(value) => Ok(retyped_constant(ground, at, value, to)),
         ExprKind::NilOf => Ok(Some(node(at, to, ExprKind::NilOf))),
@@ -194,11 +194,7 @@ fn built_in_of(
 
 /// An untyped operand as one of a kind that its own joins to.
 pub fn rekinded(ground: &mut Ground, expr: TypedExpr, kind: Untyped) -> Option<TypedExpr> {
-    let TypedExpr {
-        at,
-        of: _,
-        kind: it,
-    } = expr;
+    let (at, _of, it) = expr.into_parts();
     match it {
         ExprKind::ConstOf(value) => retyped_constant(ground, at, value, kind.type_id()),
         it => Some(node(at, kind.type_id(), it)),

@@ -64,7 +64,7 @@ pub fn has_ok_form(expr: &TypedExpr) -> bool {
 pub fn with_ok(ground: &mut Ground, expr: TypedExpr) -> Result<TypedExpr, NoMemory> {
     let pair = ground.tuple(&[expr.of, basic(Basic::Bool)]);
     let (pair, expr) = beside(pair, expr)?;
-    let TypedExpr { at, of, kind } = expr;
+    let (at, of, kind) = expr.into_parts();
     let comma_ok = true;
     match kind {
         ExprKind::MapIndex { map, key, .. } => {
