@@ -14,11 +14,19 @@ pub enum Form {
 }
 
 /// Instructions that run one after another; the last alone leads elsewhere.
-#[derive(Drop)]
 pub struct Block {
     /// The blocks that lead to it, each once.
     pub preds: BlockIds,
     pub instrs: Instrs,
+}
+
+impl Drop for Block {
+    fn drop(self) {
+        let Block {
+            preds: _preds,
+            instrs: _instrs,
+        } = self;
+    }
 }
 
 #[derive(Clone, Copy, PartialEq, Eq)]
@@ -32,7 +40,6 @@ pub enum FunctionKind {
 }
 
 /// A function of blocks.
-#[derive(Drop)]
 pub struct Function {
     pub name: Text,
     pub kind: FunctionKind,
@@ -46,6 +53,22 @@ pub struct Function {
     pub blocks: Blocks,
     /// Gives the results after a recovery.
     pub recover: Option<BlockId>,
+}
+
+impl Drop for Function {
+    fn drop(self) {
+        let Function {
+            name: _name,
+            kind: _kind,
+            params: _params,
+            variadic: _variadic,
+            free: _free,
+            results: _results,
+            registers: _registers,
+            blocks: _blocks,
+            recover: _recover,
+        } = self;
+    }
 }
 
 /// A package variable.
@@ -67,7 +90,6 @@ pub struct MethodLine {
 }
 
 /// A whole code.
-#[derive(Drop)]
 pub struct Code {
     pub types: Types,
     pub names: Names,
@@ -82,6 +104,20 @@ pub struct Code {
     pub methods: MethodLines,
     /// By package, its initialisation first, then by place; then the wrappers by name.
     pub functions: Functions,
+}
+
+impl Drop for Code {
+    fn drop(self) {
+        let Code {
+            types: _types,
+            names: _names,
+            packages: _packages,
+            declared: _declared,
+            variables: _variables,
+            methods: _methods,
+            functions: _functions,
+        } = self;
+    }
 }
 
 /// A function that stands for a method under another signature.

@@ -9,9 +9,16 @@ use std::alloc::Global;
 use std::marker::Model;
 
 /// Operands, in order.
-#[derive(Drop)]
 pub struct Operands {
     items: Vec<Operand>,
+}
+
+impl Drop for Operands {
+    fn drop(self) {
+        let Operands {
+            items: _items,
+        } = self;
+    }
 }
 
 impl Model for Operands {
@@ -65,9 +72,16 @@ impl Operands {
 }
 
 /// The values of a phi, one for each predecessor.
-#[derive(Drop)]
 pub struct PhiEdges {
     items: Vec<PhiEdge>,
+}
+
+impl Drop for PhiEdges {
+    fn drop(self) {
+        let PhiEdges {
+            items: _items,
+        } = self;
+    }
 }
 
 impl Model for PhiEdges {
@@ -121,9 +135,16 @@ impl PhiEdges {
 }
 
 /// The cases of a `select`, in order.
-#[derive(Drop)]
 pub struct SelectCases {
     items: Vec<SelectCase>,
+}
+
+impl Drop for SelectCases {
+    fn drop(self) {
+        let SelectCases {
+            items: _items,
+        } = self;
+    }
 }
 
 impl Model for SelectCases {
@@ -177,9 +198,16 @@ impl SelectCases {
 }
 
 /// Instructions, in order.
-#[derive(Drop)]
 pub struct Instrs {
     items: Vec<Instr>,
+}
+
+impl Drop for Instrs {
+    fn drop(self) {
+        let Instrs {
+            items: _items,
+        } = self;
+    }
 }
 
 impl Model for Instrs {

@@ -8,9 +8,16 @@ use std::alloc::Global;
 use std::marker::Model;
 
 /// Blocks of a function.
-#[derive(Drop)]
 pub struct BlockIds {
     items: Vec<BlockId>,
+}
+
+impl Drop for BlockIds {
+    fn drop(self) {
+        let BlockIds {
+            items: _items,
+        } = self;
+    }
 }
 
 impl Model for BlockIds {
@@ -73,9 +80,16 @@ impl BlockIds {
 }
 
 /// The blocks of a function, by number.
-#[derive(Drop)]
 pub struct Blocks {
     items: Vec<Block>,
+}
+
+impl Drop for Blocks {
+    fn drop(self) {
+        let Blocks {
+            items: _items,
+        } = self;
+    }
 }
 
 impl Model for Blocks {
@@ -129,9 +143,16 @@ impl Blocks {
 }
 
 /// The functions of a code, by number.
-#[derive(Drop)]
 pub struct Functions {
     items: Vec<Function>,
+}
+
+impl Drop for Functions {
+    fn drop(self) {
+        let Functions {
+            items: _items,
+        } = self;
+    }
 }
 
 impl Model for Functions {
@@ -185,9 +206,16 @@ impl Functions {
 }
 
 /// The package variables of a code, by number.
-#[derive(Drop)]
 pub struct CodeVariables {
     items: Vec<CodeVariable>,
+}
+
+impl Drop for CodeVariables {
+    fn drop(self) {
+        let CodeVariables {
+            items: _items,
+        } = self;
+    }
 }
 
 impl Model for CodeVariables {
@@ -250,9 +278,16 @@ impl CodeVariables {
 }
 
 /// Methods of types.
-#[derive(Drop)]
 pub struct MethodLines {
     items: Vec<MethodLine>,
+}
+
+impl Drop for MethodLines {
+    fn drop(self) {
+        let MethodLines {
+            items: _items,
+        } = self;
+    }
 }
 
 impl Model for MethodLines {
@@ -315,9 +350,16 @@ impl MethodLines {
 }
 
 /// Wrappers that are needed.
-#[derive(Drop)]
 pub struct Needs {
     items: Vec<WrapNeed>,
+}
+
+impl Drop for Needs {
+    fn drop(self) {
+        let Needs {
+            items: _items,
+        } = self;
+    }
 }
 
 impl Model for Needs {

@@ -6,7 +6,6 @@ use go_base::{Bytes, FuncId, NoMemory, TypeId, VarId};
 use std::alloc::Global;
 
 /// The value of a constant.
-#[derive(Drop)]
 pub enum ConstValue {
     Int(i128),
     Truth(bool),
@@ -14,6 +13,18 @@ pub enum ConstValue {
     Nil,
     /// The zero value of its type.
     Zero,
+}
+
+impl Drop for ConstValue {
+    fn drop(self) {
+        match self {
+            ConstValue::Int(_held) => {}
+            ConstValue::Truth(_held) => {}
+            ConstValue::Text(_held) => {}
+            ConstValue::Nil => {}
+            ConstValue::Zero => {}
+        }
+    }
 }
 
 impl ConstValue {
@@ -34,7 +45,6 @@ impl ConstValue {
 }
 
 /// What an instruction works on.
-#[derive(Drop)]
 pub enum Operand {
     /// A parameter, counted from 0; a receiver is the first.
     Param(u64),
@@ -45,6 +55,22 @@ pub enum Operand {
     /// The address of a package variable.
     Variable(VarId),
     Constant { value: ConstValue, of: TypeId },
+}
+
+impl Drop for Operand {
+    fn drop(self) {
+        match self {
+            Operand::Param(_held) => {}
+            Operand::Free(_held) => {}
+            Operand::Register(_held) => {}
+            Operand::Function(_held) => {}
+            Operand::Variable(_held) => {}
+            Operand::Constant {
+                value: _value,
+                of: _of,
+            } => {}
+        }
+    }
 }
 
 impl Operand {

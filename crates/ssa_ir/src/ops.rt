@@ -17,10 +17,18 @@ pub enum Infix {
 }
 
 /// The value of a phi where its block is entered from a predecessor.
-#[derive(Drop)]
 pub struct PhiEdge {
     pub from: BlockId,
     pub value: Operand,
+}
+
+impl Drop for PhiEdge {
+    fn drop(self) {
+        let PhiEdge {
+            from: _from,
+            value: _value,
+        } = self;
+    }
 }
 
 impl PhiEdge {
@@ -36,14 +44,26 @@ impl PhiEdge {
 }
 
 /// A case of a `select`.
-#[derive(Drop)]
 pub enum SelectCase {
     Send { channel: Operand, value: Operand },
     Receive { channel: Operand },
 }
 
+impl Drop for SelectCase {
+    fn drop(self) {
+        match self {
+            SelectCase::Send {
+                channel: _channel,
+                value: _value,
+            } => {}
+            SelectCase::Receive {
+                channel: _channel,
+            } => {}
+        }
+    }
+}
+
 /// A call.
-#[derive(Drop)]
 pub enum Call {
     /// Of a function.
     Static {
@@ -69,8 +89,32 @@ pub enum Call {
     },
 }
 
+impl Drop for Call {
+    fn drop(self) {
+        match self {
+            Call::Static {
+                function: _function,
+                arguments: _arguments,
+            } => {}
+            Call::Dynamic {
+                callee: _callee,
+                arguments: _arguments,
+            } => {}
+            Call::Invoke {
+                receiver: _receiver,
+                name: _name,
+                package: _package,
+                arguments: _arguments,
+            } => {}
+            Call::Builtin {
+                builtin: _builtin,
+                arguments: _arguments,
+            } => {}
+        }
+    }
+}
+
 /// What an instruction does.
-#[derive(Drop)]
 pub enum Op {
     New(TypeId),
     Phi(PhiEdges),
@@ -188,6 +232,127 @@ pub enum Op {
     Panic(Operand),
 }
 
+impl Drop for Op {
+    fn drop(self) {
+        match self {
+            Op::New(_held) => {}
+            Op::Phi(_held) => {}
+            Op::Binary {
+                op: _op,
+                left: _left,
+                right: _right,
+            } => {}
+            Op::Unary {
+                op: _op,
+                operand: _operand,
+            } => {}
+            Op::Load(_held) => {}
+            Op::Store {
+                at: _at,
+                value: _value,
+            } => {}
+            Op::Field {
+                operand: _operand,
+                field: _field,
+            } => {}
+            Op::FieldAddress {
+                operand: _operand,
+                field: _field,
+            } => {}
+            Op::Index {
+                operand: _operand,
+                index: _index,
+            } => {}
+            Op::IndexAddress {
+                operand: _operand,
+                index: _index,
+            } => {}
+            Op::Lookup {
+                map: _map,
+                key: _key,
+                comma_ok: _comma_ok,
+            } => {}
+            Op::Update {
+                map: _map,
+                key: _key,
+                value: _value,
+            } => {}
+            Op::Slice {
+                operand: _operand,
+                low: _low,
+                high: _high,
+                max: _max,
+            } => {}
+            Op::Convert {
+                to: _to,
+                operand: _operand,
+            } => {}
+            Op::ChangeType {
+                to: _to,
+                operand: _operand,
+            } => {}
+            Op::MakeInterface {
+                to: _to,
+                operand: _operand,
+            } => {}
+            Op::ChangeInterface {
+                to: _to,
+                operand: _operand,
+            } => {}
+            Op::MakeClosure {
+                function: _function,
+                captured: _captured,
+            } => {}
+            Op::MakeMap(_held) => {}
+            Op::MakeChan {
+                of: _of,
+                size: _size,
+            } => {}
+            Op::MakeSlice {
+                of: _of,
+                len: _len,
+                cap: _cap,
+            } => {}
+            Op::TypeAssert {
+                operand: _operand,
+                to: _to,
+                comma_ok: _comma_ok,
+            } => {}
+            Op::Call(_held) => {}
+            Op::Go(_held) => {}
+            Op::Defer(_held) => {}
+            Op::RunDefers => {}
+            Op::Send {
+                channel: _channel,
+                value: _value,
+            } => {}
+            Op::Receive {
+                channel: _channel,
+                comma_ok: _comma_ok,
+            } => {}
+            Op::Select {
+                blocking: _blocking,
+                cases: _cases,
+            } => {}
+            Op::Range(_held) => {}
+            Op::Next(_held) => {}
+            Op::Extract {
+                operand: _operand,
+                part: _part,
+            } => {}
+            Op::Tick => {}
+            Op::Jump(_held) => {}
+            Op::If {
+                test: _test,
+                then_to: _then_to,
+                else_to: _else_to,
+            } => {}
+            Op::Return(_held) => {}
+            Op::Panic(_held) => {}
+        }
+    }
+}
+
 impl Op {
     /// Whether a block ends with it.
     pub fn is_end(&self) -> bool
@@ -216,9 +381,18 @@ impl Op {
 }
 
 /// An instruction, the register that it gives, and the place of the expression or statement from which it is built.
-#[derive(Drop)]
 pub struct Instr {
     pub op: Op,
     pub register: Option<u64>,
     pub at: Pos,
+}
+
+impl Drop for Instr {
+    fn drop(self) {
+        let Instr {
+            op: _op,
+            register: _register,
+            at: _at,
+        } = self;
+    }
 }
