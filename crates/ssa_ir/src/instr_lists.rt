@@ -15,9 +15,7 @@ pub struct Operands {
 
 impl Drop for Operands {
     fn drop(self) {
-        let Operands {
-            items: _items,
-        } = self;
+        let Operands { items: _items } = self;
     }
 }
 
@@ -78,9 +76,7 @@ pub struct PhiEdges {
 
 impl Drop for PhiEdges {
     fn drop(self) {
-        let PhiEdges {
-            items: _items,
-        } = self;
+        let PhiEdges { items: _items } = self;
     }
 }
 
@@ -141,9 +137,7 @@ pub struct SelectCases {
 
 impl Drop for SelectCases {
     fn drop(self) {
-        let SelectCases {
-            items: _items,
-        } = self;
+        let SelectCases { items: _items } = self;
     }
 }
 
@@ -204,9 +198,7 @@ pub struct Instrs {
 
 impl Drop for Instrs {
     fn drop(self) {
-        let Instrs {
-            items: _items,
-        } = self;
+        let Instrs { items: _items } = self;
     }
 }
 

@@ -14,9 +14,7 @@ pub struct BlockIds {
 
 impl Drop for BlockIds {
     fn drop(self) {
-        let BlockIds {
-            items: _items,
-        } = self;
+        let BlockIds { items: _items } = self;
     }
 }
 
@@ -86,9 +84,7 @@ pub struct Blocks {
 
 impl Drop for Blocks {
     fn drop(self) {
-        let Blocks {
-            items: _items,
-        } = self;
+        let Blocks { items: _items } = self;
     }
 }
 
@@ -149,9 +145,7 @@ pub struct Functions {
 
 impl Drop for Functions {
     fn drop(self) {
-        let Functions {
-            items: _items,
-        } = self;
+        let Functions { items: _items } = self;
     }
 }
 
@@ -212,9 +206,7 @@ pub struct CodeVariables {
 
 impl Drop for CodeVariables {
     fn drop(self) {
-        let CodeVariables {
-            items: _items,
-        } = self;
+        let CodeVariables { items: _items } = self;
     }
 }
 
@@ -284,9 +276,7 @@ pub struct MethodLines {
 
 impl Drop for MethodLines {
     fn drop(self) {
-        let MethodLines {
-            items: _items,
-        } = self;
+        let MethodLines { items: _items } = self;
     }
 }
 
@@ -356,9 +346,7 @@ pub struct Needs {
 
 impl Drop for Needs {
     fn drop(self) {
-        let Needs {
-            items: _items,
-        } = self;
+        let Needs { items: _items } = self;
     }
 }
 

@@ -56,9 +56,7 @@ impl Drop for SelectCase {
                 channel: _channel,
                 value: _value,
             } => {}
-            SelectCase::Receive {
-                channel: _channel,
-            } => {}
+            SelectCase::Receive { channel: _channel } => {}
         }
     }
 }

@@ -11,7 +11,7 @@ use Rattle.ssa_ir.specs.declared.ops.SelectCase.{SelectCase}
 use Rattle.ssa_ir.specs.declared.ops.SelectCase.TheVariants.{Send, Receive}
 use Rattle.ssa_typed.specs.Forms.{takes_cases, receives_at}
 use Rattle.ssa_typed.specs.Operands.{shape, is_where}
-use Rattle.ssa_typed.specs.Shapes.{sent_elem}
+use Rattle.type_shapes.specs.Shapes.{sent_elem}
 
 drop-at : {A : Type 0} (xs : List A) (i : ℕ) (x d : A) → i < length xs → x ≡ get_or xs i d → drop i xs ≡ x ∷ drop (i + 1) xs
 drop-at xs i x d h e = rw add-one (drop-cons xs i d h ∙ ap (λ y. y ∷ drop (suc i) xs) (sym e))

@@ -22,7 +22,7 @@ use Rattle.ssa_ir.specs.declared.ops.Call.{Call}
 use Rattle.ssa_ir.specs.declared.ops.Call.TheVariants as call
 use Rattle.ssa_typed.specs.Operands.{function_at, is_value, known, shape, held_type, is_operand, is_any_operand}
 use Rattle.ssa_typed.specs.Operands.{pointee}
-use Rattle.ssa_typed.specs.Shapes.{is_text, is_truth, is_any, is_byte, parts_of, may_send}
+use Rattle.type_shapes.specs.Shapes.{is_text, is_truth, is_any, is_byte, parts_of, may_send}
 use Rattle.ssa_typed.specs.declared.known.Known.{Known}
 use Rattle.ssa_typed.specs.declared.known.Known.TheVariants as known_as
 

@@ -17,7 +17,7 @@ use Rattle.go_type.specs.declared.term.TypeTerm.{TypeTerm}
 use Rattle.go_type.specs.declared.term.TypeTerm.TheVariants.{Pointer, Slice, Array, Map, Chan, Func, Struct, Interface}
 use Rattle.ssa_ir.specs.declared.code.Code.{Code}
 use Rattle.ssa_typed.specs.Operands.{function_at, is_function_type}
-use Rattle.ssa_typed.specs.Shapes.{is_text, is_characters}
+use Rattle.type_shapes.specs.Shapes.{is_text, is_characters}
 use Rattle.ssa_typed.specs.declared.known.Known.{Known}
 use Rattle.ssa_typed.specs.declared.known.Known.TheVariants as known_as
 

@@ -1,4 +1,3 @@
-pub mod Shapes
 pub mod Operands
 pub mod Conversions
 pub mod Calls

@@ -22,7 +22,7 @@ use Rattle.ssa_ir.specs.declared.operands.ConstValue.{ConstValue}
 use Rattle.ssa_ir.specs.declared.operands.ConstValue.TheVariants as value
 use Rattle.ssa_ir.specs.declared.operands.Operand.{Operand}
 use Rattle.ssa_ir.specs.declared.operands.Operand.TheVariants as operand
-use Rattle.ssa_typed.specs.Shapes.{is_text, is_truth, is_any, is_pointer_to, has_nil, has_zero, base_of}
+use Rattle.type_shapes.specs.Shapes.{is_text, is_truth, is_any, is_pointer_to, has_nil, has_zero, base_of}
 use Rattle.ssa_typed.specs.declared.known.Known.{Known}
 use Rattle.ssa_typed.specs.declared.known.Known.TheVariants as known_as
 

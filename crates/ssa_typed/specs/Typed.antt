@@ -20,7 +20,7 @@ use Rattle.ssa_ir.specs.declared.ops.Op.TheVariants as op
 use Rattle.ssa_typed.specs.Calls.{term_where}
 use Rattle.ssa_typed.specs.Forms.{FitsOp}
 use Rattle.ssa_typed.specs.Operands.{register_at}
-use Rattle.ssa_typed.specs.Shapes.{is_slice, is_value_type}
+use Rattle.type_shapes.specs.Shapes.{is_slice, is_value_type}
 
 -- ---- the first line of a function
 

@@ -8,10 +8,10 @@ ghost use Rattle.ssa_typed.specs.Operands.{shape, pointee};
 
 use crate::known::Frame;
 use crate::pairs::are_of;
-use crate::shapes::{is_any, is_byte, is_integer, is_plain, is_text, is_truth, may_send};
 use go_base::TypeId;
 use go_type::{Basic, Builtin, TypeTerm, Types};
 use ssa_ir::Operand;
+use type_shapes::{is_any, is_byte, is_integer, is_plain, is_text, is_truth, may_send};
 
 /// Whether a call of a built-in function is typed. `panic` is called with `go` and `defer` alone.
 pub fn fits_builtin(

@@ -5,15 +5,15 @@ ghost use Rattle.go_type.specs.Assignable.{underlying_term_of};
 ghost use Rattle.go_type.specs.Table.{term_at};
 ghost use Rattle.ssa_typed.specs.Calls.{are_parts, gives_list, gives_results, method_named, method_type, term_where, signature_results, function_results, static_results, dynamic_results, results_of, fits_call, fits_deferred};
 ghost use Rattle.ssa_typed.specs.Operands.{function_at, known, shape};
-ghost use Rattle.ssa_typed.specs.Shapes.{parts_of};
+ghost use Rattle.type_shapes.specs.Shapes.{parts_of};
 
 use crate::builtins::{fits_builtin, fits_deferred_builtin};
 use crate::known::{Frame, Known, is_value};
 use crate::pairs::are;
-use crate::shapes::parts;
 use go_base::{FuncId, NameId, TypeId};
 use go_type::{MethodType, TypeTerm, Types};
 use ssa_ir::{Call, Operand};
+use type_shapes::parts;
 
 /// Whether a call is typed that gives a register of a type, or none.
 pub fn fits_call(frame: Frame, call: &Call, register: Option<TypeId>) -> bool

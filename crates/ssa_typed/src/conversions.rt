@@ -9,10 +9,10 @@ ghost use Rattle.ssa_typed.specs.Conversions.{converts, converts_type, like_bare
 ghost use Rattle.ssa_typed.specs.Operands.{known, held_type};
 
 use crate::known::{Frame, Known};
-use crate::shapes::{is_characters, is_integer, is_text};
 use go_base::TypeId;
 use go_type::{Dir, Field, MethodType, TypeTerm, Types};
 use ssa_ir::Operand;
+use type_shapes::{is_characters, is_integer, is_text};
 
 /// Whether a value is converted: an integer to an integer or a string, or between strings and bytes or runes.
 pub fn fits_conversion(frame: Frame, operand: &Operand, to: TypeId) -> bool

@@ -6,10 +6,10 @@ ghost use Rattle.ssa_typed.specs.Forms.{is_pointer_where, is_slice_where, array_
 ghost use Rattle.ssa_typed.specs.Operands.{shape, pointee, is_integer_operand};
 
 use crate::known::Frame;
-use crate::shapes::{array_elem, field_of, is_plain, is_pointer_to, is_slice_of, is_with_ok};
 use go_base::TypeId;
 use go_type::{Basic, TypeTerm, Types};
 use ssa_ir::Operand;
+use type_shapes::{array_elem, field_of, is_plain, is_pointer_to, is_slice_of, is_with_ok};
 
 /// Whether a register has the type of a result, or with a second boolean result the tuple of both.
 pub fn gives(types: &Types, register: TypeId, of: TypeId, comma_ok: bool) -> bool

@@ -16,9 +16,9 @@ use crate::operators::{fits_binary, has_unary};
 use crate::pairs::{are, are_all};
 use crate::ranges::{fits_extract, fits_next, fits_range};
 use crate::selects::{fits_receive, fits_select, fits_send};
-use crate::shapes::{is_chan, is_id, is_map, is_pointer_to, is_slice};
 use go_base::{FuncId, TypeId};
 use ssa_ir::{Op, Operand};
+use type_shapes::{is_chan, is_id, is_map, is_pointer_to, is_slice};
 
 /// Whether an instruction is typed that gives a register of a type, or none.
 pub fn fits(frame: Frame, op: &Op, register: Option<TypeId>) -> bool

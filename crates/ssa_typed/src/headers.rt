@@ -4,10 +4,10 @@ ghost use Rattle.std.specs.Prelude.{◌≡◌};
 ghost use Rattle.ssa_typed.specs.Typed.{is_wrapper, is_external, is_init, are_value_types, has_rest, is_bare, fits_kind, fits_header, is_allowed};
 
 use crate::known::Frame;
-use crate::shapes::is_value_type;
 use go_base::TypeId;
 use go_type::{TypeTerm, Types};
 use ssa_ir::{Call, Function, FunctionKind, Op};
+use type_shapes::is_value_type;
 
 /// Whether a function may hold an instruction: a wrapper has no dynamic call, `go` or `defer`, and what has a `defer` has a
 /// recover block.

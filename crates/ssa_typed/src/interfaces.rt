@@ -7,10 +7,10 @@ ghost use Rattle.ssa_typed.specs.Forms.{Boxes, ImplementsWhere, Widens, Asserts}
 ghost use Rattle.ssa_typed.specs.Operands.{known, held_type};
 
 use crate::known::{Frame, Known};
-use crate::shapes::{is_any_below, is_interface, is_state};
 use go_base::TypeId;
 use go_type::{TypeTerm, Types, implements};
 use ssa_ir::Operand;
+use type_shapes::{is_any_below, is_interface, is_state};
 
 /// Whether an operand that is no interface may be made into one. A function has no methods.
 pub fn fits_boxing(frame: Frame, operand: &Operand, to: TypeId) -> bool

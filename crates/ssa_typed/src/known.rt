@@ -5,12 +5,12 @@ ghost use Rattle.go_type.specs.Assignable.{underlying_term_of};
 ghost use Rattle.go_type.specs.Table.{term_at};
 ghost use Rattle.ssa_typed.specs.Operands.{function_at, is_signature, is_function_type, is_value, address_of, value_of, register_at, known, has_constant, is_known, is_operand, is_where, held_type, type_of, term_of, shape, is_integer_operand, is_truth_operand, is_any_operand, pointee_of, pointee};
 
-use crate::shapes::{
-    base_of, has_nil, has_zero, is_any, is_integer, is_pointer_to, is_text, is_truth,
-};
 use go_base::{FuncId, TypeId, VarId};
 use go_type::{Const, Signature, TypeTerm, represent};
 use ssa_ir::{Code, ConstValue, Function, FunctionKind, Operand};
+use type_shapes::{
+    base_of, has_nil, has_zero, is_any, is_integer, is_pointer_to, is_text, is_truth,
+};
 
 /// The type of an operand. Those of functions and of the addresses of package variables need not be held.
 #[derive(Clone, Copy, Debug, PartialEq, Eq)]

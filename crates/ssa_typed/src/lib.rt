@@ -14,6 +14,5 @@ mod operators;
 mod pairs;
 mod ranges;
 mod selects;
-mod shapes;
 
 pub use checking::{TypedError, type_code};

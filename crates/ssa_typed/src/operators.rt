@@ -5,10 +5,10 @@ ghost use Rattle.ssa_typed.specs.Forms.{has_unary, is_shift, is_taken, is_equali
 ghost use Rattle.ssa_typed.specs.Operands.{known};
 
 use crate::known::{Frame, Known};
-use crate::shapes::{is_integer, is_text, is_truth};
 use go_base::TypeId;
 use go_type::{BinaryOp, CompareOp, Types, UnaryOp, comparable};
 use ssa_ir::{ConstValue, Infix, Operand};
+use type_shapes::{is_integer, is_text, is_truth};
 
 pub fn has_unary(types: &Types, op: UnaryOp, of: TypeId) -> bool
     ensures { result ≡ has_unary types.now op of }

@@ -5,13 +5,13 @@ ghost use Rattle.go_type.specs.Assignable.{underlying_term_of};
 ghost use Rattle.go_type.specs.Table.{term_at};
 ghost use Rattle.ssa_typed.specs.Forms.{is_ranged, is_iter_of, has_items, has_steps, steps_over, steps, has_part, extracts};
 ghost use Rattle.ssa_typed.specs.Operands.{known, held_type, shape};
-ghost use Rattle.ssa_typed.specs.Shapes.{parts_of};
+ghost use Rattle.type_shapes.specs.Shapes.{parts_of};
 
 use crate::known::Frame;
-use crate::shapes::{is_plain, parts};
 use go_base::TypeId;
 use go_type::{Basic, TypeTerm, Types};
 use ssa_ir::Operand;
+use type_shapes::{is_plain, parts};
 
 pub fn fits_range(frame: Frame, operand: &Operand, of: TypeId) -> bool
     ensures { result ≡ (is_ranged (shape frame.entry.code.now frame.entry.function.now operand.now) && is_iter_of frame.entry.code.now frame.entry.function.now (term_at frame.entry.code.now.types of) operand.now) }

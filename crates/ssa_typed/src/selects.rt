@@ -4,14 +4,14 @@ ghost use Rattle.std.specs.Prelude.{◌≡◌, slice_get};
 ghost use Rattle.go_type.specs.Table.{term_at};
 ghost use Rattle.ssa_typed.specs.Forms.{gives_received, receives_at, takes_cases, selects};
 ghost use Rattle.ssa_typed.specs.Operands.{shape, is_where};
-ghost use Rattle.ssa_typed.specs.Shapes.{sent_elem, received_elem, parts_of};
+ghost use Rattle.type_shapes.specs.Shapes.{sent_elem, received_elem, parts_of};
 
 use crate::elements::gives;
 use crate::known::Frame;
-use crate::shapes::{is_id, is_plain, may_receive, may_send, parts};
 use go_base::TypeId;
 use go_type::{Basic, TypeTerm};
 use ssa_ir::{Operand, SelectCase};
+use type_shapes::{is_id, is_plain, may_receive, may_send, parts};
 
 /// A `select` has no more cases.
 const MAX_CASES: usize = 4_294_967_295;

@@ -1,21 +1,24 @@
 //! What types are, by their terms or by those of their underlying types.
+#![tactic(auto)]
 
 ghost use Rattle.std.specs.Prelude.{◌≡◌, is_some, option_copied};
 ghost use Rattle.go_type.specs.Assignable.{underlying_term_of};
 ghost use Rattle.go_type.specs.Kinds.{kind_of};
 ghost use Rattle.go_type.specs.Same.{same_id};
 ghost use Rattle.go_type.specs.Table.{term_at, basic_id};
-ghost use Rattle.ssa_typed.specs.Shapes.{is_text, is_truth, is_interface, is_any, is_characters, is_byte, is_state, is_value_type, has_nil, has_zero, is_pointer_to, is_slice_of, parts_of, is_with_ok, base_of, array_elem, field_of, may_send, may_receive, is_id, is_map, is_chan, is_slice};
+ghost use Rattle.type_shapes.specs.Shapes.{is_text, is_truth, is_interface, is_any, is_characters, is_byte, is_state, is_value_type, has_nil, has_zero, is_pointer_to, is_slice_of, parts_of, is_with_ok, base_of, array_elem, field_of, may_send, may_receive, is_id, is_map, is_chan, is_slice};
 
 use go_base::TypeId;
 use go_type::{Basic, Dir, TypeTerm, Types, basic, int_kind};
 
+/// Whether the underlying type is one of integers. Go specification, "Numeric types".
 pub fn is_integer(types: &Types, of: TypeId) -> bool
     ensures { result ≡ is_some (kind_of types.now of) }
 {
     int_kind(types, of).is_some()
 }
 
+/// Whether the underlying type is `string`. Go specification, "String types".
 pub fn is_text(types: &Types, of: TypeId) -> bool
     ensures { result ≡ is_text (underlying_term_of types.now of) }
 {
@@ -25,6 +28,7 @@ pub fn is_text(types: &Types, of: TypeId) -> bool
     )
 }
 
+/// Whether the underlying type is `bool`. Go specification, "Boolean types".
 pub fn is_truth(types: &Types, of: TypeId) -> bool
     ensures { result ≡ is_truth (underlying_term_of types.now of) }
 {
@@ -34,24 +38,28 @@ pub fn is_truth(types: &Types, of: TypeId) -> bool
     )
 }
 
+/// Whether the underlying type is an interface. Go specification, "Interface types".
 pub fn is_interface(types: &Types, of: TypeId) -> bool
     ensures { result ≡ is_interface (underlying_term_of types.now of) }
 {
     matches!(types.underlying_term(of), Some(TypeTerm::Interface(_)))
 }
 
+/// Whether the underlying type is a map. Go specification, "Map types".
 pub fn is_map(types: &Types, of: TypeId) -> bool
     ensures { result ≡ is_map (underlying_term_of types.now of) }
 {
     matches!(types.underlying_term(of), Some(TypeTerm::Map { .. }))
 }
 
+/// Whether the underlying type is a channel. Go specification, "Channel types".
 pub fn is_chan(types: &Types, of: TypeId) -> bool
     ensures { result ≡ is_chan (underlying_term_of types.now of) }
 {
     matches!(types.underlying_term(of), Some(TypeTerm::Chan { .. }))
 }
 
+/// Whether the underlying type is a slice. Go specification, "Slice types".
 pub fn is_slice(types: &Types, of: TypeId) -> bool
     ensures { result ≡ is_slice (underlying_term_of types.now of) }
 {
@@ -91,6 +99,7 @@ pub fn is_characters(types: &Types, of: TypeId) -> bool
     }
 }
 
+/// Whether the underlying type is `uint8`.
 pub fn is_byte(types: &Types, of: TypeId) -> bool
     ensures { result ≡ is_byte (underlying_term_of types.now of) }
 {
@@ -120,6 +129,7 @@ pub fn is_value_type(types: &Types, of: TypeId) -> bool
     }
 }
 
+/// Whether a type has the value `nil`. Go specification, "The zero value".
 pub fn has_nil(types: &Types, of: TypeId) -> bool
     ensures { result ≡ has_nil (underlying_term_of types.now of) }
 {
@@ -136,6 +146,7 @@ pub fn has_nil(types: &Types, of: TypeId) -> bool
     )
 }
 
+/// Whether a type has a zero value: it is defined, and neither a tuple nor the state of a range.
 pub fn has_zero(types: &Types, of: TypeId) -> bool
     ensures { result ≡ has_zero (underlying_term_of types.now of) }
 {
@@ -202,6 +213,7 @@ pub fn base_of(types: &Types, of: TypeId) -> Option<TypeId>
     }
 }
 
+/// The type of the elements of an array type.
 pub fn array_elem(types: &Types, of: TypeId) -> Option<TypeId>
     ensures { result ≡ array_elem (underlying_term_of types.now of) }
 {
@@ -224,12 +236,14 @@ pub fn field_of(types: &Types, of: TypeId, field: u32) -> Option<TypeId>
     }
 }
 
+/// Whether values may be sent in a direction. Go specification, "Channel types".
 pub fn may_send(dir: Dir) -> bool
     ensures { result ≡ may_send dir }
 {
     matches!(dir, Dir::Both | Dir::Send)
 }
 
+/// Whether values may be received in a direction.
 pub fn may_receive(dir: Dir) -> bool
     ensures { result ≡ may_receive dir }
 {
