@@ -1,0 +1,9 @@
+pub mod Tests
+pub mod Around
+pub mod Nodes
+pub mod BuiltIns
+pub mod Conversions
+pub mod Expressions
+pub mod Targets
+pub mod Statements
+pub mod Programs
