@@ -1,7 +1,6 @@
 -- Which types the arguments of built-in functions have. Go specification, "Built-in functions".
 use Rattle.std.specs.Prelude.{ℕ, ◌==◌, Bool, true, false, ◌&&◌, ◌||◌, List, [], ◌∷◌, length, Option, Some, None, is_none}
 use Rattle.std.specs.List.{list_all}
-use Rattle.std.specs.Option.{option_map_or}
 use Rattle.go_base.specs.declared.ids.TypeId.{TypeId}
 use Rattle.go_type.specs.Same.{same_id}
 use Rattle.go_type.specs.Table.{basic_id}
@@ -10,8 +9,8 @@ use Rattle.go_type.specs.declared.operators.Builtin.TheVariants as builtin
 use Rattle.go_type.specs.declared.term.Basic.TheVariants as basic
 use Rattle.go_type.specs.declared.term.TypeTerm.{TypeTerm}
 use Rattle.go_type.specs.declared.term.TypeTerm.TheVariants.{Slice, Array, Map, Chan, Pointer, Basic as Plain}
-use Rattle.type_shapes.specs.Shapes.{is_text, is_any, is_byte, is_pointer_to, may_send}
-use Rattle.typed_trees.specs.Around.{Around, term, under, has_integers, has_texts, has_truths, is_ordered}
+use Rattle.type_shapes.specs.Shapes.{is_any, is_byte, is_pointer_to, may_send}
+use Rattle.typed_trees.specs.Around.{Around, term, under, has_integers, has_truths, is_ordered}
 use Rattle.typed_trees.specs.Nodes.{Seen, is_tuple}
 use Rattle.type_shapes.specs.Shapes.{parts_of}
 

@@ -8,7 +8,7 @@ use Rattle.go_type.specs.declared.term.Dir.TheVariants as dir
 use Rattle.go_type.specs.declared.term.TypeTerm.{TypeTerm}
 use Rattle.go_type.specs.declared.term.TypeTerm.TheVariants.{Chan, Pointer}
 use Rattle.type_shapes.specs.Shapes.{is_interface, is_characters}
-use Rattle.typed_trees.specs.Around.{Around, term, under, has_integers, has_texts}
+use Rattle.typed_trees.specs.Around.{Around, under, has_integers, has_texts}
 
 -- a channel of both directions, and one of the same elements
 abbrev pub loses_direction : Option TypeTerm → Option TypeTerm → Bool

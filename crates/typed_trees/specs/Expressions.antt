@@ -1,23 +1,21 @@
 -- Whether the types in an expression fit. A line for each form. Go specification, "Expressions".
-use Rattle.std.specs.Prelude.{Bool, true, false, ◌&&◌, List, [], ◌∷◌, Option, Some, None, map, option_map, nat_lt, suc}
-use Rattle.std.specs.Prelude.{length, slice_get, unwrap_or}
+use Rattle.std.specs.Prelude.{Bool, true, false, ◌&&◌, List, Option, map, option_map, nat_lt}
+use Rattle.std.specs.Prelude.{length, slice_get}
 use Rattle.std.specs.Global.{Box}
 use Rattle.std.specs.List.{list_all}
 use Rattle.std.specs.Option.{option_and_then, option_map_or}
 use Rattle.go_base.specs.declared.ids.TypeId.{TypeId}
-use Rattle.go_tree.specs.declared.exprs.Callee.{Callee}
 use Rattle.go_tree.specs.declared.exprs.Callee.TheFolds.{fold-TypedExpr, fold-Values}
 use Rattle.go_tree.specs.declared.exprs.Callee.TheOpen as layers
 use Rattle.go_tree.specs.declared.exprs.TypedExpr.{TypedExpr}
 use Rattle.go_tree.specs.declared.exprs.Values.{Values}
-use Rattle.go_tree.specs.declared.functions.FunctionDecl.{FunctionDecl}
 use Rattle.go_type.specs.declared.term.Signature.{Signature}
 use Rattle.type_shapes.specs.Shapes.{is_id, parts_of}
-use Rattle.typed_trees.specs.Around.{Around, term, under, signature_in, function_at, function_type, literal_type}
+use Rattle.typed_trees.specs.Around.{Around, term, under, signature_in, function_type, literal_type}
 use Rattle.typed_trees.specs.Around.{method_type_of, is_variable}
 use Rattle.typed_trees.specs.BuiltIns.{fits_built_in}
 use Rattle.typed_trees.specs.Conversions.{fits_conversion}
-use Rattle.typed_trees.specs.Nodes.{Form, place, composite, nothing, call, other, Seen, whole, leaf, around_one}
+use Rattle.typed_trees.specs.Nodes.{place, composite, nothing, call, other, Seen, whole, leaf, around_one}
 use Rattle.typed_trees.specs.Nodes.{is_place, place_if, index_form, entry_form, SeenField, SeenItem, SeenEntry}
 use Rattle.typed_trees.specs.Nodes.{fits_constant, fits_nil, fits_method, interface_method, fits_field, fits_index}
 use Rattle.typed_trees.specs.Nodes.{fits_map_index, fits_slice, fits_deref, fits_address, fits_unary, fits_binary}

@@ -1,5 +1,5 @@
 -- Which types the parts of an expression have. Go specification, "Expressions".
-use Rattle.std.specs.Prelude.{ℕ, suc, ◌==◌, Bool, true, false, not, ◌&&◌, ◌||◌, List, [], ◌∷◌, length, Option, Some, None}
+use Rattle.std.specs.Prelude.{ℕ, ◌==◌, Bool, true, false, not, ◌&&◌, ◌||◌, List, [], ◌∷◌, Option, Some, None}
 use Rattle.std.specs.Prelude.{if◌then◌else◌, is_none, map, nat_lt}
 use Rattle.std.specs.Bool.{beq}
 use Rattle.std.specs.List.{list_all, list_any}
@@ -23,14 +23,13 @@ use Rattle.go_type.specs.declared.operators.CompareOp.{CompareOp}
 use Rattle.go_type.specs.declared.operators.CompareOp.TheVariants as comparison
 use Rattle.go_type.specs.declared.operators.UnaryOp.{UnaryOp}
 use Rattle.go_type.specs.declared.operators.UnaryOp.TheVariants as unary
-use Rattle.go_type.specs.declared.term.Basic.{Basic}
 use Rattle.go_type.specs.declared.term.Basic.TheVariants as basic
 use Rattle.go_type.specs.declared.term.MethodType.{MethodType}
 use Rattle.go_type.specs.declared.term.Signature.{Signature}
 use Rattle.go_type.specs.declared.term.TypeTerm.{TypeTerm}
-use Rattle.go_type.specs.declared.term.TypeTerm.TheVariants.{Basic as Plain, Pointer, Slice, Array, Map, Chan, Struct}
+use Rattle.go_type.specs.declared.term.TypeTerm.TheVariants.{Basic as Plain, Slice, Array, Map, Struct}
 use Rattle.go_type.specs.declared.term.TypeTerm.TheVariants.{Interface}
-use Rattle.type_shapes.specs.Shapes.{is_interface, is_pointer_to, is_slice_of, is_text, has_nil, parts_of, is_with_ok}
+use Rattle.type_shapes.specs.Shapes.{is_interface, is_pointer_to, is_slice_of, has_nil, parts_of, is_with_ok}
 use Rattle.type_shapes.specs.Shapes.{base_of, array_elem, field_of, received_elem, is_id}
 use Rattle.typed_trees.specs.Around.{Around, term, under, has_integers, has_texts, has_truths, is_ordered}
 use Rattle.typed_trees.specs.Around.{signature_in, method_type_of}

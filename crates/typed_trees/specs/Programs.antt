@@ -1,6 +1,6 @@
 -- Programs whose nodes have parts of the types that they need, and whose names, fields and methods exist.
 use Rattle.std.specs.Prelude.{◌≡◌, ℕ, suc, ◌==◌, Bool, true, false, not, ◌&&◌, List, [], ◌∷◌, Option, Some, None, IsTrue}
-use Rattle.std.specs.Prelude.{if◌then◌else◌, slice_get}
+use Rattle.std.specs.Prelude.{if◌then◌else◌}
 use Rattle.std.specs.List.{list_all}
 use Rattle.std.specs.Option.{option_map_or}
 use Rattle.go_base.specs.declared.ids.FuncId.{FuncId}
@@ -12,11 +12,10 @@ use Rattle.go_tree.specs.declared.functions.FunctionForm.TheVariants as form
 use Rattle.go_tree.specs.declared.program.Body.{Body}
 use Rattle.go_tree.specs.declared.program.InitStep.{InitStep}
 use Rattle.go_tree.specs.declared.program.Program.{Program}
-use Rattle.go_tree.specs.declared.variables.Variable.{Variable}
 use Rattle.go_type.specs.Same.{same_id}
 use Rattle.go_type.specs.Table.{Table}
 use Rattle.go_type.specs.declared.term.Signature.{Signature}
-use Rattle.typed_trees.specs.Around.{Around, term, has_texts, signature_in, is_plain, is_own, variable_at, function_at}
+use Rattle.typed_trees.specs.Around.{Around, term, signature_in, is_plain, is_own, variable_at, function_at}
 use Rattle.typed_trees.specs.Expressions.{seen_values}
 use Rattle.typed_trees.specs.Statements.{Within, fits_block, values_are, variable_types}
 use Rattle.typed_trees.specs.Tests.{Tests, AreTold}

@@ -1,7 +1,7 @@
 -- Whether the types in a statement fit, and whether branches have statements that they leave. A line for each form. Go
 -- specification, "Statements".
-use Rattle.std.specs.Prelude.{ℕ, suc, ◌==◌, Bool, true, false, not, ◌&&◌, ◌||◌, List, [], ◌∷◌, map, Option, Some, None}
-use Rattle.std.specs.Prelude.{nat_lt, is_none, length}
+use Rattle.std.specs.Prelude.{ℕ, suc, Bool, true, false, not, ◌&&◌, ◌||◌, List, [], ◌∷◌, map, Option, Some, None}
+use Rattle.std.specs.Prelude.{nat_lt, is_none}
 use Rattle.std.specs.Global.{Box}
 use Rattle.std.specs.List.{list_all, list_any}
 use Rattle.std.specs.Option.{option_map_or}
@@ -19,12 +19,11 @@ use Rattle.go_tree.specs.declared.stmts.TypedStmt.TheFolds.{fold-TypedBlock}
 use Rattle.go_tree.specs.declared.stmts.TypedStmt.TheOpen as layers
 use Rattle.go_type.specs.Same.{same_id, same_ids}
 use Rattle.go_type.specs.declared.operators.BinaryOp.{BinaryOp}
-use Rattle.go_type.specs.declared.term.TypeTerm.{TypeTerm}
 use Rattle.type_shapes.specs.Shapes.{is_interface, sent_elem, is_id}
 use Rattle.typed_trees.specs.Around.{Around, under, has_truths, is_own_variable}
 use Rattle.typed_trees.specs.Around.{variable_at}
 use Rattle.typed_trees.specs.Expressions.{seen, seen_values, SeenValues}
-use Rattle.typed_trees.specs.Nodes.{Seen, fits_binary, can_be_set, is_call}
+use Rattle.typed_trees.specs.Nodes.{fits_binary, can_be_set, is_call}
 use Rattle.typed_trees.specs.Targets.{take_values, define_all, receives, ranges}
 
 -- what stands around a statement of a function: the types of the results, how many statements a `break` may leave and how

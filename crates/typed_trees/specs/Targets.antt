@@ -23,7 +23,7 @@ use Rattle.go_type.specs.declared.term.Basic.TheVariants as basic
 use Rattle.go_type.specs.declared.term.TypeTerm.{TypeTerm}
 use Rattle.go_type.specs.declared.term.TypeTerm.TheVariants.{Array, Slice, Map, Pointer}
 use Rattle.type_shapes.specs.Shapes.{received_elem}
-use Rattle.typed_trees.specs.Around.{Around, term, under, has_texts, is_variable, is_own_variable}
+use Rattle.typed_trees.specs.Around.{Around, under, has_texts, is_variable, is_own_variable}
 use Rattle.typed_trees.specs.Expressions.{seen}
 use Rattle.typed_trees.specs.Nodes.{Seen, can_be_set}
 
