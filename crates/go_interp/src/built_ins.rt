@@ -84,10 +84,17 @@ impl<'a> Machine<'a> {
     }
 
     fn close(&mut self) -> Turn {
-        let Some(Value::Chan(chan)) = self.waiting.pop() else {
+        match self.waiting.pop() {
+            Some(value) => self.close_value(&value),
+            None => Turn::WantsMemory,
+        }
+    }
+
+    fn close_value(&mut self, value: &Value) -> Turn {
+        let Value::Chan(chan) = value else {
             return Turn::WantsMemory;
         };
-        match self.sched.close(chan) {
+        match self.sched.close(*chan) {
             Ok(wakes) => self.completed(wakes),
             Err(error) => self.meet(Met::from(error)),
         }
@@ -123,16 +130,16 @@ impl<'a> Machine<'a> {
 
     /// Takes the last value that is on its way, a slice.
     fn taken_slice(&mut self) -> Result<Rc<SliceValue>, NoMemory> {
-        match self.waiting.pop() {
-            Some(Value::Slice(slice)) => Ok(slice),
+        match &self.waiting.pop() {
+            Some(Value::Slice(slice)) => Ok(slice.clone()?),
             _ => Err(lost()),
         }
     }
 
     /// Takes the last value that is on its way, a text.
     fn taken_text(&mut self) -> Result<Rc<Bytes>, NoMemory> {
-        match self.waiting.pop() {
-            Some(Value::Text(text)) => Ok(text),
+        match &self.waiting.pop() {
+            Some(Value::Text(text)) => Ok(text.clone()?),
             _ => Err(lost()),
         }
     }
@@ -208,9 +215,7 @@ impl<'a> Machine<'a> {
     }
 
     fn clear_slice(&mut self, zero: &Value) -> Result<Option<Value>, Met> {
-        let Some(Value::Slice(slice)) = self.waiting.pop() else {
-            return Err(Met::Memory);
-        };
+        let slice = self.taken_slice()?;
         for index in 0..slice.len {
             let address = go_store::element(self.alloc, &slice, i128::from(index))?;
             let value = zero.copy(self.alloc)?;
@@ -223,11 +228,13 @@ impl<'a> Machine<'a> {
         let Some(key) = self.waiting.pop() else {
             return Err(Met::Memory);
         };
-        let Some(Value::Map(map)) = self.waiting.pop() else {
-            return Err(Met::Memory);
-        };
-        self.store.map_remove(&self.code.types, map, &key)?;
-        Ok(None)
+        match &self.waiting.pop() {
+            Some(Value::Map(map)) => {
+                self.store.map_remove(&self.code.types, *map, &key)?;
+                Ok(None)
+            }
+            _ => Err(Met::Memory),
+        }
     }
 
     fn print(&mut self, line: bool) -> Result<Option<Value>, NoMemory> {

@@ -93,7 +93,7 @@ impl<'a> Machine<'a> {
         args: &'a [Arg],
     ) -> Result<(Ready<'a>, u64), Met> {
         let value = self.read(receiver)?;
-        let Value::Interface(dynamic) = value else {
+        let Value::Interface(dynamic) = &value else {
             return Err(Met::Fault(Fault::NilPointer));
         };
         let function = self.method(dynamic.of, method)?;

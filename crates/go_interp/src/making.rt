@@ -212,13 +212,14 @@ impl<'a> Machine<'a> {
     }
 
     fn text_to_slice(&mut self, form: ConvertForm, operand: &Arg) -> Result<Value, Met> {
-        let Value::Text(text) = self.read(operand)? else {
+        let value = self.read(operand)?;
+        let Value::Text(text) = &value else {
             return Err(Met::Memory);
         };
         let slice = if form == ConvertForm::TextToBytes {
-            bytes_of_text(self.alloc, &mut self.store, &text)?
+            bytes_of_text(self.alloc, &mut self.store, text)?
         } else {
-            runes_of_text(self.alloc, &mut self.store, &text)?
+            runes_of_text(self.alloc, &mut self.store, text)?
         };
         Ok(Value::slice(self.alloc, slice)?)
     }
@@ -268,7 +269,7 @@ impl<'a> Machine<'a> {
         receiver: &Arg,
     ) -> Result<Value, Met> {
         let receiver = self.read(receiver)?;
-        if is_interface && matches!(receiver, Value::NilInterface) {
+        if is_interface && matches!(&receiver, Value::NilInterface) {
             return Err(Met::Fault(Fault::NilPointer));
         }
         Ok(go_value::bind(self.alloc, target, receiver)?)

@@ -55,9 +55,9 @@ impl<'a> Machine<'a> {
     }
 
     pub fn panic_with(&mut self, value: Value) -> Turn {
-        match value {
+        match &value {
             Value::NilInterface => self.meet(Met::Fault(Fault::PanicNil)),
-            value => self.throw(Thrown::Value(value)),
+            _ => self.throw(Thrown::Value(value)),
         }
     }
 
@@ -87,15 +87,22 @@ impl<'a> Machine<'a> {
     fn panic_line(&self, thrown: Thrown) -> Result<Text, NoMemory> {
         match thrown {
             Thrown::Fault(text) => Ok(text),
-            Thrown::Value(Value::Interface(dynamic)) => {
+            Thrown::Value(value) => self.value_line(&value),
+        }
+    }
+
+    /// The text of a panic with a value.
+    fn value_line(&self, value: &Value) -> Result<Text, NoMemory> {
+        match value {
+            Value::Interface(dynamic) => {
                 let names = &self.code.names;
                 let labels = &self.code.packages;
                 let types = &self.code.types;
                 let known = self.plan.error_string;
-                let text = panic_text(self.alloc, names, labels, types, known, &dynamic)?;
+                let text = panic_text(self.alloc, names, labels, types, known, dynamic)?;
                 self.shown(b"", text.as_slice())
             }
-            Thrown::Value(_) => Err(lost()),
+            _ => Err(lost()),
         }
     }
 

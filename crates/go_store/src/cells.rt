@@ -32,9 +32,9 @@ pub(crate) struct Place {
 pub(crate) fn cell_of(alloc: Global, value: Value) -> Result<Cell, NoMemory>
     ensures { IfOk result (λ cell. held cell ≡ value_of value) }
 {
-    match value {
+    match &value {
         Value::Parts(parts) => cell_of_parts(alloc, parts.as_slice()),
-        other => Ok(Cell::One(Leaf { value: other })),
+        _ => Ok(Cell::One(Leaf { value })),
     }
 }
 

@@ -64,14 +64,14 @@ pub fn assert_to(
 ) -> Result<Option<Value>, NoMemory>
     ensures { IfOk result (λ made. IfSome made (λ it. value_of it ≡ asserted types.now (value_of value) to)) }
 {
-    match value {
+    match &value {
         Value::NilInterface => Ok(None),
         Value::Interface(dynamic) => {
             if is_interface(types, to) {
                 if !implements(types, dynamic.of, to) {
                     return Ok(None);
                 }
-                return Ok(Some(Value::Interface(dynamic)));
+                return Ok(Some(value));
             }
             if dynamic.of != to {
                 return Ok(None);

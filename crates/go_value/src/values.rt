@@ -13,7 +13,6 @@ use std::rc::Rc;
 
 /// A value. What owns memory is shared, so that a copy takes none.
 #[cycle(value)]
-#[derive(Drop)]
 pub enum Value {
     Truth(bool),
     Int(i128),
@@ -31,26 +30,63 @@ pub enum Value {
     Iter(Box<RangeState>),
 }
 
+impl Drop for Value {
+    #[cycle(drops)]
+    fn drop(self) {
+        match self {
+            Value::Truth(_held) => {}
+            Value::Int(_held) => {}
+            Value::Text(_held) => {}
+            Value::Pointer(_held) => {}
+            Value::Slice(_held) => {}
+            Value::Map(_held) => {}
+            Value::Chan(_held) => {}
+            Value::Func(_held) => {}
+            Value::NilInterface => {}
+            Value::Interface(_held) => {}
+            Value::Parts(_held) => {}
+            Value::Iter(_held) => {}
+        }
+    }
+}
+
 /// An element or a field.
 #[cycle(value)]
-#[derive(Drop)]
 pub struct Part {
     pub value: Value,
     /// Whether it is a field named `_`.
     pub blank: bool,
 }
 
+impl Drop for Part {
+    #[cycle(drops)]
+    fn drop(self) {
+        let Part {
+            value: _value,
+            blank: _blank,
+        } = self;
+    }
+}
+
 /// What an interface holds. The type is no interface.
 #[cycle(value)]
-#[derive(Drop)]
 pub struct Dynamic {
     pub of: TypeId,
     pub value: Value,
 }
 
+impl Drop for Dynamic {
+    #[cycle(drops)]
+    fn drop(self) {
+        let Dynamic {
+            of: _of,
+            value: _value,
+        } = self;
+    }
+}
+
 /// A function value.
 #[cycle(value)]
-#[derive(Drop)]
 pub enum FuncValue {
     Nil,
     Closure {
@@ -66,6 +102,28 @@ pub enum FuncValue {
         name: NameId,
         package: u32,
     },
+}
+
+impl Drop for FuncValue {
+    #[cycle(drops)]
+    fn drop(self) {
+        match self {
+            FuncValue::Nil => {}
+            FuncValue::Closure {
+                function: _function,
+                captured: _captured,
+            } => {}
+            FuncValue::Bound {
+                target: _target,
+                receiver: _receiver,
+            } => {}
+            FuncValue::Expression {
+                receiver: _receiver,
+                name: _name,
+                package: _package,
+            } => {}
+        }
+    }
 }
 
 /// What a method value calls.
