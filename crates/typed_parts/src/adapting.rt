@@ -1,5 +1,9 @@
 //! Values made ones of the types that they are assigned to. Go specification, "Assignability" and "Variables".
 
+ghost use Rattle.std.specs.Prelude.{◌≡◌, ◌↔◌, IsTrue};
+ghost use Rattle.go_type.specs.Assignable.{Assignable};
+ghost use Rattle.typed_parts.specs.Shapes.{is_interface, is_nil};
+
 use crate::ground::Ground;
 use crate::joining::{asked, sound};
 use crate::meaning::Given;
@@ -24,7 +28,9 @@ pub fn by_default(ground: &mut Ground, x: Option<Given>) -> Result<Option<TypedE
 }
 
 /// Whether a type is that of `nil` without a type.
-pub fn is_nil(types: &Types, of: TypeId) -> bool {
+pub fn is_nil(types: &Types, of: TypeId) -> bool
+    ensures { result ≡ is_nil types.now of }
+{
     matches!(untyped_kind(types, of), Some(Untyped::Nil))
 }
 
@@ -99,7 +105,9 @@ pub fn passed(
 }
 
 /// Whether a typed value of a type may be assigned to another.
-pub fn may_pass(types: &Types, from: TypeId, to: TypeId) -> bool {
+pub fn may_pass(types: &Types, from: TypeId, to: TypeId) -> bool
+    ensures { IsTrue result ↔ Assignable types.now from to }
+{
     assignable(types, from, to)
 }
 
@@ -119,7 +127,9 @@ pub fn made(ground: &Ground, expr: TypedExpr, to: TypeId) -> Result<TypedExpr, N
 }
 
 /// Whether a type's underlying type is an interface.
-pub fn is_interface(types: &Types, of: TypeId) -> bool {
+pub fn is_interface(types: &Types, of: TypeId) -> bool
+    ensures { result ≡ is_interface types.now of }
+{
     matches!(types.underlying_term(of), Some(TypeTerm::Interface(_)))
 }
 

@@ -1,5 +1,10 @@
 //! What rules ask and change: the types, and the least of the faults.
 
+ghost use Rattle.std.specs.Prelude.{◌≡◌, ◌∷◌, [], IfOk, OnOk, OnErr, None};
+ghost use Rattle.go_type.specs.Table.{term_at, with_term};
+ghost use Rattle.go_type.specs.declared.term.TypeTerm.TheVariants.{Tuple, Interface};
+ghost use Rattle.typed_parts.specs.Judged.{reported};
+
 use go_base::{NoMemory, Pos, Rule, TypeId};
 use go_faults::{Fault, Least};
 use go_type::{MethodTypes, TypeIds, TypeTerm, Types};
@@ -28,7 +33,12 @@ pub fn lost() -> NoMemory {
 
 impl Ground {
     /// Nothing is reported yet.
-    pub fn new(alloc: Global, types: Types, phase: u8, package: u32) -> Ground {
+    pub fn new(alloc: Global, types: Types, phase: u8, package: u32) -> Ground
+        ensures types { result.types ≡ types }
+        ensures least { result.least.fault ≡ None }
+        ensures phase { result.phase ≡ phase }
+        ensures at { result.«package» ≡ «package» }
+    {
         Ground {
             alloc,
             types,
@@ -40,7 +50,9 @@ impl Ground {
     }
 
     /// The types and the least fault.
-    pub fn into_parts(self) -> (Types, Least) {
+    pub fn into_parts(self) -> (Types, Least)
+        ensures { result ≡ (self.types, self.least) }
+    {
         let Ground {
             alloc: _,
             types,
@@ -53,7 +65,9 @@ impl Ground {
     }
 
     /// Takes into account that a rule is broken at a place.
-    pub fn report(&mut self, at: Pos, rule: Rule) {
+    pub fn report(&mut self, at: Pos, rule: Rule)
+        ensures { self.new ≡ reported self.old (record { at = at; rule = rule } ∷ []) }
+    {
         self.least.report(Fault {
             phase: self.phase,
             package: self.package,
@@ -63,7 +77,11 @@ impl Ground {
     }
 
     /// The id of a type whose parts are held.
-    pub fn hold(&mut self, term: TypeTerm) -> Result<TypeId, NoMemory> {
+    pub fn hold(&mut self, term: TypeTerm) -> Result<TypeId, NoMemory>
+        ensures named { IfOk result (λ id. term_at self.new.types id ≡ Some term) }
+        ensures held { OnOk result (self.new ≡ record self.old { types = with_term term self.old.types }) }
+        ensures err { OnErr result (self.new ≡ self.old) }
+    {
         if !self.types.can_hold(&term) {
             return Err(lost());
         }
@@ -72,7 +90,11 @@ impl Ground {
     }
 
     /// The type of several values.
-    pub fn tuple(&mut self, parts: &[TypeId]) -> Result<TypeId, NoMemory> {
+    pub fn tuple(&mut self, parts: &[TypeId]) -> Result<TypeId, NoMemory>
+        ensures named { IfOk result (λ id. term_at self.new.types id ≡ Some (Tuple parts.now)) }
+        ensures held { OnOk result (self.new ≡ record self.old { types = with_term (Tuple parts.now) self.old.types }) }
+        ensures err { OnErr result (self.new ≡ self.old) }
+    {
         let mut ids = TypeIds::new(self.alloc);
         for part in parts {
             ids.push(*part)?;
@@ -81,7 +103,11 @@ impl Ground {
     }
 
     /// The type `interface{}`.
-    pub fn any_type(&mut self) -> Result<TypeId, NoMemory> {
+    pub fn any_type(&mut self) -> Result<TypeId, NoMemory>
+        ensures named { IfOk result (λ id. term_at self.new.types id ≡ Some (Interface [])) }
+        ensures held { OnOk result (self.new ≡ record self.old { types = with_term (Interface []) self.old.types }) }
+        ensures err { OnErr result (self.new ≡ self.old) }
+    {
         self.hold(TypeTerm::Interface(MethodTypes::new(self.alloc)))
     }
 

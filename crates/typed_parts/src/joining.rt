@@ -1,11 +1,17 @@
 //! Parts that came and are sound, put together.
 
+ghost use Rattle.std.specs.Prelude.{◌≡◌, OnOk};
+ghost use Rattle.typed_parts.specs.Joining.{asked, beside, both, only, sound, with_last};
+ghost use Rattle.typed_parts.specs.Judged.{reported};
+
 use crate::ground::Ground;
 use crate::meaning::Given;
 use go_base::{NoMemory, Rule};
 
 /// A first part that came, and a second beside it.
-pub fn beside<A: Drop, B: Drop>(first: Result<A, NoMemory>, second: B) -> Result<(A, B), NoMemory> {
+pub fn beside<A: Drop, B: Drop>(first: Result<A, NoMemory>, second: B) -> Result<(A, B), NoMemory>
+    ensures { result ≡ beside first second }
+{
     match first {
         Ok(first) => Ok((first, second)),
         Err(NoMemory) => Err(NoMemory),
@@ -16,14 +22,18 @@ pub fn beside<A: Drop, B: Drop>(first: Result<A, NoMemory>, second: B) -> Result
 pub fn both<A: Drop, B: Drop>(
     first: Result<Option<A>, NoMemory>,
     second: Result<Option<B>, NoMemory>,
-) -> Result<Option<(A, B)>, NoMemory> {
+) -> Result<Option<(A, B)>, NoMemory>
+    ensures { result ≡ both first second }
+{
     let (first, second) = beside(first, second)?;
     let (second, first) = beside(second, first)?;
     Ok(first.zip(second))
 }
 
 /// A part that came and is sound.
-pub fn sound<T: Drop>(part: Result<T, NoMemory>) -> Result<Option<T>, NoMemory> {
+pub fn sound<T: Drop>(part: Result<T, NoMemory>) -> Result<Option<T>, NoMemory>
+    ensures { result ≡ sound part }
+{
     match part {
         Ok(part) => Ok(Some(part)),
         Err(NoMemory) => Err(NoMemory),
@@ -31,7 +41,9 @@ pub fn sound<T: Drop>(part: Result<T, NoMemory>) -> Result<Option<T>, NoMemory> 
 }
 
 /// A part, where what was asked of it holds.
-pub fn only<T: Drop>(part: Option<T>, holds: bool) -> Option<T> {
+pub fn only<T: Drop>(part: Option<T>, holds: bool) -> Option<T>
+    ensures { result ≡ only part holds }
+{
     if holds { part } else { None }
 }
 
@@ -48,7 +60,10 @@ pub fn with_last<T: Drop>(
 }
 
 /// A value of which something was asked. The rule is reported at it where it does not hold.
-pub fn asked(ground: &mut Ground, x: Given, holds: bool, rule: Rule) -> Option<Given> {
+pub fn asked(ground: &mut Ground, x: Given, holds: bool, rule: Rule) -> Option<Given>
+    ensures answer { result ≡ (asked x holds rule).sound }
+    ensures broken { ground.new ≡ reported ground.old (asked x holds rule).broken }
+{
     if !holds {
         ground.report(x.at, rule);
     }

@@ -14,6 +14,7 @@ mod adapting;
 mod ground;
 mod holding;
 mod joining;
+mod laws;
 mod meaning;
 mod nodes;
 mod numbers;
@@ -27,6 +28,7 @@ pub use adapting::{
 pub use ground::{Ground, lost};
 pub use holding::holds_call;
 pub use joining::{asked, beside, both, only, sound, with_last};
+pub use laws::reported_in_two_goes;
 pub use meaning::{
     Given, Meaning, Seen, is_place, is_tuple, one_value, parenthesized, seen_type, single, type_of,
     value_of,

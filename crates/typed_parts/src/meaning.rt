@@ -1,6 +1,10 @@
 //! What parts of an expression mean, and what is asked of every part. Go specification, "Operands", "Calls" and "Address
 //! operators".
 
+ghost use Rattle.std.specs.Prelude.{◌≡◌, is_some};
+ghost use Rattle.typed_parts.specs.Judged.{reported};
+ghost use Rattle.typed_parts.specs.Meanings.{is_constant, is_tuple, one_value, parenthesized, placed, single, type_in, type_meaning, type_of, value_meaning, value_of};
+
 use crate::ground::Ground;
 use crate::joining::asked;
 use go_base::{Pos, Rule, TypeId};
@@ -35,7 +39,9 @@ pub struct Given {
 
 impl Seen {
     /// A value, where it is sound.
-    pub fn value(at: Pos, expr: Option<TypedExpr>) -> Seen {
+    pub fn value(at: Pos, expr: Option<TypedExpr>) -> Seen
+        ensures { result ≡ record { at = at; meaning = value_meaning expr } }
+    {
         match expr {
             Some(expr) => Seen {
                 at,
@@ -46,7 +52,9 @@ impl Seen {
     }
 
     /// A type, where it is sound.
-    pub fn of_type(at: Pos, of: Option<TypeId>) -> Seen {
+    pub fn of_type(at: Pos, of: Option<TypeId>) -> Seen
+        ensures { result ≡ record { at = at; meaning = type_meaning of } }
+    {
         match of {
             Some(of) => Seen {
                 at,
@@ -57,7 +65,9 @@ impl Seen {
     }
 
     /// Whether it is a constant.
-    pub fn is_constant(&self) -> bool {
+    pub fn is_constant(&self) -> bool
+        ensures { result ≡ is_constant self.now.meaning }
+    {
         match &self.meaning {
             Some(Meaning::Value(expr)) => matches!(&expr.kind, ExprKind::ConstOf(_)),
             _ => false,
@@ -66,7 +76,10 @@ impl Seen {
 }
 
 /// The value or values that a part stands for. `WrongKindOfName` at a type, and `BadBuiltInCall` at a built-in function.
-pub fn value_of(ground: &mut Ground, part: Seen) -> Option<Given> {
+pub fn value_of(ground: &mut Ground, part: Seen) -> Option<Given>
+    ensures answer { result ≡ (value_of part).sound }
+    ensures broken { ground.new ≡ reported ground.old (value_of part).broken }
+{
     let Seen { at, meaning } = part;
     match meaning? {
         Meaning::Value(expr) => Some(Given { at, expr }),
@@ -82,24 +95,35 @@ pub fn value_of(ground: &mut Ground, part: Seen) -> Option<Given> {
 }
 
 /// The one value that a part stands for: as `value_of`, and `WrongNumberOfValues` at a call of none or several.
-pub fn one_value(ground: &mut Ground, part: Seen) -> Option<Given> {
+pub fn one_value(ground: &mut Ground, part: Seen) -> Option<Given>
+    ensures answer { result ≡ (one_value ground.old.types part).sound }
+    ensures broken { ground.new ≡ reported ground.old (one_value ground.old.types part).broken }
+{
     let given = value_of(ground, part)?;
     single(ground, given)
 }
 
 /// A value that is one.
-pub fn single(ground: &mut Ground, given: Given) -> Option<Given> {
+pub fn single(ground: &mut Ground, given: Given) -> Option<Given>
+    ensures answer { result ≡ (single ground.old.types given).sound }
+    ensures broken { ground.new ≡ reported ground.old (single ground.old.types given).broken }
+{
     let is_one = !is_tuple(&ground.types, given.expr.of);
     asked(ground, given, is_one, Rule::WrongNumberOfValues)
 }
 
 /// Whether a type is that of several values, or of none.
-pub fn is_tuple(types: &Types, of: TypeId) -> bool {
+pub fn is_tuple(types: &Types, of: TypeId) -> bool
+    ensures { result ≡ is_tuple types.now of }
+{
     matches!(types.get(of), Some(TypeTerm::Tuple(_)))
 }
 
 /// The type that a part stands for. `WrongKindOfName` at a value and at a built-in function.
-pub fn type_of(ground: &mut Ground, part: Seen) -> Option<TypeId> {
+pub fn type_of(ground: &mut Ground, part: Seen) -> Option<TypeId>
+    ensures answer { result ≡ (type_of part).sound }
+    ensures broken { ground.new ≡ reported ground.old (type_of part).broken }
+{
     let of = seen_type(&part);
     if of.is_none() && part.meaning.is_some() {
         ground.report(part.at, Rule::WrongKindOfName);
@@ -109,7 +133,9 @@ pub fn type_of(ground: &mut Ground, part: Seen) -> Option<TypeId> {
 }
 
 /// The type that a part stands for, where it is one.
-pub fn seen_type(part: &Seen) -> Option<TypeId> {
+pub fn seen_type(part: &Seen) -> Option<TypeId>
+    ensures { result ≡ type_in part.now.meaning }
+{
     match &part.meaning {
         Some(Meaning::Type(of)) => Some(*of),
         _ => None,
@@ -117,7 +143,9 @@ pub fn seen_type(part: &Seen) -> Option<TypeId> {
 }
 
 /// What stands in parentheses, whose first is at the place. Go specification, "Operands".
-pub fn parenthesized(types: &Types, at: Pos, inside: Seen) -> Seen {
+pub fn parenthesized(types: &Types, at: Pos, inside: Seen) -> Seen
+    ensures { result ≡ parenthesized types.now at inside }
+{
     let meaning = match inside.meaning {
         Some(Meaning::Value(expr)) => Some(Meaning::Value(placed(types, at, expr))),
         other => other,
@@ -126,7 +154,9 @@ pub fn parenthesized(types: &Types, at: Pos, inside: Seen) -> Seen {
 }
 
 /// An untyped operand has its place as written.
-fn placed(types: &Types, at: Pos, expr: TypedExpr) -> TypedExpr {
+fn placed(types: &Types, at: Pos, expr: TypedExpr) -> TypedExpr
+    ensures { result ≡ placed types.now at expr }
+{
     if untyped_kind(types, expr.of).is_none() {
         return expr;
     }

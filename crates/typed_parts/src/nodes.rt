@@ -1,6 +1,15 @@
 //! The nodes of names and literals. Go specification, "Operands", "Constants", "Integer literals", "Rune literals", "String
 //! literals" and "Function literals".
 
+ghost use Rattle.std.specs.Prelude.{◌≡◌, IfOk};
+ghost use Rattle.go_rules.specs.declared.untyped.Untyped.TheVariants as kind_of;
+ghost use Rattle.go_tree.specs.declared.exprs.ExprKind.{ExprKind as TheKind};
+ghost use Rattle.go_tree.specs.declared.exprs.ExprKind.TheVariants as kinds;
+ghost use Rattle.go_type.specs.declared.constants.Const.TheVariants as constants;
+ghost use Rattle.typed_parts.specs.Joining.{both};
+ghost use Rattle.typed_parts.specs.Judged.{reported};
+ghost use Rattle.typed_parts.specs.Nodes.{AreBoxed, IsBoxed, integer_literal, iota, node, untyped};
+
 use crate::ground::Ground;
 use crate::joining::{beside, both, sound};
 use go_base::{Bytes, FuncId, NoMemory, Pos, Rule, TypeId, VarId};
@@ -10,7 +19,9 @@ use go_type::Const;
 use std::alloc::Global;
 
 /// A name of a constant: its value, and its type or untyped kind.
-pub fn constant(alloc: Global, at: Pos, of: TypeId, value: &Const) -> Result<TypedExpr, NoMemory> {
+pub fn constant(alloc: Global, at: Pos, of: TypeId, value: &Const) -> Result<TypedExpr, NoMemory>
+    ensures { IfOk result (λ expr. expr ≡ node at of (kinds.ConstOf value.now)) }
+{
     Ok(TypedExpr {
         at,
         of,
@@ -19,7 +30,9 @@ pub fn constant(alloc: Global, at: Pos, of: TypeId, value: &Const) -> Result<Typ
 }
 
 /// `iota` in the specification of constants of a number, from 0.
-pub fn iota(at: Pos, number: i128) -> TypedExpr {
+pub fn iota(at: Pos, number: i128) -> TypedExpr
+    ensures { result ≡ iota at number }
+{
     TypedExpr {
         at,
         of: Untyped::Int.type_id(),
@@ -28,7 +41,9 @@ pub fn iota(at: Pos, number: i128) -> TypedExpr {
 }
 
 /// `nil`.
-pub fn nil(at: Pos) -> TypedExpr {
+pub fn nil(at: Pos) -> TypedExpr
+    ensures { result ≡ node at (untyped kind_of.Nil) TheKind.NilOf }
+{
     TypedExpr {
         at,
         of: Untyped::Nil.type_id(),
@@ -37,7 +52,9 @@ pub fn nil(at: Pos) -> TypedExpr {
 }
 
 /// A name of a variable.
-pub fn variable(at: Pos, variable: VarId, of: TypeId) -> TypedExpr {
+pub fn variable(at: Pos, variable: VarId, of: TypeId) -> TypedExpr
+    ensures { result ≡ node at of (kinds.VarOf variable) }
+{
     TypedExpr {
         at,
         of,
@@ -46,7 +63,9 @@ pub fn variable(at: Pos, variable: VarId, of: TypeId) -> TypedExpr {
 }
 
 /// A name of a function, whose type is its signature.
-pub fn function(at: Pos, function: FuncId, signature: TypeId) -> TypedExpr {
+pub fn function(at: Pos, function: FuncId, signature: TypeId) -> TypedExpr
+    ensures { result ≡ node at signature (kinds.FunctionOf function) }
+{
     TypedExpr {
         at,
         of: signature,
@@ -55,7 +74,9 @@ pub fn function(at: Pos, function: FuncId, signature: TypeId) -> TypedExpr {
 }
 
 /// A function literal, at the word `func`.
-pub fn function_literal(at: Pos, function: FuncId, signature: TypeId) -> TypedExpr {
+pub fn function_literal(at: Pos, function: FuncId, signature: TypeId) -> TypedExpr
+    ensures { result ≡ node at signature (kinds.LiteralOf function) }
+{
     TypedExpr {
         at,
         of: signature,
@@ -64,7 +85,10 @@ pub fn function_literal(at: Pos, function: FuncId, signature: TypeId) -> TypedEx
 }
 
 /// An integer literal. `ConstantOutOfRange` at it where it has no value of 128 bits.
-pub fn integer_literal(ground: &mut Ground, at: Pos, value: Option<i128>) -> Option<TypedExpr> {
+pub fn integer_literal(ground: &mut Ground, at: Pos, value: Option<i128>) -> Option<TypedExpr>
+    ensures answer { result ≡ (integer_literal at value).sound }
+    ensures broken { ground.new ≡ reported ground.old (integer_literal at value).broken }
+{
     let Some(value) = value else {
         ground.report(at, Rule::ConstantOutOfRange);
         return None;
@@ -73,7 +97,9 @@ pub fn integer_literal(ground: &mut Ground, at: Pos, value: Option<i128>) -> Opt
 }
 
 /// A rune literal.
-pub fn rune_literal(at: Pos, value: i128) -> TypedExpr {
+pub fn rune_literal(at: Pos, value: i128) -> TypedExpr
+    ensures { result ≡ node at (untyped kind_of.Rune) (kinds.ConstOf (constants.Rune value)) }
+{
     TypedExpr {
         at,
         of: Untyped::Rune.type_id(),
@@ -82,7 +108,9 @@ pub fn rune_literal(at: Pos, value: i128) -> TypedExpr {
 }
 
 /// A string literal.
-pub fn text_literal(at: Pos, value: Bytes) -> TypedExpr {
+pub fn text_literal(at: Pos, value: Bytes) -> TypedExpr
+    ensures { result ≡ node at (untyped kind_of.Text) (kinds.ConstOf (constants.Text value)) }
+{
     TypedExpr {
         at,
         of: Untyped::Text.type_id(),
@@ -91,12 +119,16 @@ pub fn text_literal(at: Pos, value: Bytes) -> TypedExpr {
 }
 
 /// A node.
-pub fn node(at: Pos, of: TypeId, kind: ExprKind) -> TypedExpr {
+pub fn node(at: Pos, of: TypeId, kind: ExprKind) -> TypedExpr
+    ensures { result ≡ node at of kind }
+{
     TypedExpr { at, of, kind }
 }
 
 /// A node that stands in another.
-pub fn boxed(ground: &Ground, expr: TypedExpr) -> Result<Box<TypedExpr>, NoMemory> {
+pub fn boxed(ground: &Ground, expr: TypedExpr) -> Result<Box<TypedExpr>, NoMemory>
+    ensures { IfOk result (λ boxed. boxed.value ≡ expr) }
+{
     Ok(Box::new(ground.alloc, expr)?)
 }
 
@@ -105,7 +137,10 @@ pub fn boxes(
     ground: &Ground,
     left: TypedExpr,
     right: TypedExpr,
-) -> Result<(Box<TypedExpr>, Box<TypedExpr>), NoMemory> {
+) -> Result<(Box<TypedExpr>, Box<TypedExpr>), NoMemory>
+    ensures first { IfOk result (λ boxes. boxes.0.value ≡ left) }
+    ensures second { IfOk result (λ boxes. boxes.1.value ≡ right) }
+{
     let (left, right) = beside(boxed(ground, left), right)?;
     let (right, left) = beside(boxed(ground, right), left)?;
     Ok((left, right))
@@ -115,7 +150,9 @@ pub fn boxes(
 pub fn boxed_sound(
     ground: &Ground,
     expr: Result<Option<TypedExpr>, NoMemory>,
-) -> Result<Option<Box<TypedExpr>>, NoMemory> {
+) -> Result<Option<Box<TypedExpr>>, NoMemory>
+    ensures { IsBoxed expr result }
+{
     match expr? {
         Some(expr) => sound(boxed(ground, expr)),
         None => Ok(None),
@@ -127,7 +164,9 @@ pub fn boxed_both(
     ground: &Ground,
     left: Result<Option<TypedExpr>, NoMemory>,
     right: Result<Option<TypedExpr>, NoMemory>,
-) -> Result<Option<(Box<TypedExpr>, Box<TypedExpr>)>, NoMemory> {
+) -> Result<Option<(Box<TypedExpr>, Box<TypedExpr>)>, NoMemory>
+    ensures { AreBoxed (both left right) result }
+{
     match both(left, right)? {
         Some((left, right)) => sound(boxes(ground, left, right)),
         None => Ok(None),

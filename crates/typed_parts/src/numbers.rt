@@ -1,6 +1,9 @@
 //! Constants that are known by an expression, and whole numbers. Go specification, "Constants", "Index expressions" and
 //! "Slice expressions".
 
+ghost use Rattle.std.specs.Prelude.{◌≡◌, is_some};
+ghost use Rattle.typed_parts.specs.Numbers.{constant_in, integer_of, text_length, whole_breach};
+
 use crate::ground::Ground;
 use crate::joining::only;
 use crate::meaning::Given;
@@ -12,7 +15,10 @@ use go_tree::{ExprKind, TypedExpr};
 use go_type::{Basic, Const, Types, basic, represent};
 
 /// The number of a constant integer.
-pub fn integer_of(expr: &TypedExpr) -> Option<i128> {
+#[tactic(auto, unfolding(crate::specs::Numbers::integer_of))]
+pub fn integer_of(expr: &TypedExpr) -> Option<i128>
+    ensures { result ≡ integer_of expr.now }
+{
     match &expr.kind {
         ExprKind::ConstOf(Const::Int(number) | Const::Rune(number)) => Some(*number),
         _ => None,
@@ -20,12 +26,17 @@ pub fn integer_of(expr: &TypedExpr) -> Option<i128> {
 }
 
 /// Whether an expression is a constant.
-pub fn is_constant(expr: &TypedExpr) -> bool {
+pub fn is_constant(expr: &TypedExpr) -> bool
+    ensures { result ≡ is_some (constant_in expr.now.kind) }
+{
     matches!(&expr.kind, ExprKind::ConstOf(_))
 }
 
 /// How many bytes a constant string has.
-pub fn text_length(expr: &TypedExpr) -> Option<i128> {
+#[tactic(auto, unfolding(crate::specs::Numbers::text_length))]
+pub fn text_length(expr: &TypedExpr) -> Option<i128>
+    ensures { result ≡ text_length expr.now }
+{
     match &expr.kind {
         ExprKind::ConstOf(Const::Text(bytes)) => Some(bytes.len() as i128),
         _ => None,
@@ -60,7 +71,9 @@ fn ask_whole(ground: &mut Ground, i: &Option<Given>, rule: Rule) -> bool {
 }
 
 /// The rule that an expression breaks as a whole number.
-fn whole_breach(types: &Types, expr: &TypedExpr, rule: Rule) -> Option<Rule> {
+fn whole_breach(types: &Types, expr: &TypedExpr, rule: Rule) -> Option<Rule>
+    ensures { result ≡ whole_breach types.now expr.now rule }
+{
     if !takes_sign(types, expr.of) {
         return Some(rule);
     }

@@ -1,5 +1,9 @@
 //! Untyped operands given types. Go specification, "Constants" and "Representability".
 
+ghost use Rattle.std.specs.Prelude.{◌≡◌};
+ghost use Rattle.typed_parts.specs.Judged.{reported};
+ghost use Rattle.typed_parts.specs.Retyping.{constant_as, rekinded};
+
 use crate::ground::{Ground, lost};
 use crate::joining::{both, with_last};
 use crate::nodes::{boxed_both, boxed_sound, node};
@@ -91,7 +95,10 @@ fn retyped_each(
     Ok(typed)
 }
 
-fn retyped_constant(ground: &mut Ground, at: Pos, value: Const, to: TypeId) -> Option<TypedExpr> {
+fn retyped_constant(ground: &mut Ground, at: Pos, value: Const, to: TypeId) -> Option<TypedExpr>
+    ensures answer { result ≡ (constant_as ground.old.types at value to).sound }
+    ensures broken { ground.new ≡ reported ground.old (constant_as ground.old.types at value to).broken }
+{
     match as_constant(&ground.types, value, to) {
         Ok(value) => Some(node(at, to, ExprKind::ConstOf(value))),
         Err(breach) => {
@@ -193,7 +200,10 @@ fn built_in_of(
 }
 
 /// An untyped operand as one of a kind that its own joins to.
-pub fn rekinded(ground: &mut Ground, expr: TypedExpr, kind: Untyped) -> Option<TypedExpr> {
+pub fn rekinded(ground: &mut Ground, expr: TypedExpr, kind: Untyped) -> Option<TypedExpr>
+    ensures answer { result ≡ (rekinded ground.old.types expr kind).sound }
+    ensures broken { ground.new ≡ reported ground.old (rekinded ground.old.types expr kind).broken }
+{
     let (at, _of, it) = expr.into_parts();
     match it {
         ExprKind::ConstOf(value) => retyped_constant(ground, at, value, kind.type_id()),

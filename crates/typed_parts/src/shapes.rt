@@ -1,5 +1,10 @@
 //! What the underlying type of an operand is, for those who look at its elements.
 
+ghost use Rattle.std.specs.Prelude.{◌≡◌};
+ghost use Rattle.go_rules.specs.Untyped.{is_text_type};
+ghost use Rattle.go_type.specs.Assignable.{underlying_term_of};
+ghost use Rattle.typed_parts.specs.Shapes.{array_behind, elem_of, is_untyped_text, pointed, shape_of, term_shape};
+
 use crate::ground::Ground;
 use go_base::TypeId;
 use go_rules::{Untyped, untyped_kind};
@@ -34,14 +39,18 @@ pub enum Shape {
 }
 
 /// What a type's underlying type is. None where its values have no elements.
-pub fn shape_of(ground: &Ground, of: TypeId) -> Option<Shape> {
+pub fn shape_of(ground: &Ground, of: TypeId) -> Option<Shape>
+    ensures { result ≡ shape_of ground.now.types of }
+{
     match pointed(ground, of) {
         Some(array) => pointed_shape(&ground.types, array),
         None => plain_shape(&ground.types, of),
     }
 }
 
-fn pointed_shape(types: &Types, array: TypeId) -> Option<Shape> {
+fn pointed_shape(types: &Types, array: TypeId) -> Option<Shape>
+    ensures { result ≡ array_behind array (underlying_term_of types.now array) }
+{
     match types.underlying_term(array) {
         Some(TypeTerm::Array { len, elem }) => Some(Shape::ArrayPointer {
             array,
@@ -52,7 +61,9 @@ fn pointed_shape(types: &Types, array: TypeId) -> Option<Shape> {
     }
 }
 
-fn plain_shape(types: &Types, of: TypeId) -> Option<Shape> {
+fn plain_shape(types: &Types, of: TypeId) -> Option<Shape>
+    ensures { result ≡ term_shape (underlying_term_of types.now of) }
+{
     match types.underlying_term(of) {
         Some(TypeTerm::Basic(Basic::Text | Basic::UntypedText)) => Some(Shape::Text),
         Some(TypeTerm::Array { len, elem }) => Some(Shape::Array {
@@ -73,7 +84,9 @@ fn plain_shape(types: &Types, of: TypeId) -> Option<Shape> {
 }
 
 /// What a pointer type points to.
-pub fn pointed(ground: &Ground, of: TypeId) -> Option<TypeId> {
+pub fn pointed(ground: &Ground, of: TypeId) -> Option<TypeId>
+    ensures { result ≡ pointed ground.now.types of }
+{
     match ground.types.underlying_term(of) {
         Some(TypeTerm::Pointer(base)) => Some(*base),
         _ => None,
@@ -81,12 +94,16 @@ pub fn pointed(ground: &Ground, of: TypeId) -> Option<TypeId> {
 }
 
 /// Whether a type is the kind of untyped strings.
-pub fn is_untyped_text(types: &Types, of: TypeId) -> bool {
+pub fn is_untyped_text(types: &Types, of: TypeId) -> bool
+    ensures { result ≡ is_untyped_text types.now of }
+{
     matches!(untyped_kind(types, of), Some(Untyped::Text))
 }
 
 /// The type of the elements of a slice type.
-pub fn elem_of(types: &Types, of: TypeId) -> Option<TypeId> {
+pub fn elem_of(types: &Types, of: TypeId) -> Option<TypeId>
+    ensures { result ≡ elem_of types.now of }
+{
     match types.underlying_term(of) {
         Some(TypeTerm::Slice(elem)) => Some(*elem),
         _ => None,
@@ -94,7 +111,9 @@ pub fn elem_of(types: &Types, of: TypeId) -> Option<TypeId> {
 }
 
 /// Whether a type's underlying type is that of strings.
-pub fn is_text(types: &Types, of: TypeId) -> bool {
+pub fn is_text(types: &Types, of: TypeId) -> bool
+    ensures { result ≡ is_text_type types.now of }
+{
     matches!(
         types.underlying_term(of),
         Some(TypeTerm::Basic(Basic::Text))

@@ -1,0 +1,46 @@
+-- What a rule comes to: what it makes of sound parts, and the rules that are broken, each at its place.
+use Rattle.std.specs.Prelude.{List, [], ◌∷◌, ◌++◌, map, Option, Some, None}
+use Rattle.go_base.specs.declared.place.Pos.{Pos}
+use Rattle.go_base.specs.declared.rule.Rule.{Rule}
+use Rattle.go_faults.specs.declared.fault.Fault.{Fault}
+use Rattle.go_faults.specs.Faults.{least_with}
+use Rattle.typed_parts.specs.declared.ground.Ground.{Ground}
+
+-- a rule that is broken at a place
+pub record Broken : Type 0 where
+  pub at : Pos
+  pub rule : Rule
+
+-- None is what stands on something unsound
+pub record Judged (A : Type 0) : Type 0 where
+  pub sound : Option A
+  pub broken : List Broken
+
+abbrev pub fine : {A : Type 0} → A → Judged A
+fine x = record { sound = Some x; broken = [] }
+
+abbrev pub unsound : {A : Type 0} → Judged A
+unsound = record { sound = None; broken = [] }
+
+abbrev pub breaks : {A : Type 0} → Pos → Rule → Judged A
+breaks at rule = record { sound = None; broken = record { at = at; rule = rule } ∷ [] }
+
+abbrev pub judged : {A B : Type 0} → Option A → (A → Judged B) → Judged B
+judged None rule = unsound
+judged (Some x) rule = rule x
+
+-- what a second rule says of what a first one makes
+abbrev pub and_then : {A B : Type 0} → Judged A → (A → Judged B) → Judged B
+and_then first rule = record {
+  sound = (judged first.sound rule).sound;
+  broken = first.broken ++ (judged first.sound rule).broken;
+}
+
+-- broken rules are faults of the phase and the package of the ground
+abbrev pub fault_in : Ground → Broken → Fault
+fault_in base b = record { phase = base.phase; «package» = base.«package»; pos = b.at; rule = b.rule }
+
+-- the ground after rules were found broken: the least of all faults is kept, and all else stays
+abbrev pub reported : Ground → List Broken → Ground
+reported base broken =
+    record base { least = record { fault = least_with base.least.fault (map (fault_in base) broken) } }
