@@ -11,7 +11,6 @@ use Rattle.go_sources.specs.declared.sources.SourceFile.{SourceFile}
 use Rattle.go_sources.specs.BuiltIns.{built_in_path, built_in_text}
 use Rattle.go_sources.specs.Places.{place_in}
 use Rattle.go_sources.specs.Sources.{IsText, AreTold}
-use Rattle.go_sources.specs.Reading.{HasTree}
 use Rattle.go_load.specs.declared.error.LoadError.{LoadError}
 use Rattle.go_load.specs.declared.error.LoadError.TheVariants.{Refused, ReadFault, OutOfMemory}
 use Rattle.go_load.specs.FileReading.{text_of, ReadsText, ReadsPath, ReadsPaths, ReadsBuiltIn, AreOf}
@@ -20,7 +19,7 @@ use Rattle.go_load.specs.Modules.{Broken, ReadsWhole}
 use Rattle.go_load.specs.Places.{first_place, Refuses}
 use Rattle.go_load.specs.Programs.{File, Reads, TooLarge, TooMuch, Bad, Good, with_file, ReadsAll, Ends, Stops, Goes}
 use Rattle.go_load.specs.Projects.{FileText, text_at, texts_at}
-use Rattle.go_load.specs.Reading.{BreaksText, ReadsTree}
+use Rattle.go_load.specs.Reading.{BreaksText, IsTree, ReadsTree}
 
 -- ---- one text
 
@@ -34,7 +33,7 @@ bad_text path bytes those room (Refused place rule) small within b breaks = Bad 
 bad_text path bytes those room ReadFault small within b breaks = tt
 bad_text path bytes those room OutOfMemory small within b breaks = tt
 
-pub good_text : (path bytes there those : List ℕ) (room : ℕ) (tree : FileTree) → length bytes ≤ 4194304 → length bytes ≤ room → HasTree bytes tree → there ≡ path → those ≡ bytes → Reads room (text_of path bytes) (Ok (record { path = there; bytes = those; tree = tree }))
+pub good_text : (path bytes there those : List ℕ) (room : ℕ) (tree : FileTree) → length bytes ≤ 4194304 → length bytes ≤ room → IsTree bytes tree → there ≡ path → those ≡ bytes → Reads room (text_of path bytes) (Ok (record { path = there; bytes = those; tree = tree }))
 good_text path bytes there those room tree small within fine p b = rw (p, b) (Good small within tree fine)
 
 -- ---- the file at one path

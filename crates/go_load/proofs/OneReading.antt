@@ -108,11 +108,11 @@ one_read room text (TooMuch h more) (Good k fits tree has) = absurd (omega (arit
 one_read room text (Bad h fits place rule breaks) (TooLarge k) = absurd (omega (arith, h, k))
 one_read room text (Bad h fits place rule breaks) (TooMuch k more) = absurd (omega (arith, more, fits))
 one_read room text (Bad h fits place rule breaks) (Bad k room_too at by broken) = one_break text.path text.bytes place at rule by breaks broken
-one_read room text (Bad h fits place rule breaks) (Good k room_too tree is) = tree_or_fault text.bytes tree is breaks.bad
+one_read room text (Bad h fits place rule breaks) (Good k room_too tree is) = tree_or_fault text.bytes tree is.has breaks.bad
 one_read room text (Good h fits tree has) (TooLarge k) = absurd (omega (arith, h, k))
 one_read room text (Good h fits tree has) (TooMuch k more) = absurd (omega (arith, more, fits))
-one_read room text (Good h fits tree is) (Bad k room_too place rule breaks) = tree_or_fault text.bytes tree is breaks.bad
-one_read room text (Good h fits a is) (Good k room_too b are) = record { path = refl; bytes = refl; tree = one_view text.bytes a b is are }
+one_read room text (Good h fits tree is) (Bad k room_too place rule breaks) = tree_or_fault text.bytes tree is.has breaks.bad
+one_read room text (Good h fits a is) (Good k room_too b are) = record { path = refl; bytes = refl; tree = one_view text.bytes a b is.has are.has }
 
 same_with : (file other : File) (a b : Result (List File) Broken) → IsSameFile file other → AreSameRead a b → AreSameRead (with_file file a) (with_file other b)
 same_with file other (Ok a) (Ok b) f h = (f, h)

@@ -242,11 +242,61 @@ fn names_packages(rt: HostRuntime) -> Result<(), Fail> {
     Ok(())
 }
 
+/// A text with each kind of tree in it, and a token in each of their fields.
+const FORMS: &str = "\
+    package p\n\
+    \n\
+    import (\n\
+    b \"runtime\"\n\
+    )\n\
+    \n\
+    const (\n\
+    x, y = 1 + 2, 'a'\n\
+    z\n\
+    )\n\
+    \n\
+    type (\n\
+    t = []int\n\
+    s struct {\n\
+    ;\n\
+    a, b *int \"tag\"\n\
+    *u\n\
+    d.e\n\
+    }\n\
+    )\n\
+    \n\
+    type i interface {\n\
+    m(int, ...string) (n int, err error)\n\
+    j; d.k\n\
+    }\n\
+    \n\
+    var v, w map[string]chan<- int = nil, (nil)\n\
+    \n\
+    func (r *s) f(a, b int, c ...func() <-chan t) (interface{}) {\n\
+    a, b = b, -a\n\
+    a += <-c[0]()\n\
+    g(a, b,)\n\
+    g(c...,)\n\
+    q := [...]t{0: {1, 2}, {3,}}\n\
+    l: for k, v := range q[1:] { break l }\n\
+    for range a[:1:2] { continue }\n\
+    for i := 0; i < 3; i++ { fallthrough }\n\
+    for { }\n\
+    if a := 1; !b { } else if c { } else { }\n\
+    switch a := 2; a { case 1, 2: ; default: }\n\
+    switch q := p.(type) { case int, t: }\n\
+    select { case a <- 1: case b, ok = <-c: case d := <-e: default: }\n\
+    defer g(); go g()\n\
+    return x.y.(int), func() { g()[1]-- }\n\
+    }\n\
+    ";
+
 /// Names and texts of single files, and what is told of them. No go.mod counts, not even one that is the file.
 const TEXTS: &[(&str, &str, &str)] = &[
     ("a/b/x.go", "package b\nimport \"os\"\n", ""),
     ("x.go", "package main\nimport \"m\"\n", "x.go:2:8 M3"),
     ("go.mod", "module m\n", "go.mod:1:1 S1"),
+    ("x.go", FORMS, ""),
 ];
 
 #[test]
