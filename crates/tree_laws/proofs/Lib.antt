@@ -1,0 +1,9 @@
+pub mod Told
+pub mod Pieces
+pub mod TokenKinds
+pub mod Layers
+pub mod DeclSteps
+pub mod ExprSteps
+pub mod StmtSteps
+pub mod TypeSteps
+pub mod Whole
