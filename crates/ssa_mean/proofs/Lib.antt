@@ -1,4 +1,4 @@
-mod Outcomes
+pub mod Outcomes
 mod HandMade
 mod Tied
 mod Outputs

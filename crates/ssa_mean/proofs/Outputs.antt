@@ -288,7 +288,7 @@ built_in_grows s register (plain builtin.Close) arguments =
 built_in_grows s register (plain builtin.Panic) arguments = panic_of_grows s.code s.machine arguments
 built_in_grows s register (plain builtin.Recover) arguments = recovers_grows s register
 built_in_grows s register it arguments =
-    finishes_grows s register (built_in_call s.answers s.machine it arguments)
+    finishes_grows s register (built_in_call s.answers s.machine.store s.machine.sched it arguments)
 
 calls_grows : (s : Site) (register : Option ℕ) (it : Later) (callee : Callee)
     → Grows s.machine.output (steps_of.calls s register it callee)
@@ -414,7 +414,7 @@ alone_grows : (answers : Answers) (code : Code) (m : Machine) (it : BuiltIn) (ar
 alone_grows answers code m (plain builtin.Close) arguments = close_grows code m m arguments refl
 alone_grows answers code m (plain builtin.Panic) arguments = panic_of_grows code m arguments
 alone_grows answers code m (plain builtin.Recover) arguments = goes_grows _ _ (stays m.output)
-alone_grows answers code m it arguments = wrote_grows code m (built_in_call answers m it arguments)
+alone_grows answers code m it arguments = wrote_grows code m (built_in_call answers m.store m.sched it arguments)
 
 makes_grows : (answers : Answers) (code : Code) (m : Machine) (it : Later) (deferred : Bool) (callee : Callee)
     → Grows m.output (steps_of.makes answers code m it deferred callee)

@@ -5,7 +5,7 @@ use Rattle.std.specs.Cmp.Lexicographic.{slice_cmp}
 use Rattle.std.specs.Ordering.{nat_cmp, is_lt}
 use Rattle.std.specs.Option.{option_map}
 use Rattle.go_base.specs.declared.ids.TypeId.{TypeId}
-use Rattle.go_sched.specs.Goroutines.{meant, queue_length, size_of}
+use Rattle.go_sched.specs.Goroutines.{State, meant, queue_length, size_of}
 use Rattle.go_store.specs.Arrays.{array_of}
 use Rattle.go_store.specs.Slices.{later, has_room, elements_of, with_run_in, append_fault, appended_slice, grown_array}
 use Rattle.go_store.specs.Slices.{copy_count, copied}
@@ -29,7 +29,7 @@ use Rattle.ssa_mean.specs.Conversions.{are_bytes, numbers_of}
 use Rattle.ssa_mean.specs.Making.{leaves_of}
 use Rattle.ssa_mean.specs.MapCalls.{entries_of, entry_numbers, changed_map, cleared, deleted}
 use Rattle.ssa_mean.specs.Operands.{term_of, element_in}
-use Rattle.ssa_mean.specs.State.{BuiltIn, appends_items, appends_slice, appends_text, clears_slice, plain, Machine}
+use Rattle.ssa_mean.specs.State.{BuiltIn, appends_items, appends_slice, appends_text, clears_slice, plain}
 use Rattle.ssa_mean.specs.Texts.{printed_all, printed_line}
 use Rattle.ssa_mean.specs.Zeros.{zero_of}
 
@@ -48,7 +48,8 @@ is_text_term _ = false
 abbrev pub append_of : Code → TypeId → ℕ → Option TypeTerm → BuiltIn
 append_of code elem leaves second =
     if is_slice_of elem second then appends_slice leaves
-    else (if is_text_term second then (if are_bytes code (Some elem) then appends_text leaves else appends_items leaves)
+    else (if is_text_term second
+    then (if are_bytes code.types (Some elem) then appends_text leaves else appends_items leaves)
     else appends_items leaves)
 
 abbrev pub append_to : Code → Function → TypeId → List Operand → BuiltIn
@@ -163,21 +164,21 @@ delete answers store _ = nowhere
 
 -- ---- "Length and capacity"
 
-abbrev pub length_of : Machine → Val → Option ℕ
-length_of m (slice it) = Some it.len
-length_of m (text bytes) = Some (length bytes)
-length_of m (map_number id) = Some (length (entry_numbers (entries_of m.store id)))
-length_of m (chan_number id) = Some (queue_length (meant m.sched id))
-length_of m _ = None
+abbrev pub length_of : Stored → State → Val → Option ℕ
+length_of store sched (slice it) = Some it.len
+length_of store sched (text bytes) = Some (length bytes)
+length_of store sched (map_number id) = Some (length (entry_numbers (entries_of store id)))
+length_of store sched (chan_number id) = Some (queue_length (meant sched id))
+length_of store sched _ = None
 
-abbrev pub capacity_of : Machine → Val → Option ℕ
-capacity_of m (slice it) = Some it.cap
-capacity_of m (chan_number id) = Some (size_of (meant m.sched id))
-capacity_of m _ = None
+abbrev pub capacity_of : State → Val → Option ℕ
+capacity_of sched (slice it) = Some it.cap
+capacity_of sched (chan_number id) = Some (size_of (meant sched id))
+capacity_of sched _ = None
 
-abbrev pub counted : Machine → (Machine → Val → Option ℕ) → List Val → Comes Done
-counted m count (it ∷ []) = then_to (λ n. gives m.store (number (pos n))) (of_option (count m it))
-counted m count _ = nowhere
+abbrev pub counted : Stored → (Val → Option ℕ) → List Val → Comes Done
+counted store count (it ∷ []) = then_to (λ n. gives store (number (pos n))) (of_option (count it))
+counted store count _ = nowhere
 
 -- ---- "Min and max"
 
@@ -200,21 +201,21 @@ extreme store best (first ∷ others) = to (gives store (best first others))
 
 -- ---- a call of one that neither switches nor panics nor recovers
 
-abbrev pub plain_call : Answers → Machine → Builtin → List Val → Comes Done
-plain_call answers m builtin.Cap arguments = counted m capacity_of arguments
-plain_call answers m builtin.Len arguments = counted m length_of arguments
-plain_call answers m builtin.Clear arguments = clear_map m.store arguments
-plain_call answers m builtin.Copy arguments = copy m.store arguments
-plain_call answers m builtin.Delete arguments = delete answers m.store arguments
-plain_call answers m builtin.Max arguments = extreme m.store greatest_of arguments
-plain_call answers m builtin.Min arguments = extreme m.store least_of arguments
-plain_call answers m builtin.Print arguments = to (writes m.store (printed_all arguments))
-plain_call answers m builtin.Println arguments = to (writes m.store (printed_line arguments))
-plain_call answers m _ arguments = nowhere
+abbrev pub plain_call : Answers → Stored → State → Builtin → List Val → Comes Done
+plain_call answers store sched builtin.Cap arguments = counted store (capacity_of sched) arguments
+plain_call answers store sched builtin.Len arguments = counted store (length_of store sched) arguments
+plain_call answers store sched builtin.Clear arguments = clear_map store arguments
+plain_call answers store sched builtin.Copy arguments = copy store arguments
+plain_call answers store sched builtin.Delete arguments = delete answers store arguments
+plain_call answers store sched builtin.Max arguments = extreme store greatest_of arguments
+plain_call answers store sched builtin.Min arguments = extreme store least_of arguments
+plain_call answers store sched builtin.Print arguments = to (writes store (printed_all arguments))
+plain_call answers store sched builtin.Println arguments = to (writes store (printed_line arguments))
+plain_call answers store sched _ arguments = nowhere
 
-abbrev pub built_in_call : Answers → Machine → BuiltIn → List Val → Comes Done
-built_in_call answers m (appends_items leaves) arguments = append_items leaves m.store arguments
-built_in_call answers m (appends_slice leaves) arguments = append_elements leaves m.store arguments
-built_in_call answers m (appends_text leaves) arguments = append_elements leaves m.store arguments
-built_in_call answers m (clears_slice zero_value) arguments = clear_slice m.store zero_value arguments
-built_in_call answers m (plain it) arguments = plain_call answers m it arguments
+abbrev pub built_in_call : Answers → Stored → State → BuiltIn → List Val → Comes Done
+built_in_call answers store sched (appends_items leaves) arguments = append_items leaves store arguments
+built_in_call answers store sched (appends_slice leaves) arguments = append_elements leaves store arguments
+built_in_call answers store sched (appends_text leaves) arguments = append_elements leaves store arguments
+built_in_call answers store sched (clears_slice zero_value) arguments = clear_slice store zero_value arguments
+built_in_call answers store sched (plain it) arguments = plain_call answers store sched it arguments

@@ -7,6 +7,7 @@ use Rattle.go_store.specs.Arrays.{array_of}
 use Rattle.go_store.specs.Slices.{elements_of, slice_of_new, most_leaves}
 use Rattle.go_store.specs.Stores.{Stored, made}
 use Rattle.go_type.specs.Kinds.{kind_of}
+use Rattle.go_type.specs.Table.{Table}
 use Rattle.go_type.specs.declared.kinds.IntKind.{IntKind}
 use Rattle.go_type.specs.declared.term.Basic.TheVariants as basic
 use Rattle.go_type.specs.declared.term.TypeTerm.{TypeTerm}
@@ -15,10 +16,9 @@ use Rattle.go_value.specs.Ints.{wrapped}
 use Rattle.go_value.specs.Runes as runes
 use Rattle.go_value.specs.Values.{Val, number, text, slice}
 use Rattle.go_value.specs.declared.faults.Fault.TheVariants as fault
-use Rattle.ssa_ir.specs.declared.code.Code.{Code}
 use Rattle.ssa_mean.specs.Arithmetic.{within_limit}
 use Rattle.ssa_mean.specs.Comes.{Comes, to, faults, nowhere, then_to, where_some}
-use Rattle.ssa_mean.specs.Operands.{under, element_in}
+use Rattle.ssa_mean.specs.Operands.{under_in, element_in}
 use Rattle.ssa_mean.specs.Runes.{runes_of}
 
 -- a value, and the store after it
@@ -35,8 +35,8 @@ abbrev pub is_byte_term : Option TypeTerm → Bool
 is_byte_term (Some (term.Basic basic.Uint8)) = true
 is_byte_term _ = false
 
-abbrev pub are_bytes : Code → Option TypeId → Bool
-are_bytes code elem = is_byte_term (under code elem)
+abbrev pub are_bytes : Table → Option TypeId → Bool
+are_bytes types elem = is_byte_term (under_in types elem)
 
 -- ---- from a slice to a string
 
@@ -80,10 +80,10 @@ converted_int (Some kind) it = number (wrapped kind it)
 converted_int None it = text (runes.rune_bytes it)
 
 -- a value of a type with an underlying term, converted to another type
-abbrev pub conversion : Code → Stored → Option TypeTerm → TypeId → Val → Comes Stores
-conversion code store from of (number it) = to (kept store (converted_int (kind_of code.types of) it))
-conversion code store from of (slice it) =
-    then_to (kept store) (where_some (text_of_items (are_bytes code (element_in from))) (elements_of store it))
-conversion code store from of (text bytes) =
-    slice_of_text store (are_bytes code (element_in (under code (Some of)))) bytes
-conversion code store from of _ = nowhere
+abbrev pub conversion : Table → Stored → Option TypeTerm → TypeId → Val → Comes Stores
+conversion types store from of (number it) = to (kept store (converted_int (kind_of types of) it))
+conversion types store from of (slice it) =
+    then_to (kept store) (where_some (text_of_items (are_bytes types (element_in from))) (elements_of store it))
+conversion types store from of (text bytes) =
+    slice_of_text store (are_bytes types (element_in (under_in types (Some of)))) bytes
+conversion types store from of _ = nowhere

@@ -44,10 +44,10 @@ abbrev pub thrown_by : Code → Fault → Thrown
 thrown_by code fault = thrown_with (fault_string (naming_of code) fault) (error_string code)
 
 -- the text of what is thrown
-abbrev pub value_text : Code → Val → Option (List ℕ)
-value_text code (dynamic of it) = Some (as_characters (panic_text (naming_of code) (error_string code) of it))
-value_text code _ = None
+abbrev pub value_text : Naming → Option TypeId → Val → Option (List ℕ)
+value_text naming error_string (dynamic of it) = Some (as_characters (panic_text naming error_string of it))
+value_text naming error_string _ = None
 
 abbrev pub thrown_text : Code → Thrown → Option (List ℕ)
-thrown_text code (of_value it) = value_text code it
+thrown_text code (of_value it) = value_text (naming_of code) (error_string code) it
 thrown_text code (of_text words) = Some (as_characters words)

@@ -5,7 +5,7 @@ use Rattle.go_base.specs.declared.ids.FuncId.{FuncId}
 use Rattle.go_base.specs.declared.ids.TypeId.{TypeId}
 use Rattle.go_base.specs.declared.ids.VarId.{VarId}
 use Rattle.go_type.specs.Assignable.{underlying_term_of}
-use Rattle.go_type.specs.Table.{id_of}
+use Rattle.go_type.specs.Table.{Table, id_of}
 use Rattle.go_type.specs.declared.term.TypeTerm.{TypeTerm}
 use Rattle.go_type.specs.declared.term.TypeTerm.TheVariants as term
 use Rattle.go_value.specs.Values.{Val, truth, number, text, pointer, closure}
@@ -76,8 +76,11 @@ type_of code function (operand.Variable variable) = option_and_then (pointer_typ
 type_of code function (operand.Constant it of) = Some of
 
 -- the underlying term of a type
+abbrev pub under_in : Table → Option TypeId → Option TypeTerm
+under_in types of = option_and_then (underlying_term_of types) of
+
 abbrev pub under : Code → Option TypeId → Option TypeTerm
-under code of = option_and_then (underlying_term_of code.types) of
+under code of = under_in code.types of
 
 abbrev pub term_of : Code → Function → Operand → Option TypeTerm
 term_of code function it = under code (type_of code function it)

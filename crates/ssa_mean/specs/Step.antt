@@ -147,7 +147,7 @@ slice_part s it low high max =
     part_between (pointed_length s.code s.function it) whole (record { low = low; high = high; max = max })))))
 
 abbrev pub convert : Site → TypeId → Operand → Comes Stores
-convert s of it = with_one s it (conversion s.code s.machine.store (term_of s.code s.function it) of)
+convert s of it = with_one s it (conversion s.code.types s.machine.store (term_of s.code s.function it) of)
 
 abbrev pub make_interface : Site → Operand → Comes Val
 make_interface s it =
@@ -240,7 +240,8 @@ abbrev pub calls_built_in : Site → Option ℕ → BuiltIn → List Val → Nex
 calls_built_in s register (plain builtin.Close) arguments = close_of s.code s.machine (behind_call s) arguments
 calls_built_in s register (plain builtin.Panic) arguments = panic_of s.code s.machine arguments
 calls_built_in s register (plain builtin.Recover) arguments = recovers s register
-calls_built_in s register it arguments = finishes s register (built_in_call s.answers s.machine it arguments)
+calls_built_in s register it arguments =
+    finishes s register (built_in_call s.answers s.machine.store s.machine.sched it arguments)
 
 abbrev pub calls : Site → Option ℕ → Later → Callee → Next
 calls s register it (of_function id free) =
@@ -375,7 +376,7 @@ abbrev pub alone : Answers → Code → Machine → BuiltIn → List Val → Nex
 alone answers code m (plain builtin.Close) arguments = close_of code m m arguments
 alone answers code m (plain builtin.Panic) arguments = panic_of code m arguments
 alone answers code m (plain builtin.Recover) arguments = goes m
-alone answers code m it arguments = wrote code m (built_in_call answers m it arguments)
+alone answers code m it arguments = wrote code m (built_in_call answers m.store m.sched it arguments)
 
 abbrev pub makes : Answers → Code → Machine → Later → Bool → Callee → Next
 makes answers code m it deferred (of_function id free) = enters code m (entry_of code m id free it deferred None)

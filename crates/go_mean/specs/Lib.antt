@@ -1,0 +1,13 @@
+pub mod State
+pub mod Unwinding
+pub mod Places
+pub mod Calls
+pub mod Expressions
+pub mod Statements
+pub mod Ranges
+pub mod Channels
+pub mod Taking
+pub mod Flow
+pub mod Returns
+pub mod Step
+pub mod Runs
