@@ -1,9 +1,14 @@
 pub mod Bytes
 pub mod Codes
 pub mod CodesOf
+pub mod Equals
 pub mod Hashed
+pub mod InMaps
+pub mod Kept
 pub mod KindsOf
 pub mod Leaves
 pub mod LookedUp
 pub mod Sames
 pub mod Shown
+pub mod Slots
+pub mod Standing

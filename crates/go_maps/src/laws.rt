@@ -3,6 +3,7 @@
 ghost use Rattle.std.specs.Prelude.{Bool};
 ghost use Rattle.go_base.specs.declared.ids.TypeId.{TypeId};
 ghost use Rattle.go_maps.specs.Equality.{TellsComparable};
+ghost use Rattle.go_maps.specs.Finds.{FindsLaw};
 ghost use Rattle.go_maps.specs.Keys.{KeysLaw};
 
 use go_type::Types;
@@ -17,4 +18,9 @@ pub fn comparable_is_told(types: &Types)
 /// Two keys that one type can have, have one code exactly where they are equal.
 pub fn codes_tell_equality()
     ensures { KeysLaw }
+{}
+
+/// The entry of a key is the first whose key is equal to it, where the keys are such as one type can have.
+pub fn entries_have_equal_keys()
+    ensures { FindsLaw }
 {}

@@ -1,192 +1,19 @@
 //! Maps. Go specification, "Map types", "Index expressions" and "Deletion of map elements".
 
-ghost use Rattle.std.specs.Prelude.{◌≡◌, ◌++◌, ◌∷◌, [], IfOk, OnErr, option_map, option_copied, is_some, length, slice_get, Some};
+ghost use Rattle.std.specs.Prelude.{◌≡◌, ◌++◌, ◌∷◌, [], IfOk, OnOk, OnErr, map, option_map, is_some, length, reverse, slice_get, Some};
 ghost use Rattle.go_value.specs.Values.{value_of};
-ghost use Rattle.go_maps.specs.Keys.{Hashes, key_code};
-ghost use Rattle.go_maps.specs.Maps.{maps_of, map_of, pair_of, entry_at, entry_in, pair_made, numbered, looked_up, FaultsPut};
+ghost use Rattle.go_maps.specs.Entries.{cleared, count_in, entries_in, entries_of, numbered, numbers_in, pair_made, value_of_key, with_pair, without_key};
+ghost use Rattle.go_maps.specs.Keys.{Hashes};
+ghost use Rattle.go_maps.specs.Maps.{maps_of, map_in, entry_in, with_map, FaultsPut};
 
-use crate::keys::key_bytes;
+use crate::entries::MapEntries;
+use crate::listed::{Entries, Entry};
 use crate::memory::lost;
+use crate::places::look_of;
 use go_base::{MapId, NoMemory};
 use go_type::Types;
 use go_value::{Fault, Value, ValueError};
-use indexmap::IndexMap;
 use std::alloc::Global;
-use std::marker::Model;
-
-/// A map: its entries by their numbers, the removed ones left open, and where each key stands.
-#[derive(Drop)]
-pub(crate) struct MapEntries {
-    slots: Vec<Option<Slot>>,
-    live: u64,
-    ints: IndexMap<i128, u64>,
-    others: IndexMap<Vec<u8>, u64>,
-}
-
-#[derive(Drop)]
-pub(crate) struct Slot {
-    key: Value,
-    value: Value,
-}
-
-/// A key in the form in which it is looked up.
-#[derive(Drop)]
-enum Look {
-    Int(i128),
-    Other(Vec<u8>),
-}
-
-/// An entry of a map.
-#[derive(Drop)]
-pub struct Entry {
-    /// How many entries were made in the map before it, removed ones counted.
-    pub number: u64,
-    pub key: Value,
-    pub value: Value,
-}
-
-/// Entries, in order.
-#[derive(Drop)]
-pub struct Entries {
-    entries: Vec<Entry>,
-}
-
-impl Model for Entries {
-    ghost use Rattle.std.specs.Prelude.{List};
-    ghost use Rattle.go_maps.specs.declared.maps.Entry.{Entry};
-
-    ghost Value = { List Entry };
-
-    ghost view = { λ e. e.entries.items };
-
-    ghost use Rattle.go_value.specs.contracts.values.Value as e;
-    ghost use Rattle.std.specs.Coded.{codes};
-
-    ghost coded = { Prim.hlevel (codes, e.the_row.coded) };
-}
-
-impl Entries {
-    /// No entries.
-    pub fn new(alloc: Global) -> Entries {
-        Entries {
-            entries: Vec::new(alloc),
-        }
-    }
-
-    /// Adds an entry at the end. After `NoMemory` the list is as before.
-    pub fn push(&mut self, entry: Entry) -> Result<(), NoMemory> {
-        self.entries.push(entry)?;
-        Ok(())
-    }
-
-    /// The entries themselves.
-    pub fn as_slice(&self) -> &[Entry] {
-        self.entries.as_slice()
-    }
-
-    /// How many entries there are.
-    pub fn len(&self) -> usize {
-        self.entries.len()
-    }
-
-    /// Whether there are none.
-    pub fn is_empty(&self) -> bool {
-        self.entries.len() == 0
-    }
-}
-
-#[tactic(auto, using(crate::proofs::CodesOf::int_key))]
-fn look_of(alloc: Global, types: &Types, key: &Value) -> Result<Look, ValueError>
-    ensures code { IfOk result (λ look. looked_up look ≡ key_code (value_of key.now)) }
-    ensures fault { Hashes types.now (value_of key.now) result }
-{
-    match key {
-        Value::Int(number) => Ok(Look::Int(*number)),
-        _ => Ok(Look::Other(key_bytes(alloc, types, key)?)),
-    }
-}
-
-impl MapEntries {
-    fn new(alloc: Global) -> MapEntries
-        ensures { map_of result ≡ [] }
-    {
-        MapEntries {
-            slots: Vec::new(alloc),
-            live: 0,
-            ints: IndexMap::new(alloc),
-            others: IndexMap::new(alloc),
-        }
-    }
-
-    /// The number of the entry of a key.
-    fn find(&self, look: &Look) -> Option<u64> {
-        match look {
-            Look::Int(number) => self.ints.get(number).copied(),
-            Look::Other(bytes) => self.others.get(bytes).copied(),
-        }
-    }
-
-    fn slot(&self, number: u64) -> Option<&Slot>
-        ensures { option_map pair_of (option_copied result) ≡ entry_at (map_of self.now) number }
-    {
-        match self.slots.get(number as usize) {
-            Some(Some(slot)) => Some(slot),
-            _ => None,
-        }
-    }
-
-    /// Gives the entry of a number a value.
-    fn replace(&mut self, number: u64, new: Value) -> Result<(), NoMemory> {
-        match self.slots.get_mut(number as usize) {
-            Some(Some(slot)) => {
-                slot.value = new;
-                Ok(())
-            }
-            _ => Err(lost()),
-        }
-    }
-
-    /// A new entry, of a key that has none.
-    fn add(&mut self, look: Look, key: Value, value: Value) -> Result<(), NoMemory> {
-        let number = self.slots.len() as u64;
-        self.slots.push(Some(Slot { key, value }))?;
-        if self.note(look, number) {
-            self.live = self.live.saturating_add(1);
-            return Ok(());
-        }
-        let _ = self.slots.pop();
-        Err(NoMemory)
-    }
-
-    fn note(&mut self, look: Look, number: u64) -> bool {
-        match look {
-            Look::Int(key) => self.ints.insert(key, number).is_ok(),
-            Look::Other(key) => self.others.insert(key, number).is_ok(),
-        }
-    }
-
-    fn remove(&mut self, look: &Look) {
-        let number = match look {
-            Look::Int(key) => self.ints.swap_remove(key),
-            Look::Other(key) => self.others.swap_remove(key),
-        };
-        if let Some(number) = number {
-            if let Some(slot) = self.slots.get_mut(number as usize) {
-                *slot = None;
-                self.live = self.live.saturating_sub(1);
-            }
-        }
-    }
-
-    fn clear(&mut self) {
-        for slot in self.slots.iter_mut() {
-            *slot = None;
-        }
-        self.live = 0;
-        self.ints.clear();
-        self.others.clear();
-    }
-}
 
 /// Maps, numbered from 0 in the order in which they were made.
 #[derive(Drop)]
@@ -220,7 +47,7 @@ impl Maps {
 
     #[tactic(auto, using(crate::proofs::LookedUp::mapped))]
     fn map(&self, map: MapId) -> Result<&MapEntries, NoMemory>
-        ensures { IfOk result (λ entries. slice_get (maps_of self.now) map.number ≡ Some (map_of entries.now)) }
+        ensures { IfOk result (λ entries. slice_get (maps_of self.now) map.number ≡ Some (entries_of entries.now)) }
     {
         match self.maps.get(map.number as usize) {
             Some(entries) => Ok(entries),
@@ -237,6 +64,7 @@ impl Maps {
         key: &Value,
     ) -> Result<Option<Value>, ValueError>
         ensures fault { Hashes types.now (value_of key.now) result }
+        ensures value { IfOk result (λ found. option_map value_of found ≡ value_of_key (value_of key.now) (map_in (maps_of self.now) map)) }
     {
         let look = look_of(alloc, types, key)?;
         let Some(map) = map else {
@@ -247,7 +75,7 @@ impl Maps {
             return Ok(None);
         };
         match entries.slot(number) {
-            Some(slot) => Ok(Some(slot.value.copy(alloc)?)),
+            Some(slot) => Ok(Some(slot.copy_value(alloc)?)),
             None => Err(ValueError::from(lost())),
         }
     }
@@ -263,13 +91,15 @@ impl Maps {
         value: Value,
     ) -> Result<(), ValueError>
         ensures fault { FaultsPut types.now map (value_of key) result }
+        ensures ok { OnOk result (maps_of self.new ≡ with_map (with_pair (value_of key) (value_of value)) (maps_of self.old) map) }
+        ensures err { OnErr result (maps_of self.new ≡ maps_of self.old) }
     {
         let Some(map) = map else {
             return Err(ValueError::Fault(Fault::NilMap));
         };
         let look = look_of(self.alloc, types, &key)?;
         match self.maps.get_mut(map.number as usize) {
-            Some(entries) => Ok(put_entry(entries, look, key, value)?),
+            Some(entries) => Ok(entries.put(look, key, value)?),
             None => Err(ValueError::from(lost())),
         }
     }
@@ -283,6 +113,7 @@ impl Maps {
         key: &Value,
     ) -> Result<(), ValueError>
         ensures fault { Hashes types.now (value_of key.now) result }
+        ensures ok { OnOk result (maps_of self.new ≡ with_map (without_key (value_of key.now)) (maps_of self.old) map) }
         ensures err { OnErr result (maps_of self.new ≡ maps_of self.old) }
     {
         let look = look_of(self.alloc, types, key)?;
@@ -299,7 +130,9 @@ impl Maps {
     }
 
     /// Removes every entry of a map.
-    pub fn clear(&mut self, map: Option<MapId>) {
+    pub fn clear(&mut self, map: Option<MapId>)
+        ensures { maps_of self.new ≡ with_map cleared (maps_of self.old) map }
+    {
         if let Some(map) = map {
             if let Some(entries) = self.maps.get_mut(map.number as usize) {
                 entries.clear();
@@ -308,10 +141,12 @@ impl Maps {
     }
 
     /// How many entries a map has.
-    pub fn len(&self, map: Option<MapId>) -> u64 {
+    pub fn len(&self, map: Option<MapId>) -> u64
+        ensures { result ≡ count_in (map_in (maps_of self.now) map) }
+    {
         match map {
             Some(map) => match self.maps.get(map.number as usize) {
-                Some(entries) => entries.live,
+                Some(entries) => entries.len(),
                 None => 0,
             },
             None => 0,
@@ -344,67 +179,28 @@ impl Maps {
             return Ok(None);
         };
         match self.map(map)?.slot(number) {
-            Some(slot) => Ok(Some(copy_entry(alloc, number, slot)?)),
+            Some(slot) => Ok(Some(slot.copy(alloc, number)?)),
             None => Ok(None),
         }
     }
 
     /// The entries of a map, in order of insertion.
-    pub fn entries(&self, alloc: Global, map: Option<MapId>) -> Result<Entries, NoMemory> {
-        let mut all = Entries::new(alloc);
-        if let Some(map) = map {
-            push_entries(alloc, &mut all, self.map(map)?.slots.as_slice())?;
+    pub fn entries(&self, alloc: Global, id: Option<MapId>) -> Result<Entries, NoMemory>
+        ensures { IfOk result (λ all. map pair_made all ≡ entries_in (map_in (maps_of self.now) id)) }
+    {
+        match id {
+            Some(id) => self.map(id)?.list(alloc),
+            None => Ok(Entries::new(alloc)),
         }
-        Ok(all)
     }
 
     /// The numbers of the entries of a map, the last first.
-    pub fn entry_numbers(&self, alloc: Global, map: Option<MapId>) -> Result<Vec<u64>, NoMemory> {
-        let mut numbers = Vec::new(alloc);
-        if let Some(map) = map {
-            push_numbers(&mut numbers, self.map(map)?.slots.as_slice())?;
-        }
-        numbers.as_mut_slice().reverse();
-        Ok(numbers)
-    }
-}
-
-fn put_entry(
-    entries: &mut MapEntries,
-    look: Look,
-    key: Value,
-    value: Value,
-) -> Result<(), NoMemory> {
-    match entries.find(&look) {
-        Some(number) => entries.replace(number, value),
-        None => entries.add(look, key, value),
-    }
-}
-
-fn copy_entry(alloc: Global, number: u64, slot: &Slot) -> Result<Entry, NoMemory>
-    ensures { IfOk result (λ entry. pair_made entry ≡ numbered number (pair_of slot.now)) }
-{
-    Ok(Entry {
-        number,
-        key: slot.key.copy(alloc)?,
-        value: slot.value.copy(alloc)?,
-    })
-}
-
-fn push_entries(alloc: Global, all: &mut Entries, slots: &[Option<Slot>]) -> Result<(), NoMemory> {
-    for (number, slot) in slots.iter().enumerate() {
-        if let Some(slot) = slot {
-            all.push(copy_entry(alloc, number as u64, slot)?)?;
+    pub fn entry_numbers(&self, alloc: Global, map: Option<MapId>) -> Result<Vec<u64>, NoMemory>
+        ensures { IfOk result (λ all. all.items ≡ reverse (numbers_in (map_in (maps_of self.now) map))) }
+    {
+        match map {
+            Some(map) => self.map(map)?.numbers(alloc),
+            None => Ok(Vec::new(alloc)),
         }
     }
-    Ok(())
-}
-
-fn push_numbers(numbers: &mut Vec<u64>, slots: &[Option<Slot>]) -> Result<(), NoMemory> {
-    for (number, slot) in slots.iter().enumerate() {
-        if slot.is_some() {
-            numbers.push(number as u64)?;
-        }
-    }
-    Ok(())
 }

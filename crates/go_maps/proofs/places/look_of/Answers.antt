@@ -4,7 +4,7 @@ use Rattle.go_value.proofs.Variants.{int_is}
 use Rattle.go_maps.specs.Keys.{unhashable, of_bytes}
 use Rattle.go_maps.proofs.KindsOf.{number_of}
 use Rattle.go_maps.proofs.LookedUp.{other_key}
-use Rattle.go_maps.proofs.maps.look_of.Goals as goal
+use Rattle.go_maps.proofs.places.look_of.Goals as goal
 
 pub returns-in-Int-clause-fault : goal.returns-in-Int-clause-fault
 returns-in-Int-clause-fault c =
@@ -14,6 +14,6 @@ pub returns-in_ok-key_bytes-in_default : goal.returns-in_ok-key_bytes-in_default
 returns-in_ok-key_bytes-in_default c =
     let key = c.args.key.now in
     record {
-      code = ap of_bytes c.in_ok-key_bytes-in_default.ensures.code ∙ other_key (value_of key) (λ k. let it = number_of key k in c.in_default.not-Int it.0 it.1);
+      code = ap of_bytes (c.new.ensures ∙ c.in_ok-key_bytes-in_default.ensures.code) ∙ other_key (value_of key) (λ k. let it = number_of key k in c.in_default.not-Int it.0 it.1);
       fault = c.in_ok-key_bytes-in_default.ensures.fault;
     }
