@@ -1,12 +1,12 @@
 -- Entries are found by the codes of their keys, and so by keys that are equal.
-use Rattle.std.proofs.Common.{◌≡◌, ℕ, suc, ap, sym, ◌∙◌, refl, List, [], ◌∷◌, Bool, true, false, true≢false, cond, Option, Some, None, option_map, Result, Ok, Err}
+use Rattle.std.proofs.Common.{◌≡◌, ℕ, suc, ap, sym, ◌∙◌, refl, [], ◌∷◌, Bool, true, false, true≢false, cond, Option, Some, None, option_map, Result, Ok, Err}
 use Rattle.go_base.specs.declared.ids.TypeId.{TypeId}
 use Rattle.go_value.specs.Values.{Val}
 use Rattle.go_value.specs.declared.faults.Fault.{Fault}
-use Rattle.go_maps.specs.Entries.{Map, Pair, has_code, place_of_code, same_code}
+use Rattle.go_maps.specs.Entries.{Pair, has_code, same_code}
 use Rattle.go_maps.specs.Equality.{compared}
-use Rattle.go_maps.specs.Finds.{AreAlike, FindsLaw, first_equal, has_equal, is_ok_true}
-use Rattle.go_maps.specs.Keys.{Alike, KeyCode, key_code, unhashable}
+use Rattle.go_maps.specs.Finds.{FindsLaw, has_equal, is_ok_true}
+use Rattle.go_maps.specs.Keys.{Alike, key_code, unhashable}
 use Rattle.go_maps.proofs.Codes.{keys_law}
 use Rattle.go_maps.proofs.Standing.{codes_same, same_itself}
 

@@ -1,9 +1,9 @@
 -- Entries of the maps by their ids.
-use Rattle.std.proofs.Common.{◌≡◌, ◌<◌, ◌≤◌, ℕ, ap, refl, sym, ◌∙◌, map, option_map, option_and_then, List, Option, Some, None, slice_get, slice_set, length, get_or}
+use Rattle.std.proofs.Common.{◌≡◌, ◌<◌, ◌≤◌, ℕ, ap, sym, ◌∙◌, map, option_map, option_and_then, List, Option, Some, None, slice_get, slice_set, length, get_or}
 use Rattle.std.proofs.lemmas.Option.{slice_get_past}
 use Rattle.go_base.specs.declared.ids.MapId.{MapId}
 use Rattle.go_value.specs.Values.{Val}
-use Rattle.go_maps.specs.Entries.{Map, Pair, entries_of, entry_at, place_of, place_of_code, value_at, value_of_key, without_key, without_at}
+use Rattle.go_maps.specs.Entries.{Map, Pair, entries_of, entry_at, place_of_code, value_at, value_of_key, without_key, without_at}
 use Rattle.go_maps.specs.Keys.{KeyCode, key_code}
 use Rattle.go_maps.specs.Maps.{map_in, or_none, entry_in, with_map}
 use Rattle.go_maps.specs.declared.entries.Slot.{Slot}

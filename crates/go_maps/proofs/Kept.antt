@@ -1,9 +1,9 @@
 -- What is kept of the entries of a map, as they change.
-use Rattle.std.proofs.Common.{◌≡◌, ◌<◌, ◌≤◌, ◌+◌, ◌-◌, ◌^◌, min, ℕ, zero, suc, ap, refl, sym, subst, ◌∙◌, inl, inr, ◌⊎◌, map, option_map, List, [], ◌∷◌, ◌++◌, drop, Option, Some, None, slice_get, slice_set, length, get_or, append_assoc, arith, add-one, Bool, true, false, true≢false, is_some}
+use Rattle.std.proofs.Common.{◌≡◌, ◌<◌, ◌≤◌, ◌+◌, ◌-◌, ◌^◌, min, ℕ, zero, suc, ap, refl, sym, subst, ◌∙◌, inl, inr, ◌⊎◌, map, option_map, List, [], ◌∷◌, ◌++◌, drop, Option, Some, None, slice_set, length, get_or, append_assoc, arith, add-one, true, false, true≢false, is_some}
 use Rattle.std.proofs.lemmas.List.{append-nil, drop_all, map-append, length-map, at_drop_more}
 use Rattle.go_value.specs.Values.{Val, value_of}
-use Rattle.go_maps.specs.Entries.{Map, Pair, pair_of, pair_made, numbered, entries_of, entry_at, entries_from, entries_in, numbers_from, numbers_in, changed, cleared, with_value, with_value_at, without_at, count_in, place_of_code}
-use Rattle.go_maps.specs.Found.{code_at, AreFound}
+use Rattle.go_maps.specs.Entries.{Map, pair_of, pair_made, numbered, entries_of, entries_from, numbers_from, changed, cleared, with_value, with_value_at, without_at, count_in, place_of_code}
+use Rattle.go_maps.specs.Found.{AreFound}
 use Rattle.go_maps.specs.Keys.{KeyCode, key_code}
 use Rattle.go_maps.specs.Places.{Changes}
 use Rattle.go_maps.specs.declared.entries.Slot.{Slot}

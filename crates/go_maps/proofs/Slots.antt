@@ -1,5 +1,5 @@
 -- Slots and the entries in them.
-use Rattle.std.proofs.Common.{◌≡◌, ℕ, zero, suc, ◌∙◌, ap, refl, sym, map, option_map, option_copied, List, [], ◌∷◌, ◌++◌, Option, Some, None, slice_get, slice_set, length, get_or, ◌<◌, Result, Ok, Err, OnOk, OnErr}
+use Rattle.std.proofs.Common.{◌≡◌, ℕ, zero, suc, ◌∙◌, ap, refl, sym, map, List, [], ◌∷◌, Some, None, slice_get, slice_set, length, get_or, ◌<◌, Result, Ok, Err, OnOk, OnErr}
 use Rattle.std.proofs.lemmas.Option.{slice_get_read}
 use Rattle.go_maps.specs.Entries.{changed}
 

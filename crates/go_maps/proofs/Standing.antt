@@ -1,10 +1,10 @@
 -- Entries by the codes of their keys, and what changes of them do.
-use Rattle.std.proofs.Common.{◌≡◌, ◌≤◌, ◌+◌, ℕ, zero, suc, ap, refl, sym, subst, ◌∙◌, inl, inr, ◌⊎◌, map, option_map, List, [], ◌∷◌, ◌++◌, Bool, true, false, true≢false, cond, Option, Some, None, slice_get, slice_set, length, int_eq, bytes_eq, arith}
+use Rattle.std.proofs.Common.{◌≡◌, ◌≤◌, ◌+◌, ℕ, zero, suc, ap, refl, sym, subst, ◌∙◌, inl, inr, ◌⊎◌, option_map, [], ◌∷◌, ◌++◌, Bool, true, false, true≢false, cond, Option, Some, None, length, arith}
 use Rattle.std.specs.Cmp.Lexicographic.{bytes_decides}
 use Rattle.std.proofs.lemmas.Bool.{cases_eq}
 use Rattle.std.proofs.lemmas.Bool.Decides.{Decides-int_eq}
 use Rattle.go_value.specs.Values.{Val}
-use Rattle.go_maps.specs.Entries.{Map, Pair, entry_at, changed, with_value, with_value_at, without_at, cleared, count_in, same_code, has_code, place_of_code}
+use Rattle.go_maps.specs.Entries.{Map, Pair, changed, with_value_at, cleared, count_in, same_code, has_code, place_of_code}
 use Rattle.go_maps.specs.Found.{code_at, AreFound}
 use Rattle.go_maps.specs.Keys.{KeyCode, of_number, of_bytes, key_code}
 use Rattle.go_maps.specs.Places.{Changes}

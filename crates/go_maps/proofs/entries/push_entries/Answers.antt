@@ -1,5 +1,5 @@
-use Rattle.std.proofs.Common.{◌≡◌, ◌∙◌, ap, sym, refl, map, length, arith}
-use Rattle.go_maps.specs.Entries.{entries_in, entries_of, pair_made}
+use Rattle.std.proofs.Common.{◌∙◌}
+use Rattle.go_maps.specs.Entries.{entries_in, entries_of}
 use Rattle.go_maps.proofs.Kept.{listed_none, listed_next, listed_end}
 use Rattle.go_maps.proofs.entries.push_entries.Goals as goal
 use Rattle.go_maps.proofs.entries.push_entries.Goals.{in-Some+in_ok-copy+in_ok-push, in_default}

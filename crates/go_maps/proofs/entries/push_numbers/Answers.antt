@@ -1,4 +1,4 @@
-use Rattle.std.proofs.Common.{◌≡◌, ◌∙◌, ap, sym, refl, map, length, arith}
+use Rattle.std.proofs.Common.{◌∙◌, ap, sym}
 use Rattle.go_maps.specs.Entries.{numbers_in, entries_of}
 use Rattle.go_maps.proofs.Kept.{counted_some, counted_none, counted_end}
 use Rattle.go_maps.proofs.entries.push_numbers.Goals as goal

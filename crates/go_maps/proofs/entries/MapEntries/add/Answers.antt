@@ -1,4 +1,4 @@
-use Rattle.std.proofs.Common.{ap, sym, refl, ◌∙◌, arith, Some, List, Option, length, ◌<◌, ◌^◌}
+use Rattle.std.proofs.Common.{ap, sym, refl, ◌∙◌, arith, length, ◌<◌, ◌^◌}
 use Rattle.go_maps.specs.Entries.{entries_of, count_in, place_of_code}
 use Rattle.go_maps.specs.Places.{place_in, looked_up}
 use Rattle.go_maps.proofs.Kept.{added_found, added_live, not_added}

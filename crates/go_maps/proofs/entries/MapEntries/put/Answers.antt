@@ -1,4 +1,4 @@
-use Rattle.std.proofs.Common.{ap, sym, ◌∙◌, Ok, Err, OnOk, Result}
+use Rattle.std.proofs.Common.{ap, sym, ◌∙◌}
 use Rattle.go_value.specs.Values.{value_of}
 use Rattle.go_maps.specs.Entries.{entries_of, place_of_code, with_pair_at}
 use Rattle.go_maps.proofs.Slots.{on_ok}

@@ -1,4 +1,4 @@
-use Rattle.std.proofs.Common.{ap, sym, ◌∙◌, slice_set}
+use Rattle.std.proofs.Common.{sym, slice_set}
 use Rattle.go_maps.specs.Entries.{entries_of}
 use Rattle.go_maps.specs.Places.{place_in, looked_up}
 use Rattle.go_maps.proofs.Kept.{none_gone, gone_found, gone_live, slot_opened, past_opened, none_without, gone_without}
