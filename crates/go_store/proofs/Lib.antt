@@ -7,3 +7,4 @@ pub mod Written
 pub mod Lengthened
 pub mod Overwritten
 pub mod Appended
+pub mod Spelled

@@ -1,4 +1,5 @@
 pub mod Arrays
 pub mod Cells
+pub mod Conversions
 pub mod Slices
 pub mod Stores
