@@ -7,3 +7,4 @@ pub mod ExprSteps
 pub mod StmtSteps
 pub mod TypeSteps
 pub mod Whole
+pub mod OfText
