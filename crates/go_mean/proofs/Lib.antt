@@ -1,1 +1,4 @@
 mod Outcomes
+mod Outputs
+mod StepOutputs
+mod Fronts

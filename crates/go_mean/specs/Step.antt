@@ -65,11 +65,19 @@ forks s true right false = puts_pieces s (evaluate right ∷ join ∷ [])
 forks s false right false = goes_as s (finding (truth false) s.frame)
 forks s false right true = puts_pieces s (evaluate right ∷ join ∷ [])
 
--- "Slice expressions"
+-- "Slice expressions": the bounds were found behind the operand
+abbrev pub cut_operand : Option ℕ → Option ℤ → Option ℤ → Option ℤ → Site → Next
+cut_operand len low high max s =
+    with_one s (λ it s. finds_value s (part_between len it (record { low = low; high = high; max = max })))
+
+abbrev pub cut_low : Option ℕ → Bool → Option ℤ → Option ℤ → Site → Next
+cut_low len has_low high max s = with_bound has_low s (λ low s. cut_operand len low high max s)
+
+abbrev pub cut_high : Option ℕ → Bool → Bool → Option ℤ → Site → Next
+cut_high len has_low has_high max s = with_bound has_high s (λ high s. cut_low len has_low high max s)
+
 abbrev pub cuts : Site → Bool → Bool → Bool → Option ℕ → Next
-cuts s has_low has_high has_max len =
-    with_bound has_max s (λ max s. with_bound has_high s (λ high s. with_bound has_low s (λ low s.
-    with_one s (λ it s. finds_value s (part_between len it (record { low = low; high = high; max = max }))))))
+cuts s has_low has_high has_max len = with_bound has_max s (λ max s. cut_high len has_low has_high max s)
 
 -- "Type assertions"
 abbrev pub asserts : Site → TypeId → Bool → Val → Comes Val

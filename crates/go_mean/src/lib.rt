@@ -4,4 +4,4 @@
 
 mod laws;
 
-pub use laws::{one_meaning, one_record};
+pub use laws::{fronts_stand, one_meaning, one_record};

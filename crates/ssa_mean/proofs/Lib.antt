@@ -1,7 +1,7 @@
 pub mod Outcomes
 mod HandMade
 mod Tied
-mod Outputs
+pub mod Outputs
 mod Fronts
 mod Sampled
 mod Slotted

@@ -52,7 +52,7 @@ use Rattle.ssa_mean.specs.Ranges.{ranged, next_turn}
 abbrev pub Stands : List ℕ → List ℕ → Type 0
 Stands out more = (rest : List ℕ) × (more ≡ out ++ rest)
 
-stays : (out : List ℕ) → Stands out out
+pub stays : (out : List ℕ) → Stands out out
 stays out = ([], sym (append-nil out))
 
 pub stands_on : (a b c : List ℕ) → Stands a b → Stands b c → Stands a c
