@@ -1,7 +1,6 @@
 -- What a run has written on its way stands first in what it writes in all.
 use Rattle.std.proofs.Common.{◌≡◌, ℕ, zero, suc, List, [], sym, ap, subst}
 use Rattle.go_base.specs.declared.ending.Ending.{Ending}
-use Rattle.go_tree.specs.declared.program.Program.{Program}
 use Rattle.ssa_mean.proofs.Outputs.{Stands, stands_on}
 use Rattle.go_mean.specs.Runs.{steps, then_step, setting_of, FrontsStand}
 use Rattle.go_mean.specs.State.{Setting, Machine, Next, goes, ends, stuck}

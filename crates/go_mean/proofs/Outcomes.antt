@@ -1,10 +1,9 @@
 -- Two runs come to one end.
-use Rattle.std.proofs.Common.{◌≡◌, ℕ, zero, suc, List, [], Option, Some, refl, sym, ◌∙◌, ap, subst}
+use Rattle.std.proofs.Common.{◌≡◌, ℕ, zero, suc, List, Option, Some, sym, ◌∙◌, ap, subst}
 use Rattle.go_base.specs.declared.ending.Ending.{Ending}
 use Rattle.go_tree.specs.declared.program.Program.{Program}
 use Rattle.ssa_mean.proofs.Outcomes.{same_answers}
-use Rattle.ssa_mean.specs.Answers.{Answers}
-use Rattle.go_mean.specs.Runs.{Run, IsMeaning, HasTaken, HasCalled, OneMeaning, OneRecord, first_machine, steps, then_step, setting_of, led_to}
+use Rattle.go_mean.specs.Runs.{Run, HasTaken, HasCalled, OneMeaning, OneRecord, first_machine, steps, then_step, setting_of, led_to}
 use Rattle.go_mean.specs.State.{Setting, CallOf, Machine, Next, goes, ends, stuck}
 use Rattle.go_mean.specs.Step.{step}
 

@@ -1,62 +1,37 @@
 -- What was written stays: a step writes behind it.
-use Rattle.std.proofs.Common.{◌≡◌, ℕ, zero, suc, ◌++◌, Bool, true, false, List, [], ◌∷◌, Option, Some, None, refl, sym, subst}
-use Rattle.std.specs.Prelude.{if◌then◌else◌, option_map, ℤ, pos, reverse, Result, Ok, Err, is_some, take, drop, length, nat_le, slice_get}
+use Rattle.std.proofs.Common.{◌≡◌, ℕ, zero, suc, Bool, true, false, List, [], ◌∷◌, Option, Some, None, refl, subst}
+use Rattle.std.specs.Prelude.{if◌then◌else◌, option_map, ℤ, reverse, Result, Ok, Err, is_some, take, drop, length, nat_le}
 use Rattle.std.specs.Option.{option_and_then}
 use Rattle.go_base.specs.declared.ending.Ending.{Ending}
 use Rattle.go_base.specs.declared.ending.Ending.TheVariants as ending
 use Rattle.go_base.specs.declared.ids.FuncId.{FuncId}
 use Rattle.go_base.specs.declared.ids.GoId.{GoId}
-use Rattle.go_base.specs.declared.ids.NameId.{NameId}
 use Rattle.go_base.specs.declared.ids.TypeId.{TypeId}
-use Rattle.go_base.specs.declared.ids.VarId.{VarId}
-use Rattle.go_base.specs.declared.place.Pos.{Pos}
 use Rattle.go_sched.specs.Operations.{Woken, Answer, Outcome, done, default, blocks, sends, receives, closes, selects}
 use Rattle.go_sched.specs.declared.scheduling.Point.{Point}
 use Rattle.go_sched.specs.declared.scheduling.Point.TheVariants as point
-use Rattle.go_tree.specs.declared.exprs.TypedExpr.{TypedExpr}
 use Rattle.go_tree.specs.declared.functions.FunctionDecl.{FunctionDecl}
 use Rattle.go_tree.specs.declared.functions.FunctionForm.{FunctionForm}
 use Rattle.go_tree.specs.declared.functions.FunctionForm.TheVariants as form
 use Rattle.go_tree.specs.declared.program.Body.{Body}
 use Rattle.go_tree.specs.declared.program.Program.{Program}
-use Rattle.go_tree.specs.declared.stmts.Comm.{Comm}
-use Rattle.go_tree.specs.declared.stmts.Comm.TheVariants as comm
-use Rattle.go_tree.specs.declared.stmts.RangeOver.{RangeOver}
-use Rattle.go_tree.specs.declared.stmts.RangeOver.TheVariants as over_of
 use Rattle.go_tree.specs.declared.stmts.SelectClause.{SelectClause}
-use Rattle.go_tree.specs.declared.stmts.TypeCase.{TypeCase}
-use Rattle.go_tree.specs.declared.stmts.TypeClause.{TypeClause}
-use Rattle.go_tree.specs.declared.stmts.TypedArm.{TypedArm}
-use Rattle.go_tree.specs.declared.stmts.TypedBlock.{TypedBlock}
-use Rattle.go_tree.specs.declared.stmts.TypedCase.{TypedCase}
-use Rattle.go_tree.specs.declared.stmts.TypedClause.{TypedClause}
-use Rattle.go_tree.specs.declared.stmts.TypedStmt.{TypedStmt}
-use Rattle.go_type.specs.declared.operators.Builtin.TheVariants as builtin
 use Rattle.go_value.specs.Values.{Val, Typed}
 use Rattle.go_value.specs.Values as vals
 use Rattle.go_value.specs.declared.address.Pointer.{Pointer}
 use Rattle.go_value.specs.declared.faults.Fault.{Fault}
 use Rattle.go_value.specs.declared.faults.Fault.TheVariants as fault
-use Rattle.ssa_mean.proofs.Outputs.{Stands, stays, stands_on}
-use Rattle.ssa_mean.specs.BuiltIns.{Done, built_in_call}
+use Rattle.ssa_mean.proofs.Outputs.{Stands, stays}
 use Rattle.ssa_mean.specs.Comes.{Comes, to, faults, nowhere}
 use Rattle.ssa_mean.specs.Conversions.{Stores}
-use Rattle.ssa_mean.specs.Making.{Channels}
-use Rattle.ssa_mean.specs.State.{BuiltIn, plain, FrameState, running, returning, panicking, Thrown}
+use Rattle.ssa_mean.specs.State.{Thrown}
 use Rattle.go_mean.specs.Calls as calls_of
 use Rattle.go_mean.specs.Calls.{Selected, enters}
 use Rattle.go_mean.specs.Channels as chans_of
-use Rattle.go_mean.specs.Expressions.{Opened, puts, finds}
 use Rattle.go_mean.specs.Flow as flow_of
 use Rattle.go_mean.specs.Places.{Changed}
-use Rattle.go_mean.specs.Ranges.{Taken, Sought, is_taken, is_over, asks, is_lost}
-use Rattle.go_mean.specs.Returns as returns_of
 use Rattle.go_mean.specs.State as parts
 use Rattle.go_mean.specs.State.{Setting, Manner, Called, Callee, Readied, RangeLoop, Ranging, Loop, Test, Choosing, Piece, Later, Frame, Goroutine, Machine, Next, goes, ends, stuck, where_there, current, with_current, with_frames, Site, with_frame, goes_as, finding}
-use Rattle.go_mean.specs.Statements as begun_of
-use Rattle.go_mean.specs.Statements.{Begun}
-use Rattle.go_mean.specs.Step as step_of
-use Rattle.go_mean.specs.Step.{step, acts, continues}
 use Rattle.go_mean.specs.Taking as taking_of
 use Rattle.go_mean.specs.Unwinding as unwinding_of
 

@@ -1,11 +1,10 @@
 -- Calls. Go specification, "Calls", "Method sets", "Method values", "Method expressions", "Defer statements", "Go
 -- statements" and "Return statements".
-use Rattle.std.specs.Prelude.{ℕ, zero, suc, ◌==◌, ◌&&◌, Bool, true, false, not, List, [], ◌∷◌, ◌++◌, map, pos}
+use Rattle.std.specs.Prelude.{ℕ, zero, suc, ◌==◌, ◌&&◌, Bool, true, false, not, List, [], ◌∷◌, ◌++◌, pos}
 use Rattle.std.specs.Prelude.{Option, Some, None, nat_le, length, slice_get, unsigned_abs, if◌then◌else◌, codes}
-use Rattle.std.specs.Prelude.{option_map}
 use Rattle.std.specs.Int.{int_rem_euclid}
 use Rattle.std.specs.List.{filter}
-use Rattle.std.specs.Option.{option_and_then, option_map_or, option_flatten}
+use Rattle.std.specs.Option.{option_and_then, option_flatten}
 use Rattle.std.specs.Str.{bytes_eq}
 use Rattle.go_base.specs.declared.ending.Ending.TheVariants as ending
 use Rattle.go_base.specs.declared.ids.FuncId.{FuncId}
@@ -48,12 +47,12 @@ use Rattle.ssa_mean.specs.Operands.{under_in}
 use Rattle.ssa_mean.specs.Places.{load, followed}
 use Rattle.ssa_mean.specs.State.{running}
 use Rattle.tree_facts.specs.FunctionNames.{function_text}
-use Rattle.go_mean.specs.Places.{Changed, begun, begun_zeros, bound as binds, zero_of_variable}
-use Rattle.go_mean.specs.State.{Setting, Callee, of_function, of_method, of_expression, of_built_in, of_nil, Readied}
-use Rattle.go_mean.specs.State.{CallOf, Later, rest, initialise, start, Binding, Held, in_cell, Frame, Goroutine}
+use Rattle.go_mean.specs.Places.{Changed, begun, begun_zeros, bound as binds}
+use Rattle.go_mean.specs.State.{Setting, Callee, of_function, of_method, of_expression, of_nil, Readied}
+use Rattle.go_mean.specs.State.{Later, rest, initialise, start, Binding, in_cell, Frame, Goroutine}
 use Rattle.go_mean.specs.State.{Machine}
 use Rattle.go_mean.specs.State.{Next, goes, ends, stuck, where_there, current, with_frames}
-use Rattle.go_mean.specs.Unwinding.{function_at, is_source, naming_of, meets, spends, switches}
+use Rattle.go_mean.specs.Unwinding.{is_source, naming_of, meets, spends, switches}
 
 -- ---- "Method sets": the method of a name, at the shallowest depth where there is one
 

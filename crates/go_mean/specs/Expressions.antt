@@ -1,12 +1,11 @@
 -- Expressions: what is put in the place of one, and what is made of the values of its operands, which are
 -- evaluated from left to right. Go specification, "Expressions" and "Order of evaluation".
-use Rattle.std.specs.Prelude.{ℕ, zero, suc, ◌+◌, ◌*◌, Bool, true, false, List, [], ◌∷◌, ◌++◌, map, reverse, ℤ, pos}
+use Rattle.std.specs.Prelude.{ℕ, zero, suc, ◌+◌, ◌*◌, Bool, true, false, List, [], ◌∷◌, ◌++◌, map}
 use Rattle.std.specs.Prelude.{Option, Some, None, length, slice_get, is_some, replicate, if◌then◌else◌, option_map}
 use Rattle.std.specs.List.{flat_map}
 use Rattle.std.specs.Option.{option_and_then}
 use Rattle.std.specs.Global.{Box}
 use Rattle.go_base.specs.declared.ids.FuncId.{FuncId}
-use Rattle.go_base.specs.declared.ids.NameId.{NameId}
 use Rattle.go_base.specs.declared.ids.TypeId.{TypeId}
 use Rattle.go_base.specs.declared.ids.VarId.{VarId}
 use Rattle.go_base.specs.declared.place.Pos.{Pos}
@@ -21,7 +20,6 @@ use Rattle.go_tree.specs.declared.exprs.Elements.{Elements}
 use Rattle.go_tree.specs.declared.exprs.EntryInit.{EntryInit}
 use Rattle.go_tree.specs.declared.exprs.ExprKind.{ExprKind}
 use Rattle.go_tree.specs.declared.exprs.FieldInit.{FieldInit}
-use Rattle.go_tree.specs.declared.exprs.IndexBase.{IndexBase}
 use Rattle.go_tree.specs.declared.exprs.IndexBase.TheVariants as index_base
 use Rattle.go_tree.specs.declared.exprs.ItemInit.{ItemInit}
 use Rattle.go_tree.specs.declared.exprs.Method.{Method}
@@ -51,7 +49,7 @@ use Rattle.ssa_mean.specs.Comes.{Comes, to, faults, nowhere, and_then, then_to, 
 use Rattle.ssa_mean.specs.Conversions.{Stores, kept, conversion}
 use Rattle.ssa_mean.specs.Making.{leaves_of, value_or}
 use Rattle.ssa_mean.specs.MapCalls.{looked_up, updated, made_map}
-use Rattle.ssa_mean.specs.Operands.{under_in, base_of, length_in, element_in}
+use Rattle.ssa_mean.specs.Operands.{under_in, base_of, length_in}
 use Rattle.ssa_mean.specs.Places.{load, index_of, index_address, new_pointer}
 use Rattle.ssa_mean.specs.State.{BuiltIn, appends_items, appends_slice, clears_slice, plain}
 use Rattle.go_mean.specs.Calls.{body_at}

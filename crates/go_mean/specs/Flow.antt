@@ -1,11 +1,10 @@
 -- Where statements lead: conditions, clauses, loops and their turns. Go specification, "If statements", "Switch
 -- statements", "For statements", "Select statements" and "Terminating statements".
-use Rattle.std.specs.Prelude.{ℕ, zero, suc, Bool, true, false, List, [], ◌∷◌, ◌++◌, map, drop, pos, Option, Some, None}
-use Rattle.std.specs.Prelude.{take, reverse, length, is_some, if◌then◌else◌, option_map}
+use Rattle.std.specs.Prelude.{Bool, true, false, List, [], ◌∷◌, ◌++◌, map, drop, Option, Some, None}
+use Rattle.std.specs.Prelude.{take, reverse, length, is_some, if◌then◌else◌}
 use Rattle.std.specs.List.{flat_map}
 use Rattle.go_base.specs.declared.ids.TypeId.{TypeId}
 use Rattle.go_base.specs.declared.ids.VarId.{VarId}
-use Rattle.go_store.specs.Cells.{value_at}
 use Rattle.go_tree.specs.declared.exprs.TypedExpr.{TypedExpr}
 use Rattle.go_tree.specs.declared.program.Program.{Program}
 use Rattle.go_tree.specs.declared.stmts.Comm.{Comm}
@@ -14,7 +13,6 @@ use Rattle.go_tree.specs.declared.stmts.RangeOver.{RangeOver}
 use Rattle.go_tree.specs.declared.stmts.RangeOver.TheVariants as over_of
 use Rattle.go_tree.specs.declared.stmts.ReceiveInto.{ReceiveInto}
 use Rattle.go_tree.specs.declared.stmts.ReceiveInto.TheVariants as into_of
-use Rattle.go_tree.specs.declared.stmts.SelectClause.{SelectClause}
 use Rattle.go_tree.specs.declared.stmts.TypeCase.{TypeCase}
 use Rattle.go_tree.specs.declared.stmts.TypeCase.TheVariants as type_case
 use Rattle.go_tree.specs.declared.stmts.TypeClause.{TypeClause}
@@ -24,15 +22,15 @@ use Rattle.go_tree.specs.declared.stmts.TypedCase.{TypedCase}
 use Rattle.go_tree.specs.declared.stmts.TypedClause.{TypedClause}
 use Rattle.go_tree.specs.declared.stmts.TypedStmt.{TypedStmt}
 use Rattle.go_type.specs.declared.operators.CompareOp.TheVariants as comparison
-use Rattle.go_value.specs.Interfaces.{converted, is_interface_type}
-use Rattle.go_value.specs.Values.{Val, Typed, truth, nil_interface, parts, none}
+use Rattle.go_value.specs.Interfaces.{converted}
+use Rattle.go_value.specs.Values.{Val, Typed, truth, nil_interface}
 use Rattle.ssa_mean.specs.Arithmetic.{comparison_of}
 use Rattle.ssa_mean.specs.Comes.{Comes, to, faults, nowhere, and_then, then_to, where_some, of_result}
 use Rattle.ssa_mean.specs.Making.{held_as, pair_of}
 use Rattle.go_mean.specs.Channels.{received, with_sched}
-use Rattle.go_mean.specs.Places.{Changed, begun, begun_zeros, held_of, set_variable, value_in, bound}
+use Rattle.go_mean.specs.Places.{Changed, begun, begun_zeros, held_of, value_in}
 use Rattle.go_mean.specs.Ranges.{loop_variables, begins_range, Taken, Sought, is_taken, is_over, asks, is_lost, sought}
-use Rattle.go_mean.specs.Ranges.{turn_pieces, turn_pair, asked_of}
+use Rattle.go_mean.specs.Ranges.{turn_pieces, asked_of}
 use Rattle.go_mean.specs.State.{Setting, Turned, RangeLoop, Ranging, Loop, Test, Choosing, Piece, evaluate, receive}
 use Rattle.go_mean.specs.State.{put}
 use Rattle.go_mean.specs.State.{Into, Held, in_cell, as_value, Binding, pick_default, pick_type_default, widen}
@@ -45,11 +43,11 @@ use Rattle.go_mean.specs.State.{finding}
 use Rattle.go_mean.specs.State as pieces
 use Rattle.go_mean.specs.Statements.{Begun, does, opens, breaks, continues, falls_through, begins_nothing, put_all}
 use Rattle.go_mean.specs.Statements.{into_define, into_target, target_operands, arm_pieces, block_in, tests_from}
-use Rattle.go_mean.specs.Statements.{type_tests_from, post_pieces, broken_to, continued_to, fallen_to, initialises}
+use Rattle.go_mean.specs.Statements.{type_tests_from, post_pieces, broken_to, continued_to, fallen_to}
 use Rattle.go_mean.specs.Statements.{begun as begun_statement}
-use Rattle.go_mean.specs.Taking.{with_one, with_two, puts_pieces, finds_value, changes, at_store, program_of, types_of}
+use Rattle.go_mean.specs.Taking.{with_one, puts_pieces, finds_value, at_store, program_of, types_of}
 use Rattle.go_mean.specs.Taking.{store_of}
-use Rattle.go_mean.specs.Unwinding.{meets, spends}
+use Rattle.go_mean.specs.Unwinding.{meets}
 
 -- the frame with what is left to do behind the statement
 abbrev pub goes_later : Site → List Later → Next

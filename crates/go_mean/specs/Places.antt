@@ -1,11 +1,10 @@
 -- Variables, and places that are read and assigned to. Go specification, "Variables", "Address operators" and
 -- "Assignment statements".
-use Rattle.std.specs.Prelude.{ℕ, zero, suc, ◌+◌, ◌==◌, Bool, true, false, List, [], ◌∷◌, ◌++◌, ℤ, Option, Some}
-use Rattle.std.specs.Prelude.{None, length, slice_get, take, reverse, is_none, if◌then◌else◌, option_map}
+use Rattle.std.specs.Prelude.{ℕ, suc, ◌+◌, ◌==◌, Bool, List, [], ◌∷◌, ◌++◌, Option, Some}
+use Rattle.std.specs.Prelude.{None, length, slice_get, take, is_none, if◌then◌else◌, option_map}
 use Rattle.std.specs.List.{filter}
 use Rattle.std.specs.Option.{option_and_then, option_map_or}
 use Rattle.go_base.specs.declared.ids.FuncId.{FuncId}
-use Rattle.go_base.specs.declared.ids.NameId.{NameId}
 use Rattle.go_base.specs.declared.ids.TypeId.{TypeId}
 use Rattle.go_base.specs.declared.ids.VarId.{VarId}
 use Rattle.go_store.specs.Slices.{element_of}
@@ -22,9 +21,8 @@ use Rattle.go_value.specs.Address.{part_of}
 use Rattle.go_value.specs.Texts.{place_at}
 use Rattle.go_value.specs.Values.{Val, number, pointer, slice, map_number}
 use Rattle.go_value.specs.declared.address.Pointer.{Pointer}
-use Rattle.go_value.specs.declared.faults.Fault.TheVariants as fault
 use Rattle.ssa_mean.specs.Answers.{Answers}
-use Rattle.ssa_mean.specs.Comes.{Comes, to, faults, nowhere, and_then, then_to, where_some, of_option, of_result}
+use Rattle.ssa_mean.specs.Comes.{Comes, to, nowhere, and_then, then_to, where_some, of_option, of_result}
 use Rattle.ssa_mean.specs.MapCalls.{looked_up, updated}
 use Rattle.ssa_mean.specs.Operands.{under_in, length_in, element_in}
 use Rattle.ssa_mean.specs.Places.{followed, load, assigned, new_pointer}

@@ -1,8 +1,6 @@
 -- Ranges. Go specification, "For statements with range clause".
 use Rattle.std.specs.Prelude.{ℕ, suc, Bool, true, false, List, [], ◌∷◌, ◌++◌, map, ℤ, pos, negsuc, Option, Some, None}
 use Rattle.std.specs.Prelude.{nat_lt, length, if◌then◌else◌, option_map}
-use Rattle.std.specs.Option.{option_and_then}
-use Rattle.go_base.specs.declared.ids.FuncId.{FuncId}
 use Rattle.go_base.specs.declared.ids.TypeId.{TypeId}
 use Rattle.go_base.specs.declared.ids.VarId.{VarId}
 use Rattle.go_sched.specs.Goroutines.{State}
@@ -16,17 +14,17 @@ use Rattle.go_tree.specs.declared.stmts.RangeTargets.TheVariants as targets_of
 use Rattle.go_tree.specs.declared.stmts.Target.{Target}
 use Rattle.go_tree.specs.declared.stmts.Target.TheVariants as target
 use Rattle.go_value.specs.Address.{part_of}
-use Rattle.go_value.specs.Values.{Val, number, text, slice, pointer, parts, text_range, map_range, nil_interface}
+use Rattle.go_value.specs.Values.{Val, number, slice, pointer, parts, text_range, map_range, nil_interface}
 use Rattle.ssa_mean.specs.Comes.{Comes, to, nowhere, and_then, then_to, of_option}
 use Rattle.ssa_mean.specs.Making.{pair_of}
 use Rattle.ssa_mean.specs.MapCalls.{entries_of}
 use Rattle.ssa_mean.specs.Places.{load, followed, index_address}
 use Rattle.ssa_mean.specs.Ranges.{Turn, range_of, text_turn, turn_among, standing}
 use Rattle.go_mean.specs.Expressions.{pointed_length}
-use Rattle.go_mean.specs.Places.{Changed, begun_zero, array_length}
-use Rattle.go_mean.specs.State.{Into, at_place, at_new, Piece, evaluate, put, begin_body, turn_values, RangeLoop}
+use Rattle.go_mean.specs.Places.{array_length}
+use Rattle.go_mean.specs.State.{Into, at_new, Piece, evaluate, begin_body, turn_values, RangeLoop}
 use Rattle.go_mean.specs.State.{Ranging}
-use Rattle.go_mean.specs.State.{counting, producing, receiving, Turned, at_index, produced, received, Binding}
+use Rattle.go_mean.specs.State.{counting, producing, receiving, Turned, at_index, produced, received}
 use Rattle.go_mean.specs.Statements.{into_target, into_old, target_operands, put_all}
 
 -- ---- a range begins: how many turns there are over an array, a slice or an integer is known then

@@ -1,8 +1,7 @@
 -- Calls that pieces make, what a return gives, and what a frame does that returns or panics. Go specification, "Calls",
 -- "Return statements", "Defer statements", "Go statements", "Built-in functions" and "Handling panics".
-use Rattle.std.specs.Prelude.{ℕ, suc, ◌==◌, Bool, true, false, List, [], ◌∷◌, ◌++◌, reverse, Option, Some, None}
-use Rattle.std.specs.Prelude.{if◌then◌else◌, option_map}
-use Rattle.std.specs.Option.{option_and_then, option_map_or}
+use Rattle.std.specs.Prelude.{ℕ, ◌==◌, Bool, true, false, List, [], ◌∷◌, ◌++◌, reverse, Option, Some, None}
+use Rattle.std.specs.Prelude.{if◌then◌else◌}
 use Rattle.go_base.specs.declared.ending.Ending.TheVariants as ending
 use Rattle.go_base.specs.declared.ids.FuncId.{FuncId}
 use Rattle.go_base.specs.declared.ids.NameId.{NameId}
@@ -17,16 +16,16 @@ use Rattle.go_value.specs.declared.faults.Fault.TheVariants as fault
 use Rattle.ssa_mean.specs.BuiltIns.{Done, built_in_call}
 use Rattle.ssa_mean.specs.Calls.{results_of}
 use Rattle.ssa_mean.specs.Comes.{Comes, to, faults, nowhere, and_then, then_to}
-use Rattle.ssa_mean.specs.State.{BuiltIn, plain, FrameState, running, returning, panicking}
+use Rattle.ssa_mean.specs.State.{BuiltIn, plain, FrameState, returning, panicking}
 use Rattle.go_mean.specs.Calls.{body_at, called_value, with_callee, wanted, selected, selected_of, calls, calls_method}
 use Rattle.go_mean.specs.Calls.{with_new, starts_with}
 use Rattle.go_mean.specs.Channels.{closes_of}
 use Rattle.go_mean.specs.Places.{Changed, set_variable, value_of}
 use Rattle.go_mean.specs.State.{Setting, Called, by_function, by_method, by_value, Manner, at_once, deferring, going}
 use Rattle.go_mean.specs.State.{Callee, of_function, of_method, of_expression, of_built_in, of_nil, Readied, Frame}
-use Rattle.go_mean.specs.State.{Goroutine, Machine, Next, goes, ends, stuck, where_there, current, with_current}
+use Rattle.go_mean.specs.State.{Goroutine, Machine, Next, goes, ends, stuck, where_there, with_current}
 use Rattle.go_mean.specs.State.{with_frames, Site, with_frame, goes_as, finding}
-use Rattle.go_mean.specs.Taking.{with_one, with_last, at_store, program_of, store_of}
+use Rattle.go_mean.specs.Taking.{with_one, at_store, program_of, store_of}
 use Rattle.go_mean.specs.Unwinding.{function_at, meets, panics_with, throws_from, switches, may_recover, recovered}
 use Rattle.go_mean.specs.Unwinding.{recovering}
 

@@ -1,6 +1,6 @@
 -- The state of a run of a program: goroutines of frames, what they share, and what is left of the choices and
 -- the ticks. A frame holds what is still to be done of its body, one piece of syntax after another.
-use Rattle.std.specs.Prelude.{ℕ, List, [], ◌∷◌, Option, Some, None, Bool, slice_get, slice_set}
+use Rattle.std.specs.Prelude.{ℕ, List, ◌∷◌, Option, Some, None, Bool, slice_get, slice_set}
 use Rattle.go_base.specs.declared.ending.Ending.{Ending}
 use Rattle.go_base.specs.declared.ids.FuncId.{FuncId}
 use Rattle.go_base.specs.declared.ids.NameId.{NameId}

@@ -1,6 +1,6 @@
 -- Statements: what is put in the place of one. Go specification, "Statements".
-use Rattle.std.specs.Prelude.{ℕ, zero, suc, ◌+◌, Bool, true, false, List, [], ◌∷◌, ◌++◌, map, reverse, drop}
-use Rattle.std.specs.Prelude.{Option, Some, None, length, slice_get, option_map}
+use Rattle.std.specs.Prelude.{ℕ, zero, suc, ◌+◌, Bool, true, false, List, [], ◌∷◌, ◌++◌, map}
+use Rattle.std.specs.Prelude.{Option, Some, None, option_map}
 use Rattle.std.specs.List.{flat_map}
 use Rattle.std.specs.Option.{option_map_or}
 use Rattle.std.specs.Global.{Box}
@@ -42,13 +42,11 @@ use Rattle.ssa_ir.specs.declared.ops.Infix.TheVariants as infix_of
 use Rattle.go_mean.specs.Expressions.{values_pieces, calling_in, call_with, built_in_of}
 use Rattle.go_mean.specs.Places.{shape, count_into, rooted_at, variable_at}
 use Rattle.go_mean.specs.State.{Into, at_place, at_new, at_blank, of_variable, Manner, deferring, going, Loop}
-use Rattle.go_mean.specs.State.{RangeLoop}
-use Rattle.go_mean.specs.State.{Test, Choosing, Piece, evaluate, operands, binary, simple, send, put, put_zero, get}
+use Rattle.go_mean.specs.State.{Test, Piece, evaluate, operands, binary, simple, send, put, put_zero, get}
 use Rattle.go_mean.specs.State.{give}
 use Rattle.go_mean.specs.State.{branch, hold_tag, no_tag, hold_operand, enter_loop, enter_range, select, Later, rest}
 use Rattle.go_mean.specs.State.{leave}
-use Rattle.go_mean.specs.State.{drop as drops, leave_clause, cases, type_cases, again, behind_body, turn, next_turn}
-use Rattle.go_mean.specs.State.{initialise, start}
+use Rattle.go_mean.specs.State.{drop as drops, leave_clause, behind_body, next_turn}
 
 -- what stands for a statement: pieces, and what is left to do behind them; a statement that leaves others
 pub data Begun : Type 0 where

@@ -1,15 +1,14 @@
 -- One step of a run: a piece of what the frame that runs is still to do, or what a frame that returns or
 -- panics does, or what a goroutine without frames does. Each piece stands for what the Go specification says of the
 -- form that put it.
-use Rattle.std.specs.Prelude.{ℕ, ◌==◌, Bool, true, false, List, [], ◌∷◌, ◌++◌, map, reverse, take, drop, length, ℤ, pos}
-use Rattle.std.specs.Prelude.{Option, Some, None, nat_le, if◌then◌else◌}
-use Rattle.std.specs.Option.{option_and_then}
+use Rattle.std.specs.Prelude.{ℕ, Bool, true, false, List, [], ◌∷◌, ◌++◌, reverse, take, drop, length, ℤ, pos}
+use Rattle.std.specs.Prelude.{Option, Some, None}
 use Rattle.go_base.specs.declared.ids.TypeId.{TypeId}
 use Rattle.go_base.specs.declared.ids.VarId.{VarId}
 use Rattle.go_store.specs.Cells.{value_at}
 use Rattle.go_tree.specs.declared.exprs.TypedExpr.{TypedExpr}
 use Rattle.go_value.specs.Interfaces.{converted}
-use Rattle.go_value.specs.Values.{Val, truth, number, pointer, map_number, closure}
+use Rattle.go_value.specs.Values.{Val, truth, number, pointer, map_number}
 use Rattle.ssa_mean.specs.Arithmetic.{binary, unary_of}
 use Rattle.ssa_mean.specs.Comes.{Comes, to, faults, nowhere, then_to, where_some, of_option, of_result}
 use Rattle.ssa_mean.specs.Conversions.{Stores, kept}

@@ -1,15 +1,14 @@
 -- How a piece takes the values that were found, and what it leaves.
-use Rattle.std.specs.Prelude.{ℕ, zero, suc, Bool, true, false, List, [], ◌∷◌, ◌++◌, reverse, take, drop, ℤ, pos}
+use Rattle.std.specs.Prelude.{ℕ, Bool, true, false, List, [], ◌∷◌, ◌++◌, reverse, take, drop, ℤ}
 use Rattle.std.specs.Prelude.{Option, Some, None, nat_le, length, if◌then◌else◌}
-use Rattle.go_sched.specs.Goroutines.{State}
 use Rattle.go_store.specs.Stores.{Stored}
 use Rattle.go_tree.specs.declared.program.Program.{Program}
 use Rattle.go_type.specs.Table.{Table}
 use Rattle.go_value.specs.Values.{Val, number}
 use Rattle.ssa_mean.specs.Comes.{Comes, to, faults, nowhere}
-use Rattle.ssa_mean.specs.Conversions.{Stores, kept}
+use Rattle.ssa_mean.specs.Conversions.{Stores}
 use Rattle.go_mean.specs.Places.{Changed}
-use Rattle.go_mean.specs.State.{Site, Piece, Frame, Machine, Next, goes, stuck, goes_as, with_frame, finding}
+use Rattle.go_mean.specs.State.{Site, Piece, Machine, Next, stuck, goes_as, finding}
 use Rattle.go_mean.specs.Unwinding.{meets}
 
 -- ---- the values that were found

@@ -17,7 +17,7 @@ use Rattle.go_value.specs.Values.{Val, text, dynamic, nil_interface}
 use Rattle.go_value.specs.declared.faults.Fault.{Fault}
 use Rattle.go_value.specs.declared.faults.Fault.TheVariants as fault
 use Rattle.ssa_mean.specs.Faults.{value_text}
-use Rattle.ssa_mean.specs.State.{FrameState, panicking, Thrown, of_value, of_text}
+use Rattle.ssa_mean.specs.State.{panicking, Thrown, of_value, of_text}
 use Rattle.ssa_mean.specs.Unwinding.{recovered_state, recovered_value}
 use Rattle.value_texts.specs.Texts.{fault_string}
 use Rattle.go_mean.specs.State.{Setting, Frame, Goroutine, Machine, Next, goes, ends, where_there, current}
