@@ -5,3 +5,6 @@ pub mod Outputs
 mod Fronts
 mod Sampled
 mod Slotted
+mod Decoded
+mod Mapped
+mod Converted

@@ -1,6 +1,6 @@
 -- Operators. Go specification, "Arithmetic operators", "Comparison operators" and "Logical operators".
 use Rattle.std.specs.Prelude.{ℕ, ◌++◌, Bool, not, List, ℤ, pos, negsuc, ◌-ℤ◌, Option, Some, None}
-use Rattle.std.specs.Prelude.{Result, nat_lt, length, if◌then◌else◌}
+use Rattle.std.specs.Prelude.{Result}
 use Rattle.std.specs.Cmp.Lexicographic.{slice_cmp}
 use Rattle.std.specs.declared.cmp.Ordering.{Ordering}
 use Rattle.std.specs.Ordering.{nat_cmp, int_cmp, is_eq, is_ne, is_lt, is_le, is_gt, is_ge}
@@ -14,14 +14,14 @@ use Rattle.go_type.specs.declared.operators.CompareOp.TheVariants as comparison
 use Rattle.go_type.specs.declared.operators.UnaryOp.{UnaryOp}
 use Rattle.go_type.specs.declared.operators.UnaryOp.TheVariants as unary
 use Rattle.go_maps.specs.Equality.{compared}
+use Rattle.go_store.specs.Conversions.{within_limit}
 use Rattle.go_value.specs.Ints.{operated, shift_value, wrapped}
 use Rattle.go_value.specs.Values.{Val, truth, number, text}
 use Rattle.go_value.specs.declared.faults.Fault.{Fault}
-use Rattle.go_value.specs.declared.faults.Fault.TheVariants as fault
 use Rattle.ssa_ir.specs.declared.ops.Infix.{Infix}
 use Rattle.ssa_ir.specs.declared.ops.Infix.TheVariants as infix_of
 use Rattle.ssa_mean.specs.Answers.{Answers}
-use Rattle.ssa_mean.specs.Comes.{Comes, to, nowhere, faults, of_result, then_to}
+use Rattle.ssa_mean.specs.Comes.{Comes, to, nowhere, of_result, then_to}
 
 -- ---- integers: in the kind of the left operand
 
@@ -34,16 +34,10 @@ abbrev pub on_integers : Option IntKind → BinaryOp → ℤ → ℤ → Comes V
 on_integers None o a b = nowhere
 on_integers (Some kind) o a b = shifted_or_operated kind (shift_of o) (int_op_of o) a b
 
--- ---- strings: "String concatenation". One has at most 268,435,456 bytes
-
-abbrev pub most_bytes : ℕ
-most_bytes = 268435456
-
-abbrev pub within_limit : List ℕ → Comes (List ℕ)
-within_limit bytes = if nat_lt most_bytes (length bytes) then faults fault.TextTooLong else to bytes
+-- ---- strings: "String concatenation"
 
 abbrev pub on_texts : BinaryOp → List ℕ → List ℕ → Comes Val
-on_texts op.Add a b = then_to text (within_limit (a ++ b))
+on_texts op.Add a b = then_to text (of_result (within_limit (a ++ b)))
 on_texts _ a b = nowhere
 
 abbrev pub operation : Option IntKind → BinaryOp → Val → Val → Comes Val

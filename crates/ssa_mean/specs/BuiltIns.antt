@@ -1,12 +1,14 @@
 -- Built-in functions. Go specification, "Built-in functions".
 use Rattle.std.specs.Prelude.{ℕ, min, Bool, true, false, List, [], ◌∷◌, pos, int_lt, Option, Some, None}
-use Rattle.std.specs.Prelude.{length, take, replicate, if◌then◌else◌}
+use Rattle.std.specs.Prelude.{length, map, take, replicate, if◌then◌else◌}
 use Rattle.std.specs.Cmp.Lexicographic.{slice_cmp}
 use Rattle.std.specs.Ordering.{nat_cmp, is_lt}
 use Rattle.std.specs.Option.{option_map}
 use Rattle.go_base.specs.declared.ids.TypeId.{TypeId}
 use Rattle.go_sched.specs.Goroutines.{State, meant, queue_length, size_of}
+use Rattle.go_maps.specs.Entries.{cleared, count_in}
 use Rattle.go_store.specs.Arrays.{array_of}
+use Rattle.go_store.specs.Conversions.{numbers_of}
 use Rattle.go_store.specs.Slices.{later, has_room, elements_of, with_run_in, append_fault, appended_slice, grown_array}
 use Rattle.go_store.specs.Slices.{copy_count, copied}
 use Rattle.go_store.specs.Stores.{Stored, made}
@@ -25,9 +27,9 @@ use Rattle.ssa_ir.specs.declared.code.Function.{Function}
 use Rattle.ssa_ir.specs.declared.operands.Operand.{Operand}
 use Rattle.ssa_mean.specs.Answers.{Answers}
 use Rattle.ssa_mean.specs.Comes.{Comes, to, faults, nowhere, then_to, where_some, of_option}
-use Rattle.ssa_mean.specs.Conversions.{are_bytes, numbers_of}
+use Rattle.ssa_mean.specs.Conversions.{are_bytes}
 use Rattle.ssa_mean.specs.Making.{leaves_of}
-use Rattle.ssa_mean.specs.MapCalls.{entries_of, entry_numbers, changed_map, cleared, deleted}
+use Rattle.ssa_mean.specs.MapCalls.{entries_of, map_changed, deleted}
 use Rattle.ssa_mean.specs.Operands.{term_of, element_in}
 use Rattle.ssa_mean.specs.State.{BuiltIn, appends_items, appends_slice, appends_text, clears_slice, plain}
 use Rattle.ssa_mean.specs.Texts.{printed_all, printed_line}
@@ -116,7 +118,7 @@ append_items leaves store _ = nowhere
 
 abbrev pub append_all : ℕ → Stored → SliceValue → Val → Comes Done
 append_all leaves store it (slice more) = where_some (append leaves store it) (elements_of store more)
-append_all leaves store it (text bytes) = append leaves store it (numbers_of bytes)
+append_all leaves store it (text bytes) = append leaves store it (map number (numbers_of bytes))
 append_all leaves store it _ = nowhere
 
 abbrev pub append_elements : ℕ → Stored → List Val → Comes Done
@@ -138,7 +140,7 @@ copy_from store into (slice from) =
 copy_from store into (text bytes) =
     to (record {
       value = Some (number (pos (min into.len (length bytes))));
-      store = overwritten_from store into (take into.len (numbers_of bytes));
+      store = overwritten_from store into (take into.len (map number (numbers_of bytes)));
       written = [];
     })
 copy_from store into _ = nowhere
@@ -155,7 +157,7 @@ clear_slice store zero_value (slice it ∷ []) =
 clear_slice store zero_value _ = nowhere
 
 abbrev pub clear_map : Stored → List Val → Comes Done
-clear_map store (map_number id ∷ []) = to (changes (changed_map cleared store id))
+clear_map store (map_number id ∷ []) = to (changes (map_changed cleared store id))
 clear_map store _ = nowhere
 
 abbrev pub delete : Answers → Stored → List Val → Comes Done
@@ -167,7 +169,7 @@ delete answers store _ = nowhere
 abbrev pub length_of : Stored → State → Val → Option ℕ
 length_of store sched (slice it) = Some it.len
 length_of store sched (text bytes) = Some (length bytes)
-length_of store sched (map_number id) = Some (length (entry_numbers (entries_of store id)))
+length_of store sched (map_number id) = Some (count_in (entries_of store id))
 length_of store sched (chan_number id) = Some (queue_length (meant sched id))
 length_of store sched _ = None
 

@@ -1,10 +1,11 @@
 -- Conversions that change the value. Go specification, "Conversions between numeric types" and "Conversions to and from
 -- a string type".
-use Rattle.std.specs.Prelude.{ℕ, Bool, true, false, List, [], ◌∷◌, ◌++◌, map, ℤ, pos, Option, Some, None}
-use Rattle.std.specs.Prelude.{nat_lt, length, unsigned_abs, if◌then◌else◌}
+use Rattle.std.specs.Prelude.{ℕ, Bool, true, false, List, map, ℤ, Option, Some, None, length}
+use Rattle.std.specs.List.{flat_map}
 use Rattle.go_base.specs.declared.ids.TypeId.{TypeId}
 use Rattle.go_store.specs.Arrays.{array_of}
-use Rattle.go_store.specs.Slices.{elements_of, slice_of_new, most_leaves}
+use Rattle.go_store.specs.Conversions.{byte_of, rune_bytes, within_limit, numbers_of, new_slice}
+use Rattle.go_store.specs.Slices.{elements_of}
 use Rattle.go_store.specs.Stores.{Stored, made}
 use Rattle.go_type.specs.Kinds.{kind_of}
 use Rattle.go_type.specs.Table.{Table}
@@ -15,9 +16,7 @@ use Rattle.go_type.specs.declared.term.TypeTerm.TheVariants as term
 use Rattle.go_value.specs.Ints.{wrapped}
 use Rattle.go_value.specs.Runes as runes
 use Rattle.go_value.specs.Values.{Val, number, text, slice}
-use Rattle.go_value.specs.declared.faults.Fault.TheVariants as fault
-use Rattle.ssa_mean.specs.Arithmetic.{within_limit}
-use Rattle.ssa_mean.specs.Comes.{Comes, to, faults, nowhere, then_to, where_some}
+use Rattle.ssa_mean.specs.Comes.{Comes, to, nowhere, of_result, then_to, where_some}
 use Rattle.ssa_mean.specs.Operands.{under_in, element_in}
 use Rattle.ssa_mean.specs.Runes.{runes_of}
 
@@ -40,38 +39,24 @@ are_bytes types elem = is_byte_term (under_in types elem)
 
 -- ---- from a slice to a string
 
-abbrev pub byte_of : Val → List ℕ
-byte_of (number it) = unsigned_abs it ∷ []
-byte_of _ = []
-
-abbrev pub rune_bytes : Val → List ℕ
-rune_bytes (number it) = runes.rune_bytes it
-rune_bytes _ = []
-
-abbrev pub joined_of : (Val → List ℕ) → List Val → List ℕ
-joined_of bytes [] = []
-joined_of bytes (it ∷ items) = bytes it ++ joined_of bytes items
+-- the bytes of an element of a slice of bytes, or of code points
+abbrev pub spelling : Bool → Val → List ℕ
+spelling true = byte_of
+spelling false = rune_bytes
 
 abbrev pub text_of_items : Bool → List Val → Comes Val
-text_of_items true items = then_to text (within_limit (joined_of byte_of items))
-text_of_items false items = then_to text (within_limit (joined_of rune_bytes items))
+text_of_items bytes items = then_to text (of_result (within_limit (flat_map (spelling bytes) items)))
 
 -- ---- from a string to a slice: a new array, whose length is the capacity
 
-abbrev pub numbers_of : List ℕ → List Val
-numbers_of items = map (λ it. number (pos it)) items
-
-abbrev pub new_slice : Stored → List Val → Comes Stores
-new_slice store items =
-    if nat_lt most_leaves (length items) then faults fault.MakeSliceLen
-    else to (record {
-      value = slice (slice_of_new store (length items) (length items));
-      store = made store (array_of items);
-    })
+abbrev pub slice_of_ints : Stored → List ℤ → Comes Stores
+slice_of_ints store ints =
+    then_to (λ it. record { value = slice it; store = made store (array_of (map number ints)) })
+    (of_result (new_slice store (length ints)))
 
 abbrev pub slice_of_text : Stored → Bool → List ℕ → Comes Stores
-slice_of_text store true bytes = new_slice store (numbers_of bytes)
-slice_of_text store false bytes = new_slice store (numbers_of (runes_of bytes))
+slice_of_text store true bytes = slice_of_ints store (numbers_of bytes)
+slice_of_text store false bytes = slice_of_ints store (numbers_of (runes_of bytes))
 
 -- ---- from an integer: to one of another kind, or to the string of a code point
 

@@ -5,6 +5,7 @@ use Rattle.std.specs.List.{filter}
 use Rattle.std.specs.Option.{option_and_then}
 use Rattle.go_base.specs.declared.ids.MapId.{MapId}
 use Rattle.go_base.specs.declared.ids.TypeId.{TypeId}
+use Rattle.go_maps.specs.Entries.{entry_at, numbers_in}
 use Rattle.go_maps.specs.Maps.{Map}
 use Rattle.go_sched.specs.Choices.{chosen, picked}
 use Rattle.go_sched.specs.Goroutines.{State}
@@ -13,7 +14,7 @@ use Rattle.go_type.specs.declared.term.TypeTerm.{TypeTerm}
 use Rattle.go_type.specs.declared.term.TypeTerm.TheVariants as term
 use Rattle.go_value.specs.Values.{Val, none, part, truth, number, text, map_number, text_range, map_range, parts}
 use Rattle.ssa_ir.specs.declared.code.Code.{Code}
-use Rattle.ssa_mean.specs.MapCalls.{entries_of, entry_at, entry_numbers}
+use Rattle.ssa_mean.specs.MapCalls.{entries_of}
 use Rattle.ssa_mean.specs.Operands.{under}
 use Rattle.ssa_mean.specs.Runes.{first_rune}
 use Rattle.ssa_mean.specs.Zeros.{zero_where}
@@ -21,7 +22,7 @@ use Rattle.ssa_mean.specs.Zeros.{zero_where}
 -- the state of a range as it begins: of a map the entries that are there then, the last first
 abbrev pub range_of : Stored → Val → Option Val
 range_of store (text bytes) = Some (text_range bytes 0)
-range_of store (map_number id) = Some (map_range id (reverse (entry_numbers (entries_of store id))))
+range_of store (map_number id) = Some (map_range id (reverse (numbers_in (entries_of store id))))
 range_of store _ = None
 
 -- ---- a turn: whether there is one, its key or index, and its value

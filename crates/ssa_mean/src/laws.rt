@@ -8,7 +8,8 @@ ghost use Rattle.ssa_mean.specs.Runs.{OneOutcome, FrontsStand, IsRunOf};
 ghost use Rattle.ssa_mean.specs.Samples.{RunsTo, range_code, append_code, select_code, invoke_code, fault_code};
 ghost use Rattle.ssa_mean.specs.Samples.{exit_code, index_text};
 ghost use Rattle.ssa_mean.specs.Slots.{SlotsTell};
-ghost use Rattle.ssa_mean.specs.Ties.{PrintsAlike, PanicsAlike, AppendsOne};
+ghost use Rattle.ssa_mean.specs.Ties.{PrintsAlike, PanicsAlike, AppendsOne, FirstRuneOne, RunesOne};
+ghost use Rattle.ssa_mean.specs.Ties.{LookupsOne, UpdatesOne, DeletesOne, TextsOne, SlicesOne};
 
 /// Two runs of one code with one list of choices and one bound have one output and one ending.
 pub fn one_outcome()
@@ -56,6 +57,26 @@ pub fn texts_are_one()
 /// What `append` makes of a store is the one store that the contract of the store allows.
 pub fn appends_are_one()
     ensures { AppendsOne }
+{}
+
+/// The first code point of a text, and the list of all, are the ones that are allowed of its bytes.
+pub fn runes_are_one()
+    ensures first { FirstRuneOne }
+    ensures all { RunesOne }
+{}
+
+/// What is done with a map, by keys that one type can have, is what the calls on the maps of a store promise. The
+/// machine finds an entry by an equal key, and they by the code of the key.
+pub fn map_calls_are_one()
+    ensures lookups { LookupsOne }
+    ensures updates { UpdatesOne }
+    ensures deletes { DeletesOne }
+{}
+
+/// Conversions between strings and slices give what the calls on a store promise of them.
+pub fn conversions_are_one()
+    ensures texts { TextsOne }
+    ensures slices { SlicesOne }
 {}
 
 /// A range over a string decodes it; a byte that begins no code point is U+FFFD.
