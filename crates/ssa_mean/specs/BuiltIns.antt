@@ -5,8 +5,8 @@ use Rattle.std.specs.Cmp.Lexicographic.{slice_cmp}
 use Rattle.std.specs.Ordering.{nat_cmp, is_lt}
 use Rattle.std.specs.Option.{option_map}
 use Rattle.go_base.specs.declared.ids.TypeId.{TypeId}
-use Rattle.go_sched.specs.Goroutines.{State, meant, queue_length, size_of}
 use Rattle.go_maps.specs.Entries.{cleared, count_in}
+use Rattle.go_sched.specs.Goroutines.{State, meant, queue_length, size_of}
 use Rattle.go_store.specs.Arrays.{array_of}
 use Rattle.go_store.specs.Conversions.{numbers_of}
 use Rattle.go_store.specs.Slices.{later, has_room, elements_of, with_run_in, append_fault, appended_slice, grown_array}
