@@ -1,5 +1,11 @@
 //! What statements and declarations ask of expressions. Go specification, "Statements" and "Constant declarations".
 
+ghost use Rattle.std.specs.Prelude.{◌≡◌, None, Some};
+ghost use Rattle.go_type.specs.declared.term.Basic.TheVariants.{Int as TheInt};
+ghost use Rattle.go_type.specs.Table.{basic_id};
+ghost use Rattle.typed_operators.specs.Stating.{elem_sent, has_constants, one_constant, range_parts, ranged, sent_elem, sent_to};
+ghost use Rattle.typed_parts.specs.Judged.{judged, reported};
+
 use go_base::{NoMemory, Rule, TypeId};
 use go_rules::{is_ordered, takes_logic, takes_sign};
 use go_tree::{ExprKind, RangeOver, TypedExpr};
@@ -74,14 +80,20 @@ fn typed_constant(
 }
 
 /// A constant. `NotAConstant` at what is none.
-fn one_constant(ground: &mut Ground, x: Seen) -> Option<Given> {
+#[tactic(auto, using(typed_parts::proofs::Reports::reported_after))]
+fn one_constant(ground: &mut Ground, x: Seen) -> Option<Given>
+    ensures answer { result ≡ (one_constant ground.old.types x).sound }
+    ensures broken { ground.new ≡ reported ground.old (one_constant ground.old.types x).broken }
+{
     let x = one_value(ground, x)?;
     let is_one = is_constant(&x.expr);
     asked(ground, x, is_one, Rule::NotAConstant)
 }
 
 /// Whether a type has constants: of booleans, integers or strings.
-fn has_constants(types: &Types, of: TypeId) -> bool {
+fn has_constants(types: &Types, of: TypeId) -> bool
+    ensures { result ≡ has_constants types.now of }
+{
     is_ordered(types, of) || takes_logic(types, of)
 }
 
@@ -159,13 +171,18 @@ pub fn send(ground: &mut Ground, channel: Seen, value: Seen) -> Result<Option<Se
 }
 
 /// A channel that may be sent to. `BadChannelOperation` at any other value.
-fn sent_to(ground: &mut Ground, channel: Option<Given>) -> Option<Given> {
+fn sent_to(ground: &mut Ground, channel: Option<Given>) -> Option<Given>
+    ensures answer { result ≡ (judged channel (sent_to ground.old.types)).sound }
+    ensures broken { ground.new ≡ reported ground.old (judged channel (sent_to ground.old.types)).broken }
+{
     let channel = channel?;
     let may = sent_elem(ground, channel.expr.of).is_some();
     asked(ground, channel, may, Rule::BadChannelOperation)
 }
 
-fn elem_sent(ground: &Ground, channel: &Option<Given>) -> Option<TypeId> {
+fn elem_sent(ground: &Ground, channel: &Option<Given>) -> Option<TypeId>
+    ensures { result ≡ elem_sent ground.now.types channel.now }
+{
     match channel {
         Some(channel) => sent_elem(ground, channel.expr.of),
         None => None,
@@ -173,7 +190,9 @@ fn elem_sent(ground: &Ground, channel: &Option<Given>) -> Option<TypeId> {
 }
 
 /// What is sent to a channel type that is not only for receiving.
-fn sent_elem(ground: &Ground, of: TypeId) -> Option<TypeId> {
+fn sent_elem(ground: &Ground, of: TypeId) -> Option<TypeId>
+    ensures { result ≡ sent_elem ground.now.types of }
+{
     match ground.types.underlying_term(of) {
         Some(
             TypeTerm::Chan {
@@ -230,7 +249,9 @@ struct RangeParts {
     len: Option<u64>,
 }
 
-fn range_parts(shape: Option<Shape>) -> Option<RangeParts> {
+fn range_parts(shape: Option<Shape>) -> Option<RangeParts>
+    ensures { result ≡ range_parts shape }
+{
     let int = basic(Basic::Int);
     match shape? {
         Shape::Text => Some(parts_of(RangeOver::Text, int, Some(basic(Basic::Int32)))),
@@ -247,7 +268,9 @@ fn range_parts(shape: Option<Shape>) -> Option<RangeParts> {
     }
 }
 
-const fn parts_of(over: RangeOver, key: TypeId, value: Option<TypeId>) -> RangeParts {
+const fn parts_of(over: RangeOver, key: TypeId, value: Option<TypeId>) -> RangeParts
+    ensures { result ≡ ranged over key value None }
+{
     RangeParts {
         over,
         key,
@@ -256,7 +279,9 @@ const fn parts_of(over: RangeOver, key: TypeId, value: Option<TypeId>) -> RangeP
     }
 }
 
-fn array_parts(over: RangeOver, len: u64, elem: TypeId) -> RangeParts {
+fn array_parts(over: RangeOver, len: u64, elem: TypeId) -> RangeParts
+    ensures { result ≡ ranged over (basic_id TheInt) (Some elem) (Some len) }
+{
     RangeParts {
         over,
         key: basic(Basic::Int),
