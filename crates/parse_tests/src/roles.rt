@@ -1,0 +1,334 @@
+//! For each text the tree that is read of it, and a tree of the same tokens in which one stands in the field of another.
+
+use go_ast::{Kind, Token};
+use go_parse::parse;
+use go_scan::scan;
+use go_syntax::{
+    Block, Decl, DeclLine, Expr, FileTree, FuncDecl, IfArm, ListedExpr, ListedName, NamedType,
+    Param, Params, RangeStmt, ResultForm, Signature, Stmt, StmtLine, TypeExpr, ValueSpec,
+};
+use std::alloc::Global;
+use std::test::Fail;
+use tree_roles::has_roles;
+
+/// Texts of which each is read with a token in each field that the trees below mistake.
+const TEXTS: &[&str] = &[
+    "package p; func f() { a, b = c, d }",
+    "package p; func f() { for k := range m {} }",
+    "package p; func f() { f(x...) }",
+    "package p; func f() { f(x,) }",
+    "package p; var a = 1",
+    "package p; func f(a ...int) {}",
+    "package p; var (a int)",
+    "package p; func f() { if ; a {} }",
+];
+
+#[test]
+fn of_what_is_read(rt: HostRuntime) -> Result<(), Fail> {
+    for text in TEXTS {
+        let tokens = scan(rt.alloc(), 0, text.as_bytes())?;
+        let tree = parse(rt.alloc(), &tokens)?;
+        assert!(rt; has_roles(&tree), "{text}");
+    }
+    Ok(())
+}
+
+fn token(kind: Kind) -> Token {
+    Token {
+        kind,
+        start: 0,
+        end: 0,
+    }
+}
+
+fn some(kind: Kind) -> Option<Token> {
+    Some(token(kind))
+}
+
+/// Whether the tokens of a file with one declaration have their roles.
+fn has_decl(alloc: Global, decl: Decl) -> Result<bool, Fail> {
+    let mut decls = Vec::new(alloc);
+    decls.push(DeclLine {
+        decl,
+        semicolon: token(Kind::Inserted),
+    })?;
+    let tree = FileTree {
+        word: token(Kind::PackageWord),
+        name: token(Kind::Name),
+        semicolon: token(Kind::Semicolon),
+        imports: Vec::new(alloc),
+        decls,
+    };
+    Ok(has_roles(&tree))
+}
+
+/// Whether the tokens of a function with these parameters and this body have their roles.
+fn has_function(alloc: Global, params: Vec<Param>, body: Block) -> Result<bool, Fail> {
+    let decl = FuncDecl {
+        word: token(Kind::FuncWord),
+        receiver: None,
+        name: token(Kind::Name),
+        signature: Signature {
+            params: Params {
+                open: token(Kind::OpenParen),
+                params,
+                close: token(Kind::CloseParen),
+            },
+            result: ResultForm::None,
+        },
+        body: Some(body),
+    };
+    has_decl(alloc, Decl::Func(Box::new(alloc, decl)?))
+}
+
+fn empty_block(alloc: Global) -> Block {
+    Block {
+        open: token(Kind::OpenBrace),
+        statements: Vec::new(alloc),
+        close: token(Kind::CloseBrace),
+    }
+}
+
+/// Whether the tokens of a function with one statement have their roles.
+fn has_stmt(alloc: Global, stmt: Stmt) -> Result<bool, Fail> {
+    let line = StmtLine {
+        stmt: Some(Box::new(alloc, stmt)?),
+        semicolon: None,
+    };
+    let mut statements = Vec::new(alloc);
+    statements.push(line)?;
+    let body = Block {
+        open: token(Kind::OpenBrace),
+        statements,
+        close: token(Kind::CloseBrace),
+    };
+    has_function(alloc, Vec::new(alloc), body)
+}
+
+fn name(alloc: Global) -> Result<Box<Expr>, Fail> {
+    Ok(Box::new(alloc, Expr::Name(token(Kind::Name)))?)
+}
+
+/// Names with these tokens behind them.
+fn listed(alloc: Global, behind: &[Option<Kind>]) -> Result<Vec<ListedExpr>, Fail> {
+    let mut list = Vec::new(alloc);
+    for kind in behind {
+        list.push(ListedExpr {
+            expr: name(alloc)?,
+            comma: kind.map(token),
+        })?;
+    }
+    Ok(list)
+}
+
+/// `a, b = c, d`
+fn has_assigned(
+    alloc: Global,
+    targets: &[Option<Kind>],
+    operator: Kind,
+    values: &[Option<Kind>],
+) -> Result<bool, Fail> {
+    let stmt = Stmt::Assign {
+        targets: listed(alloc, targets)?,
+        operator: token(operator),
+        values: listed(alloc, values)?,
+    };
+    has_stmt(alloc, stmt)
+}
+
+/// `for k := range m {}`
+fn has_range(alloc: Global, behind: Option<Kind>, operator: Option<Kind>) -> Result<bool, Fail> {
+    let stmt = RangeStmt {
+        word: token(Kind::ForWord),
+        targets: listed(alloc, &[behind])?,
+        operator: operator.map(token),
+        range: token(Kind::RangeWord),
+        operand: name(alloc)?,
+        body: empty_block(alloc),
+    };
+    has_stmt(alloc, Stmt::Range(Box::new(alloc, stmt)?))
+}
+
+/// `f(x...)`, `f(x,)`
+fn has_call(
+    alloc: Global,
+    behind: Option<Kind>,
+    ellipsis: Option<Kind>,
+    comma: Option<Kind>,
+) -> Result<bool, Fail> {
+    let call = Expr::Call {
+        callee: name(alloc)?,
+        open: token(Kind::OpenParen),
+        arguments: listed(alloc, &[behind])?,
+        ellipsis: ellipsis.map(token),
+        comma: comma.map(token),
+        close: token(Kind::CloseParen),
+    };
+    has_stmt(alloc, Stmt::Expr(Box::new(alloc, call)?))
+}
+
+/// `if ; a {}`
+fn has_arm(
+    alloc: Global,
+    otherwise: Option<Kind>,
+    word: Kind,
+    semicolon: Option<Kind>,
+) -> Result<bool, Fail> {
+    let arm = IfArm {
+        else_word: otherwise.map(token),
+        word: token(word),
+        init: None,
+        semicolon: semicolon.map(token),
+        condition: name(alloc)?,
+        body: empty_block(alloc),
+    };
+    let mut arms = Vec::new(alloc);
+    arms.push(arm)?;
+    let stmt = Stmt::If {
+        arms,
+        else_word: None,
+        otherwise: None,
+    };
+    has_stmt(alloc, stmt)
+}
+
+/// Names of these kinds, with no comma behind them.
+fn bare_names(alloc: Global, kinds: &[Kind]) -> Result<Vec<ListedName>, Fail> {
+    let mut names = Vec::new(alloc);
+    for kind in kinds {
+        names.push(ListedName {
+            name: token(*kind),
+            comma: None,
+        })?;
+    }
+    Ok(names)
+}
+
+fn named_type(alloc: Global) -> Result<Box<TypeExpr>, Fail> {
+    let form = TypeExpr::Name(NamedType::Local(token(Kind::Name)));
+    Ok(Box::new(alloc, form)?)
+}
+
+/// `func f(a ...int) {}`
+fn has_param(alloc: Global, kinds: &[Kind], ellipsis: Option<Kind>) -> Result<bool, Fail> {
+    let param = Param {
+        names: bare_names(alloc, kinds)?,
+        ellipsis: ellipsis.map(token),
+        form: named_type(alloc)?,
+        comma: None,
+    };
+    let mut params = Vec::new(alloc);
+    params.push(param)?;
+    has_function(alloc, params, empty_block(alloc))
+}
+
+/// `var a = 1`
+fn has_value(alloc: Global, kinds: &[Kind], assign: Option<Kind>) -> Result<bool, Fail> {
+    let spec = ValueSpec {
+        names: bare_names(alloc, kinds)?,
+        form: None,
+        assign: assign.map(token),
+        values: listed(alloc, &[None])?,
+        semicolon: None,
+    };
+    let mut specs = Vec::new(alloc);
+    specs.push(spec)?;
+    let decl = Decl::Var {
+        word: token(Kind::VarWord),
+        open: None,
+        specs,
+        close: None,
+    };
+    has_decl(alloc, decl)
+}
+
+/// `var (a int)`
+fn has_group(alloc: Global, semicolon: Option<Kind>, close: Option<Kind>) -> Result<bool, Fail> {
+    let spec = ValueSpec {
+        names: bare_names(alloc, &[Kind::Name])?,
+        form: Some(named_type(alloc)?),
+        assign: None,
+        values: Vec::new(alloc),
+        semicolon: semicolon.map(token),
+    };
+    let mut specs = Vec::new(alloc);
+    specs.push(spec)?;
+    let decl = Decl::Var {
+        word: token(Kind::VarWord),
+        open: some(Kind::OpenParen),
+        specs,
+        close: close.map(token),
+    };
+    has_decl(alloc, decl)
+}
+
+const COMMA: Option<Kind> = Some(Kind::Comma);
+
+const ELLIPSIS: Option<Kind> = Some(Kind::Ellipsis);
+
+#[test]
+fn of_lists(rt: HostRuntime) -> Result<(), Fail> {
+    let alloc = rt.alloc();
+    assert!(rt; has_assigned(alloc, &[COMMA, None], Kind::Assign, &[COMMA, None])?);
+    let taken = has_assigned(
+        alloc,
+        &[COMMA, Some(Kind::Assign), None],
+        Kind::Comma,
+        &[None],
+    )?;
+    assert!(rt; !taken, "an operator between targets");
+    assert!(rt; has_range(alloc, None, Some(Kind::Define))?);
+    assert!(rt;
+        !has_range(alloc, Some(Kind::Define), None)?,
+        "an operator as a comma"
+    );
+    Ok(())
+}
+
+#[test]
+fn of_calls(rt: HostRuntime) -> Result<(), Fail> {
+    let alloc = rt.alloc();
+    assert!(rt; has_call(alloc, None, ELLIPSIS, None)?);
+    assert!(rt;
+        !has_call(alloc, ELLIPSIS, None, None)?,
+        "an ellipsis as a comma"
+    );
+    assert!(rt; has_call(alloc, None, None, COMMA)?);
+    assert!(rt;
+        !has_call(alloc, None, COMMA, None)?,
+        "a comma as an ellipsis"
+    );
+    Ok(())
+}
+
+#[test]
+fn of_declarations(rt: HostRuntime) -> Result<(), Fail> {
+    let alloc = rt.alloc();
+    assert!(rt; has_value(alloc, &[Kind::Name], Some(Kind::Assign))?);
+    assert!(rt;
+        !has_value(alloc, &[Kind::Name, Kind::Assign], None)?,
+        "`=` as a name"
+    );
+    assert!(rt; has_param(alloc, &[Kind::Name], ELLIPSIS)?);
+    assert!(rt;
+        !has_param(alloc, &[Kind::Name, Kind::Ellipsis], None)?,
+        "`...` as a name"
+    );
+    assert!(rt; has_group(alloc, None, Some(Kind::CloseParen))?);
+    assert!(rt;
+        !has_group(alloc, Some(Kind::CloseParen), None)?,
+        "`)` as a semicolon"
+    );
+    Ok(())
+}
+
+#[test]
+fn of_arms(rt: HostRuntime) -> Result<(), Fail> {
+    let alloc = rt.alloc();
+    assert!(rt; has_arm(alloc, None, Kind::IfWord, Some(Kind::Semicolon))?);
+    assert!(rt;
+        !has_arm(alloc, Some(Kind::IfWord), Kind::Semicolon, None)?,
+        "`if` as `else`"
+    );
+    Ok(())
+}
