@@ -21,8 +21,8 @@ use Rattle.go_type.specs.declared.term.TypeTerm.TheVariants.{Func}
 use Rattle.type_shapes.specs.Shapes.{is_text, is_truth, is_id}
 use Rattle.typed_trees.specs.Tests.{Tests}
 
--- where a node stands: the program, the tests of its types, the function in whose body it is (in an initialiser of package
--- variables that which initialises the package), and the variables of functions around that one that it captures
+-- where a node stands: the program, the tests of its types, the function in whose body it is (in an initialiser of
+-- package variables that which initialises the package), and the variables that this one captures of those around it
 pub record Around : Type 0 where
   pub program : Program
   pub tests : Tests

@@ -1,5 +1,6 @@
 -- Which types the arguments of built-in functions have. Go specification, "Built-in functions".
-use Rattle.std.specs.Prelude.{ℕ, ◌==◌, Bool, true, false, ◌&&◌, ◌||◌, List, [], ◌∷◌, length, Option, Some, None, is_none}
+use Rattle.std.specs.Prelude.{ℕ, ◌==◌, Bool, true, false, ◌&&◌, ◌||◌, List, [], ◌∷◌, length, Option, Some, None}
+use Rattle.std.specs.Prelude.{is_none}
 use Rattle.std.specs.List.{list_all}
 use Rattle.go_base.specs.declared.ids.TypeId.{TypeId}
 use Rattle.go_type.specs.Same.{same_id}
@@ -90,7 +91,8 @@ module _ (around : Around) where
   abbrev pub makes : Option TypeId → List Seen → TypeId → Bool
   makes None sizes of = false
   makes (Some form) sizes of =
-      same_id form of && (takes_sizes (under around of) (length sizes) && list_all (λ it. has_integers around it.of) sizes)
+      same_id form of
+      && (takes_sizes (under around of) (length sizes) && list_all (λ it. has_integers around it.of) sizes)
 
   -- "Allocation"
   abbrev pub allocates : Option TypeId → TypeId → Bool

@@ -36,7 +36,7 @@ module _ (around : Around) where
   abbrev pub has_characters : TypeId → Bool
   has_characters of = is_characters around.program.types (under around of)
 
-  -- an integer becomes one of another kind or a string, and a string a slice of bytes or runes, or such a slice a string
+  -- an integer becomes one of another kind or a string; a string a slice of bytes or runes, or such a slice a string
   abbrev pub makes_value : TypeId → TypeId → Bool
   makes_value from to =
       (has_integers around from && (has_integers around to || has_texts around to))

@@ -19,7 +19,8 @@ use Rattle.typed_trees.specs.Nodes.{place, composite, nothing, call, other, Seen
 use Rattle.typed_trees.specs.Nodes.{is_place, place_if, index_form, entry_form, SeenField, SeenItem, SeenEntry}
 use Rattle.typed_trees.specs.Nodes.{fits_constant, fits_nil, fits_method, interface_method, fits_field, fits_index}
 use Rattle.typed_trees.specs.Nodes.{fits_map_index, fits_slice, fits_deref, fits_address, fits_unary, fits_binary}
-use Rattle.typed_trees.specs.Nodes.{fits_comparison, fits_logic, fits_receive, fits_call_of, fits_boxing, fits_assertion}
+use Rattle.typed_trees.specs.Nodes.{fits_comparison, fits_logic, fits_receive, fits_call_of, fits_boxing}
+use Rattle.typed_trees.specs.Nodes.{fits_assertion}
 use Rattle.typed_trees.specs.Nodes.{fits_fields, fits_items, fits_entries, fits_method_expression}
 
 -- what is called: its signature without a receiver, and whether the types in it fit

@@ -48,8 +48,8 @@ pub data Form : Type 0 where
   entry : Form
   other : Form
 
--- an expression: its type, what it is, whether the types in it fit, and whether they fit where it is made of the parts of
--- several values of types
+-- an expression: its type, what it is, whether the types in it fit, and whether they fit where it is made of the parts
+-- of several values of types
 pub record Seen : Type 0 where
   pub of : TypeId
   pub form : Form
@@ -250,7 +250,8 @@ module _ (around : Around) where
 
   -- the operands of a shift may be of two types
   abbrev pub fits_operands : BinaryOp → Option Bool → TypeId → TypeId → TypeId → Bool
-  fits_operands op (Some to_left) left right of = same_id left of && (has_integers around left && has_integers around right)
+  fits_operands op (Some to_left) left right of =
+      same_id left of && (has_integers around left && has_integers around right)
   fits_operands op None left right of = same_id left of && (same_id right of && takes_binary op of)
 
   abbrev pub fits_binary : BinaryOp → TypeId → TypeId → TypeId → Bool
@@ -296,7 +297,8 @@ module _ (around : Around) where
   -- "Type assertions"
   abbrev pub fits_assertion : TypeId → TypeId → Bool → TypeId → Bool
   fits_assertion operand to comma_ok of =
-      is_interface (under around operand) && ((is_interface (under around to) || around.tests.answers.implements to operand)
+      is_interface (under around operand)
+      && ((is_interface (under around to) || around.tests.answers.implements to operand)
       && is_value_or_both (parts_of (term around of)) comma_ok to of)
 
 -- ---- "Composite literals"

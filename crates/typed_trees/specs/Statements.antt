@@ -26,8 +26,8 @@ use Rattle.typed_trees.specs.Expressions.{seen, seen_values, SeenValues}
 use Rattle.typed_trees.specs.Nodes.{fits_binary, can_be_set, is_call}
 use Rattle.typed_trees.specs.Targets.{take_values, define_all, receives, ranges}
 
--- what stands around a statement of a function: the types of the results, how many statements a `break` may leave and how
--- many loops a `continue` may go on with, and whether a clause follows into which it may fall through
+-- what stands around a statement of a function: the types of the results, how many statements a `break` may leave and
+-- how many loops a `continue` may go on with, and whether a clause follows into which it may fall through
 pub record Within : Type 0 where
   pub results : List TypeId
   pub breaks : ℕ
@@ -104,10 +104,12 @@ module _ (around : Around) where
   -- "Variable declarations": values of the types of the variables, or none
   abbrev pub variable_types : List VarId → List TypeId
   variable_types [] = []
-  variable_types (id ∷ ids) = option_map_or (λ it. it.of ∷ variable_types ids) (variable_at around id) (variable_types ids)
+  variable_types (id ∷ ids) =
+      option_map_or (λ it. it.of ∷ variable_types ids) (variable_at around id) (variable_types ids)
 
   abbrev pub own_variables : List VarId → Bool
-  own_variables ids = list_all (λ id. option_map_or (λ it. is_own_variable around id it.of) (variable_at around id) false) ids
+  own_variables ids =
+      list_all (λ id. option_map_or (λ it. is_own_variable around id it.of) (variable_at around id) false) ids
 
   abbrev pub values_are : SeenValues → List TypeId → Bool
   values_are values types = values.fits && same_ids values.types types

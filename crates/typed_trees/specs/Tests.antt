@@ -8,8 +8,8 @@ use Rattle.go_type.specs.declared.members.Member.{Member}
 use Rattle.type_bare.specs.Same.{SameButTags}
 use Rattle.type_shapes.specs.Answers.{Answers, AreAnswers}
 
--- which types are comparable and implement which interfaces, which are identical but for the tags of fields, and the types
--- of the methods that method sets have, without receivers
+-- which types are comparable and implement which interfaces, which are identical but for the tags of fields, and the
+-- types of the methods that method sets have, without receivers
 pub record Tests : Type 0 where
   pub answers : Answers
   pub alike : TypeId → TypeId → Bool
