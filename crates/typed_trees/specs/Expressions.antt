@@ -10,18 +10,19 @@ use Rattle.go_tree.specs.declared.exprs.Callee.TheOpen as layers
 use Rattle.go_tree.specs.declared.exprs.TypedExpr.{TypedExpr}
 use Rattle.go_tree.specs.declared.exprs.Values.{Values}
 use Rattle.go_type.specs.declared.term.Signature.{Signature}
-use Rattle.type_shapes.specs.Shapes.{is_id, parts_of}
+use Rattle.type_shapes.specs.Shapes.{is_id, is_slice, parts_of}
 use Rattle.typed_trees.specs.Around.{Around, term, under, signature_in, function_type, literal_type}
 use Rattle.typed_trees.specs.Around.{method_type_of, is_variable}
 use Rattle.typed_trees.specs.BuiltIns.{fits_built_in}
 use Rattle.typed_trees.specs.Conversions.{fits_conversion}
-use Rattle.typed_trees.specs.Nodes.{place, composite, nothing, call, other, Seen, whole, leaf, around_one}
+use Rattle.typed_trees.specs.Nodes.{Seen, whole, nil_of, around_one}
 use Rattle.typed_trees.specs.Nodes.{is_place, place_if, index_form, entry_form, SeenField, SeenItem, SeenEntry}
 use Rattle.typed_trees.specs.Nodes.{fits_constant, fits_nil, fits_method, interface_method, fits_field, fits_index}
 use Rattle.typed_trees.specs.Nodes.{fits_map_index, fits_slice, fits_deref, fits_address, fits_unary, fits_binary}
 use Rattle.typed_trees.specs.Nodes.{fits_comparison, fits_logic, fits_receive, fits_call_of, fits_boxing}
 use Rattle.typed_trees.specs.Nodes.{fits_assertion}
 use Rattle.typed_trees.specs.Nodes.{fits_fields, fits_items, fits_entries, fits_method_expression}
+use Rattle.typed_trees.specs.declared.forms.Form.TheVariants as forms
 
 -- what is called: its signature without a receiver, and whether the types in it fit
 pub record SeenCallee : Type 0 where
@@ -99,15 +100,15 @@ module _ (around : Around) where
   abbrev pub kind_layer :
       layers.ExprKind-F SeenCallee SeenElements (TypeId → Seen) SeenValues SeenEntry SeenField SeenItem Seen → TypeId
       → Seen
-  kind_layer (layers.ExprKind-F.ConstOf value) of = leaf of other (fits_constant around value of)
-  kind_layer (layers.ExprKind-F.NilOf) of = leaf of nothing (fits_nil around of)
-  kind_layer (layers.ExprKind-F.VarOf variable) of = whole of place (is_variable around variable of)
-  kind_layer (layers.ExprKind-F.FunctionOf function) of = whole of other (is_id (function_type around function) of)
-  kind_layer (layers.ExprKind-F.LiteralOf function) of = whole of other (is_id (literal_type around function) of)
+  kind_layer (layers.ExprKind-F.ConstOf value) of = whole of forms.Other (fits_constant around value of)
+  kind_layer (layers.ExprKind-F.NilOf) of = nil_of of (fits_nil around of)
+  kind_layer (layers.ExprKind-F.VarOf variable) of = whole of forms.Place (is_variable around variable of)
+  kind_layer (layers.ExprKind-F.FunctionOf function) of = whole of forms.Other (is_id (function_type around function) of)
+  kind_layer (layers.ExprKind-F.LiteralOf function) of = whole of forms.Other (is_id (literal_type around function) of)
   kind_layer (layers.ExprKind-F.MethodValue receiver method) of =
-      whole of other (fits_method around method receiver.value.of of && receiver.value.fits)
+      whole of forms.Other (fits_method around method receiver.value.of of && receiver.value.fits)
   kind_layer (layers.ExprKind-F.MethodExpr receiver name owner) of =
-      whole of other (fits_method_expression around receiver name owner of)
+      whole of forms.Other (fits_method_expression around receiver name owner of)
   kind_layer (layers.ExprKind-F.FieldOf operand field) of =
       whole of (place_if (is_place operand.value.form))
       (fits_field around field operand.value.of of && operand.value.fits)
@@ -118,42 +119,42 @@ module _ (around : Around) where
       whole of (entry_form around comma_ok)
       (fits_map_index around table.value.of key.value.of comma_ok of && both table.value key.value)
   kind_layer (layers.ExprKind-F.SliceOf base operand low high max) of =
-      whole of other (fits_slice around base operand.value (optional low) (optional high) (optional max) of)
+      whole of forms.Other (fits_slice around base operand.value (optional low) (optional high) (optional max) of)
   kind_layer (layers.ExprKind-F.Deref operand) of =
-      whole of place (fits_deref around operand.value.of of && operand.value.fits)
+      whole of forms.Place (fits_deref around operand.value.of of && operand.value.fits)
   kind_layer (layers.ExprKind-F.AddressOf operand) of =
-      whole of other (fits_address around operand.value of && operand.value.fits)
+      whole of forms.Other (fits_address around operand.value of && operand.value.fits)
   kind_layer (layers.ExprKind-F.UnaryOf op operand) of =
-      whole of other (fits_unary around op operand.value.of of && operand.value.fits)
+      whole of forms.Other (fits_unary around op operand.value.of of && operand.value.fits)
   kind_layer (layers.ExprKind-F.BinaryOf op left right) of =
-      whole of other (fits_binary around op left.value.of right.value.of of && both left.value right.value)
+      whole of forms.Other (fits_binary around op left.value.of right.value.of of && both left.value right.value)
   kind_layer (layers.ExprKind-F.CompareOf op left right) of =
-      whole of other (fits_comparison around op left.value right.value of && both left.value right.value)
+      whole of forms.Other (fits_comparison around op left.value right.value of && both left.value right.value)
   kind_layer (layers.ExprKind-F.AndAlso left right) of =
-      whole of other (fits_logic around left.value.of right.value.of of && both left.value right.value)
+      whole of forms.Other (fits_logic around left.value.of right.value.of of && both left.value right.value)
   kind_layer (layers.ExprKind-F.OrElse left right) of =
-      whole of other (fits_logic around left.value.of right.value.of of && both left.value right.value)
+      whole of forms.Other (fits_logic around left.value.of right.value.of of && both left.value right.value)
   kind_layer (layers.ExprKind-F.Receive channel comma_ok) of =
-      whole of other (fits_receive around channel.value.of comma_ok of && channel.value.fits)
+      whole of forms.Other (fits_receive around channel.value.of comma_ok of && channel.value.fits)
   kind_layer (layers.ExprKind-F.CallOf callee arguments) of =
-      whole of call (fits_call_of around callee.signature arguments.types of && (callee.fits && arguments.fits))
+      whole of forms.Call (fits_call_of around callee.signature arguments.types of && (callee.fits && arguments.fits))
   kind_layer (layers.ExprKind-F.BuiltinOf builtin form arguments spread) of =
-      whole of call (fits_built_in around builtin form spread arguments.items of && all_fit arguments.items)
+      whole of forms.Call (fits_built_in around builtin form spread arguments.items of && all_fit arguments.items)
   kind_layer (layers.ExprKind-F.ConvertTo operand) of =
       around_one of (fits_conversion around operand.value.of of) operand.value
   kind_layer (layers.ExprKind-F.ToInterface operand) of =
       around_one of (fits_boxing around operand.value.of of) operand.value
   kind_layer (layers.ExprKind-F.AssertTo operand to comma_ok) of =
-      whole of other (fits_assertion around operand.value.of to comma_ok of && operand.value.fits)
+      whole of forms.Other (fits_assertion around operand.value.of to comma_ok of && operand.value.fits)
   kind_layer (layers.ExprKind-F.CompositeOf elements) of =
       record {
         of = of;
-        form = composite;
+        form = forms.Composite;
         fits = elements.fit (λ x. x.fits) of;
-        fits_part = λ parts. elements.fit (λ x. x.fits_part parts) of;
+        fits_part = λ parts. is_slice (under around of) && elements.fit (λ x. x.fits_part parts) of;
       }
   kind_layer (layers.ExprKind-F.PartOf part) of =
-      record { of = of; form = other; fits = false; fits_part = λ parts. is_id (slice_get parts part) of }
+      record { of = of; form = forms.Other; fits = false; fits_part = λ parts. is_id (slice_get parts part) of }
 
   abbrev pub entry_layer :
       layers.EntryInit-F SeenCallee SeenElements (TypeId → Seen) SeenValues SeenEntry SeenField SeenItem Seen

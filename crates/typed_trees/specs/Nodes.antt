@@ -33,20 +33,8 @@ use Rattle.type_shapes.specs.Shapes.{is_interface, is_pointer_to, is_slice_of, h
 use Rattle.type_shapes.specs.Shapes.{base_of, array_elem, field_of, received_elem, is_id}
 use Rattle.typed_trees.specs.Around.{Around, term, under, has_integers, has_texts, has_truths, is_ordered}
 use Rattle.typed_trees.specs.Around.{signature_in, method_type_of}
-
--- what an expression is for the one above it
-pub data Form : Type 0 where
-  -- a variable, a dereference, an element of a slice, a field of a place or an element of an array that is a place
-  place : Form
-  -- a composite literal
-  composite : Form
-  -- `nil`
-  nothing : Form
-  -- a call of a function or of a built-in function
-  call : Form
-  -- an element of a map, whose presence is not asked for
-  entry : Form
-  other : Form
+use Rattle.typed_trees.specs.declared.forms.Form.{Form}
+use Rattle.typed_trees.specs.declared.forms.Form.TheVariants as forms
 
 -- an expression: its type, what it is, whether the types in it fit, and whether they fit where it is made of the parts
 -- of several values of types
@@ -60,46 +48,46 @@ pub record Seen : Type 0 where
 abbrev pub whole : TypeId → Form → Bool → Seen
 whole of form fits = record { of = of; form = form; fits = fits; fits_part = λ parts. false }
 
--- one without operands
-abbrev pub leaf : TypeId → Form → Bool → Seen
-leaf of form fits = record { of = of; form = form; fits = fits; fits_part = λ parts. fits }
+-- `nil`, which stands for a slice of no parts too
+abbrev pub nil_of : TypeId → Bool → Seen
+nil_of of fits = record { of = of; form = forms.Nothing; fits = fits; fits_part = λ parts. fits }
 
 -- one with one operand, of which it is a part where that is
 abbrev pub around_one : TypeId → Bool → Seen → Seen
 around_one of fits x = record {
   of = of;
-  form = other;
+  form = forms.Other;
   fits = fits && x.fits;
   fits_part = λ parts. fits && x.fits_part parts;
 }
 
 abbrev pub is_place : Form → Bool
-is_place place = true
+is_place forms.Place = true
 is_place _ = false
 
 -- what has an address: a place or a composite literal
 abbrev pub has_address : Form → Bool
-has_address place = true
-has_address composite = true
+has_address forms.Place = true
+has_address forms.Composite = true
 has_address _ = false
 
 abbrev pub is_nothing : Form → Bool
-is_nothing nothing = true
+is_nothing forms.Nothing = true
 is_nothing _ = false
 
 abbrev pub is_call : Form → Bool
-is_call call = true
+is_call forms.Call = true
 is_call _ = false
 
 -- what can be assigned to
 abbrev pub can_be_set : Form → Bool
-can_be_set place = true
-can_be_set entry = true
+can_be_set forms.Place = true
+can_be_set forms.Entry = true
 can_be_set _ = false
 
 abbrev pub place_if : Bool → Form
-place_if true = place
-place_if false = other
+place_if true = forms.Place
+place_if false = forms.Other
 
 -- ---- lists of types
 
@@ -181,9 +169,9 @@ module _ (around : Around) where
 
   -- an element of a slice is a place, and one of an array that is one
   abbrev pub index_form : IndexBase → Form → Form
-  index_form indexed.Slice form = place
-  index_form indexed.Array form = place_if (is_place form)
-  index_form indexed.Text form = other
+  index_form indexed.Slice it = forms.Place
+  index_form indexed.Array it = place_if (is_place it)
+  index_form indexed.Text it = forms.Other
 
   abbrev pub fits_entry_of : Option TypeTerm → Bool → TypeId → TypeId → Bool
   fits_entry_of (Some (Map key elem)) comma_ok by of =
@@ -194,8 +182,8 @@ module _ (around : Around) where
   fits_map_index table by comma_ok of = fits_entry_of (under around table) comma_ok by of
 
   abbrev pub entry_form : Bool → Form
-  entry_form false = entry
-  entry_form true = other
+  entry_form false = forms.Entry
+  entry_form true = forms.Other
 
   -- a slice of an array has the elements of the array
   abbrev pub is_slice_of_array : Option TypeId → TypeId → Bool

@@ -64,10 +64,6 @@ module _ (around : Around) where
       option_map_or (λ signature. fits_signature body decl.receiver signature)
       (signature_in (term around decl.signature)) false
 
-abbrev pub captured_by : Option Body → List VarId
-captured_by None = []
-captured_by (Some body) = body.captured
-
 module _ (p : Program) (tests : Tests) where
   abbrev pub within_function : FuncId → List VarId → Around
   within_function function captured =

@@ -20,10 +20,9 @@ use Rattle.go_tree.specs.declared.stmts.TypedStmt.TheOpen as layers
 use Rattle.go_type.specs.Same.{same_id, same_ids}
 use Rattle.go_type.specs.declared.operators.BinaryOp.{BinaryOp}
 use Rattle.type_shapes.specs.Shapes.{is_interface, sent_elem, is_id}
-use Rattle.typed_trees.specs.Around.{Around, under, has_truths, is_own_variable}
-use Rattle.typed_trees.specs.Around.{variable_at}
+use Rattle.typed_trees.specs.Around.{Around, under, has_truths, only_if, variable_at, is_own_variable}
 use Rattle.typed_trees.specs.Expressions.{seen, seen_values, SeenValues}
-use Rattle.typed_trees.specs.Nodes.{fits_binary, can_be_set, is_call}
+use Rattle.typed_trees.specs.Nodes.{fits_binary, can_be_set, is_call, is_nothing}
 use Rattle.typed_trees.specs.Targets.{take_values, define_all, receives, ranges}
 
 -- what stands around a statement of a function: the types of the results, how many statements a `break` may leave and
@@ -134,21 +133,19 @@ module _ (around : Around) where
 
   -- ---- "Expression switches": a case is compared with the tag, and is true or false where there is none
 
-  abbrev pub is_compared : TypeId → TypeId → Bool
-  is_compared tag value = same_id tag value
-
   -- the tag, made one of an interface where that is told
   abbrev pub tag_type : TypeId → Option TypeId → Option TypeId
   tag_type tag None = Some tag
-  tag_type tag (Some to) = if_interface (is_interface (under around to) && around.tests.answers.implements tag to) to
-    where
-      if_interface : Bool → TypeId → Option TypeId
-      if_interface true to = Some to
-      if_interface false to = None
+  tag_type tag (Some to) = only_if (is_interface (under around to) && around.tests.answers.implements tag to) to
+
+  -- what is not comparable is compared with `nil`
+  abbrev pub can_be_case : Seen → Bool
+  can_be_case x = x.fits && (around.tests.answers.comparable x.of || is_nothing x.form)
 
   abbrev pub is_case_of : Option TypeId → TypedCase → Bool
   is_case_of None it = is_none it.tag_to && is_condition it.value
-  is_case_of (Some tag) it = fits_expr it.value && is_id (tag_type tag it.tag_to) (seen around it.value).of
+  is_case_of (Some tag) it =
+      can_be_case (seen around it.value) && is_id (tag_type tag it.tag_to) (seen around it.value).of
 
   -- ---- "Type switches"
 

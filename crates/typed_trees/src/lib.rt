@@ -2,6 +2,8 @@
 //! that they select exist. The crate has definitions and laws about them, and no code that runs.
 #![tactic(auto)]
 
+mod forms;
 mod laws;
 
+pub use forms::Form;
 pub use laws::tests_are_one;
