@@ -1,6 +1,6 @@
--- What the parameters of a graph are closed under, so that each call of a run is an edge of it: P says which values may
--- be in which nodes, R which functions may run. A run never leads out of what is closed so: it starts in R, makes values
--- where P has them, moves them along flows and through calls, and calls along edges.
+-- What the parameters of a graph are closed under, so that each call of a run is an edge of it: P says which values
+-- may be in which nodes, R which functions may run. A run never leads out of what is closed so: it starts in R, makes
+-- values where P has them, moves them along flows and through calls, and calls along edges.
 use Rattle.std.specs.Prelude.{◌≡◌, ◌+◌, ℕ, List, Some, None, slice_get}
 use Rattle.go_base.specs.declared.ids.FuncId.{FuncId}
 use Rattle.go_base.specs.declared.ids.TypeId.{TypeId}
@@ -54,8 +54,8 @@ module _ (p : Program) (types : Table) (bares : List TypeId) (P : Node → Value
         → P (node_of.Made (like_value types bares v)) (like_value types bares v)
     pub fault : P node_of.Recover (like_value types bares (value_of.Class p.error_string))
     -- what a function that may run moves; arguments, receivers and results of a call of one function are among that
-    pub flow : (f : FuncId) (n m : Node) (v : Value) → R f → Stands p f (mention.Flow n m) → P (like_node types bares n) v
-        → P (like_node types bares m) v
+    pub flow : (f : FuncId) (n m : Node) (v : Value) → R f → Stands p f (mention.Flow n m)
+        → P (like_node types bares n) v → P (like_node types bares m) v
     -- what is called may run
     pub enter : (e : Edge) → IsEdge p types bares P R e → R e.callee
     -- what is given to a call that chooses is given on to what it chooses: the arguments behind those that are skipped,

@@ -104,8 +104,8 @@ pub record IsWay (groups : List Group) (rows : ℕ → List Candidate) (called :
   pub stands : Has (rows number) candidate
   pub goes : Has (way_of groups node candidate) x
 
-pub record AreWays (groups : List Group) (rows : ℕ → List Candidate) (called : List Bool) (node : Node) (ways : List Way) :
-    Type 0 where
+pub record AreWays (groups : List Group) (rows : ℕ → List Candidate) (called : List Bool) (node : Node)
+    (ways : List Way) : Type 0 where
   pub only : (x : Way) → Has ways x → IsWay groups rows called node x
   pub whole : (x : Way) → IsWay groups rows called node x → Has ways x
 
@@ -137,7 +137,8 @@ abbrev pub OfNode : Numbers → (ℕ → List Candidate) → List Bool → Node 
 OfNode n rows called node x = IsWay n.groups.keys rows called node x
 
 -- the ways of all nodes that have a number
-pub record PutsStations (n : Numbers) (rows : ℕ → List Candidate) (called : List Bool) (old new : List Rule) : Type 0 where
+pub record PutsStations (n : Numbers) (rows : ℕ → List Candidate) (called : List Bool) (old new : List Rule) :
+    Type 0 where
   pub kept : (r : Rule) → Has old r → Has new r
   pub only : (r : Rule) → Has new r
       → Has old r ⊎ ((node : Node) × (x : Way) × OfNode n rows called node x × WayAt n r x)

@@ -97,7 +97,7 @@ impl MapEntries {
         ensures { entries_of self.new ≡ with_value_at number (value_of new) (entries_of self.old) }
     {
         let Some(place) = self.slots.get_mut(number as usize) else {
-            return discard(new);
+            return drop(new);
         };
         replace_value(place, new);
     }
@@ -199,8 +199,6 @@ fn open(place: &mut Option<Slot>)
 {
     *place = None;
 }
-
-fn discard(_value: Value) {}
 
 fn replace_value(place: &mut Option<Slot>, new: Value)
     ensures { option_map pair_of place.new ≡ with_value (value_of new) (option_map pair_of place.old) }

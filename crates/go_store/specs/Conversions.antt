@@ -40,7 +40,8 @@ items_of store slice = unwrap_or (elements_of store slice) []
 abbrev pub AreRunes : List ℕ → List ℤ → Type 0
 AreRunes text [] = text ≡ []
 AreRunes text (it ∷ items) =
-    (rune width : ℕ) × (0 < length text) × IsFirstRune text rune width × (it ≡ pos rune) × AreRunes (drop width text) items
+    (rune width : ℕ) × (0 < length text) × IsFirstRune text rune width × (it ≡ pos rune)
+    × AreRunes (drop width text) items
 
 abbrev pub numbers_of : List ℕ → List ℤ
 numbers_of bytes = map pos bytes

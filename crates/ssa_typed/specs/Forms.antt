@@ -33,8 +33,8 @@ use Rattle.ssa_typed.specs.Calls.{fits_call, fits_deferred}
 use Rattle.ssa_typed.specs.Conversions.{converts, changes}
 use Rattle.ssa_typed.specs.Operands.{function_at, is_function_type, known, held_type, shape, is_operand, is_where}
 use Rattle.ssa_typed.specs.Operands.{is_integer_operand, is_truth_operand, is_any_operand, pointee}
-use Rattle.type_shapes.specs.Shapes.{is_id, is_map, is_chan, is_slice, is_text, is_truth, is_interface, is_any, is_state}
-use Rattle.type_shapes.specs.Shapes.{is_pointer_to, is_slice_of, parts_of, is_with_ok, array_elem, field_of}
+use Rattle.type_shapes.specs.Shapes.{is_id, is_map, is_chan, is_slice, is_text, is_truth, is_interface, is_any}
+use Rattle.type_shapes.specs.Shapes.{is_state, is_pointer_to, is_slice_of, parts_of, is_with_ok, array_elem, field_of}
 use Rattle.type_shapes.specs.Shapes.{type_of_field, sent_elem, received_elem}
 use Rattle.ssa_typed.specs.declared.known.Known.{Known}
 use Rattle.ssa_typed.specs.declared.known.Known.TheVariants as known_as

@@ -1,5 +1,5 @@
--- What parts of an expression mean, and what is asked of every part. Go specification, "Operands", "Calls", "Conversions"
--- and "Address operators".
+-- What parts of an expression mean, and what is asked of every part. Go specification, "Operands", "Calls",
+-- "Conversions" and "Address operators".
 use Rattle.std.specs.Prelude.{Bool, true, false, not, is_some, if◌then◌else◌, Option, Some, None}
 use Rattle.go_base.specs.declared.ids.TypeId.{TypeId}
 use Rattle.go_base.specs.declared.place.Pos.{Pos}

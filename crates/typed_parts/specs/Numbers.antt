@@ -1,4 +1,5 @@
--- Constants that are known by an expression. Go specification, "Constants", "Index expressions" and "Length and capacity".
+-- Constants that are known by an expression. Go specification, "Constants", "Index expressions" and "Length and
+-- capacity".
 use Rattle.std.specs.Prelude.{ℤ, pos, int_lt, Bool, true, false, not, if◌then◌else◌, List, length, Option, Some, None}
 use Rattle.go_base.specs.declared.rule.Rule.{Rule}
 use Rattle.go_base.specs.declared.rule.Rule.TheVariants.{ConstantOutOfRange}
@@ -44,8 +45,8 @@ number_breach types rule (Some number) =
     else if int_lt number (pos 0) then Some rule
     else None
 
--- "the index x must be an untyped constant or its core type must be an integer; a constant index must be non-negative and
--- representable by a value of type int"
+-- "the index x must be an untyped constant or its core type must be an integer; a constant index must be non-negative
+-- and representable by a value of type int"
 abbrev pub whole_breach : Table → TypedExpr → Rule → Option Rule
 whole_breach types expr rule =
     if is_integer types expr.of then number_breach types rule (integer_of expr) else Some rule

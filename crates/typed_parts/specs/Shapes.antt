@@ -7,7 +7,8 @@ use Rattle.go_rules.specs.declared.untyped.Untyped.TheVariants as kind
 use Rattle.go_rules.specs.Untyped.{kind_at}
 use Rattle.go_type.specs.declared.term.Basic.TheVariants as basic
 use Rattle.go_type.specs.declared.term.TypeTerm.{TypeTerm}
-use Rattle.go_type.specs.declared.term.TypeTerm.TheVariants.{Basic as Plain, Pointer, Slice, Array, Map, Chan, Interface}
+use Rattle.go_type.specs.declared.term.TypeTerm.TheVariants.{Basic as Plain, Pointer, Slice, Array, Map, Chan}
+use Rattle.go_type.specs.declared.term.TypeTerm.TheVariants.{Interface}
 use Rattle.go_type.specs.Assignable.{underlying_term_of}
 use Rattle.go_type.specs.Table.{Table}
 use Rattle.typed_parts.specs.declared.shapes.Shape.{Shape}

@@ -103,7 +103,8 @@ module _ (around : Around) where
   kind_layer (layers.ExprKind-F.ConstOf value) of = whole of forms.Other (fits_constant around value of)
   kind_layer (layers.ExprKind-F.NilOf) of = nil_of of (fits_nil around of)
   kind_layer (layers.ExprKind-F.VarOf variable) of = whole of forms.Place (is_variable around variable of)
-  kind_layer (layers.ExprKind-F.FunctionOf function) of = whole of forms.Other (is_id (function_type around function) of)
+  kind_layer (layers.ExprKind-F.FunctionOf function) of =
+      whole of forms.Other (is_id (function_type around function) of)
   kind_layer (layers.ExprKind-F.LiteralOf function) of = whole of forms.Other (is_id (literal_type around function) of)
   kind_layer (layers.ExprKind-F.MethodValue receiver method) of =
       whole of forms.Other (fits_method around method receiver.value.of of && receiver.value.fits)
