@@ -1,0 +1,10 @@
+pub mod BuiltIns
+pub mod Calls
+pub mod Channels
+pub mod Operands
+pub mod Ranges
+pub mod Runs
+pub mod Slots
+pub mod State
+pub mod Step
+pub mod Unwinding
