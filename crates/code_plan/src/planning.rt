@@ -100,6 +100,7 @@ impl Planner<'_> {
         };
         Ok(PlannedFunction {
             role: role_of(function),
+            promotes: promotes(function),
             params: small(params)?,
             slots: small(slots)?,
             blocks: planner.blocks(function)?,
@@ -286,23 +287,25 @@ impl Planner<'_> {
         Ok(all)
     }
 
+    /// The initialisation of each package, then `main.main`.
     fn starts(&self) -> Result<Vec<u32>, NoMemory> {
         let mut starts = Vec::new(self.alloc);
-        let mut main = None;
-        let mut number = 0u32;
-        for function in self.code.functions.as_slice() {
+        for (number, function) in self.code.functions.as_slice().iter().enumerate() {
             if function.kind == FunctionKind::Init {
-                starts.push(number)?;
+                starts.push(small(number as u64)?)?;
             }
-            if function.kind == FunctionKind::Source && function.name.as_str() == "main.main" {
-                main = Some(number);
-            }
-            number = number.saturating_add(1);
         }
-        if let Some(main) = main {
-            starts.push(main)?;
-        }
+        self.push_main(&mut starts)?;
         Ok(starts)
+    }
+
+    fn push_main(&self, starts: &mut Vec<u32>) -> Result<(), NoMemory> {
+        for (number, function) in self.code.functions.as_slice().iter().enumerate() {
+            if is_main(function) {
+                starts.push(small(number as u64)?)?;
+            }
+        }
+        Ok(())
     }
 
     /// The type `errorString` of package `runtime`.
@@ -361,6 +364,21 @@ fn add_method(all: &mut IndexMap<MethodOf, u32>, line: &MethodLine) -> Result<()
     };
     all.insert(method, function)?;
     Ok(())
+}
+
+/// `main.main` takes no arguments and returns no value.
+fn is_main(function: &Function) -> bool {
+    function.kind == FunctionKind::Source
+        && function.name.as_str() == "main.main"
+        && function.params.is_empty()
+        && function.free.is_empty()
+        && function.results.is_empty()
+}
+
+/// Whether a function is the wrapper of a promoted method.
+fn promotes(function: &Function) -> bool {
+    function.kind == FunctionKind::Wrapper
+        && function.name.as_str().as_bytes().starts_with(b"promote ")
 }
 
 fn role_of(function: &Function) -> Role {

@@ -35,6 +35,8 @@ pub enum Role {
 #[derive(Drop)]
 pub struct PlannedFunction {
     pub role: Role,
+    /// Whether it is the wrapper of a promoted method, so that an invoke in it passes one embedded interface more.
+    pub promotes: bool,
     pub params: u32,
     /// How many slots a frame has.
     pub slots: u32,

@@ -116,13 +116,13 @@ impl<'a> Machine<'a> {
             BuiltinForm::Recover => Ok(Some(self.recover())),
             BuiltinForm::Max => Ok(Some(self.extreme(true)?)),
             BuiltinForm::Min => Ok(Some(self.extreme(false)?)),
-            BuiltinForm::Cap => match self.waiting.first() {
-                Some(value) => Ok(Some(Value::Int(self.capacity(value)?))),
-                None => Err(Met::Memory),
+            BuiltinForm::Cap => match self.waiting.as_slice() {
+                [value] => Ok(Some(Value::Int(self.capacity(value)?))),
+                _ => Err(Met::Memory),
             },
-            BuiltinForm::Len => match self.waiting.first() {
-                Some(value) => Ok(Some(Value::Int(self.length(value)?))),
-                None => Err(Met::Memory),
+            BuiltinForm::Len => match self.waiting.as_slice() {
+                [value] => Ok(Some(Value::Int(self.length(value)?))),
+                _ => Err(Met::Memory),
             },
             BuiltinForm::Close | BuiltinForm::Panic => Err(Met::Memory),
         }

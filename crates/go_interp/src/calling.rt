@@ -101,11 +101,15 @@ impl<'a> Machine<'a> {
         self.waiting.push(held)?;
         self.push_args(args)?;
         let bound = Bound::Nothing;
-        let chain = match &self.current.top {
-            Some(top) if top.function.role == Role::Wrapper => top.chain.saturating_add(1),
-            _ => 0,
-        };
-        Ok((Ready::Function { function, bound }, chain))
+        Ok((Ready::Function { function, bound }, self.chain_of_invoke()))
+    }
+
+    /// How many embedded interfaces an invoke has passed: in the wrapper of a promoted method one more than that.
+    fn chain_of_invoke(&self) -> u64 {
+        match &self.current.top {
+            Some(top) if top.function.promotes => top.chain.min(MAX_CHAIN).saturating_add(1),
+            _ => self.chain_passed_on(),
+        }
     }
 
     fn call_ready(
@@ -176,6 +180,9 @@ impl<'a> Machine<'a> {
     }
 
     fn push_frame(&mut self, function: &'a PlannedFunction, entry: Entry) -> Result<(), NoMemory> {
+        if self.waiting.len() != function.params as usize {
+            return Err(lost());
+        }
         self.current.stack.enter(function.slots)?;
         let mut slot = function.params;
         for _ in 0..self.waiting.len() {
@@ -274,19 +281,23 @@ impl<'a> Machine<'a> {
         if self.sched.current().number != 0 {
             return self.switch(Point::Ended);
         }
-        let start = self.plan.starts.get(self.started).copied();
-        self.started = self.started.saturating_add(1);
-        self.waiting.clear();
-        match start {
-            Some(function) => self.enter(Entry {
-                function,
-                bound: Bound::Nothing,
-                deferred: false,
-                to: None,
-                chain: 0,
-            }),
+        match self.plan.starts.get(self.started).copied() {
+            Some(function) => self.start_next(function),
             None => self.end(Ending::Exited(0)),
         }
+    }
+
+    /// Goroutine 0 calls the next of the functions that it is to call.
+    fn start_next(&mut self, function: u32) -> Turn {
+        self.started = self.started.saturating_add(1);
+        self.waiting.clear();
+        self.enter(Entry {
+            function,
+            bound: Bound::Nothing,
+            deferred: false,
+            to: None,
+            chain: 0,
+        })
     }
 
     /// Makes a call that was put off.

@@ -267,7 +267,7 @@ impl<'a> Machine<'a> {
     fn waits_at(&self, place: usize) -> Option<&'a Step> {
         let top = self.goroutines.get(place)?.top.as_ref()?;
         let steps: &'a [Step] = top.steps;
-        steps.get(top.step as usize)
+        steps.get(top.step)
     }
 
     /// The register and the value that an instruction gets when what it waited for has happened.

@@ -59,7 +59,7 @@ pub(crate) struct Frame<'a> {
     /// The steps of the block.
     pub steps: &'a [Step],
     /// The index of the next step.
-    pub step: u32,
+    pub step: usize,
     /// Whether it was started as a deferred call.
     pub deferred: bool,
     pub state: FrameState,

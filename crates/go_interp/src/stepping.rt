@@ -30,10 +30,12 @@ impl<'a> Machine<'a> {
             FrameState::Running => {}
             _ => return self.unwind(),
         }
-        let (steps, step): (&'a [Step], u32) = (top.steps, top.step);
-        top.step = step.saturating_add(1);
-        match steps.get(step as usize) {
-            Some(step) => self.act(step),
+        let steps: &'a [Step] = top.steps;
+        match steps.get(top.step) {
+            Some(step) => {
+                top.step = top.step.saturating_add(1);
+                self.act(step)
+            }
             None => Turn::WantsMemory,
         }
     }

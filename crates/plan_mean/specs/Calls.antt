@@ -1,6 +1,6 @@
 -- Calls. Go specification, "Calls", "Method sets", "Defer statements", "Go statements" and "Return statements".
 use Rattle.std.specs.Prelude.{ℕ, suc, ◌==◌, Bool, true, false, ◌||◌, ◌&&◌, List, [], ◌∷◌, ◌++◌, map, pos, Option, Some}
-use Rattle.std.specs.Prelude.{None, nat_le, nat_lt, length, unsigned_abs, if◌then◌else◌, slice_get}
+use Rattle.std.specs.Prelude.{None, min, nat_le, nat_lt, length, unsigned_abs, if◌then◌else◌, slice_get}
 use Rattle.std.specs.Int.{int_rem_euclid}
 use Rattle.std.specs.List.{find}
 use Rattle.std.specs.Option.{option_and_then, option_map, option_map_or}
@@ -37,9 +37,11 @@ abbrev pub passed_on : List Frame → ℕ
 passed_on [] = 0
 passed_on (top ∷ below) = if is_wrapper_frame top then top.chain else 0
 
+-- an invoke by the wrapper of a promoted method is one more
 abbrev pub passed_by_invoke : List Frame → ℕ
 passed_by_invoke [] = 0
-passed_by_invoke (top ∷ below) = if is_wrapper_frame top then suc top.chain else 0
+passed_by_invoke (top ∷ below) =
+    if top.function.promotes then suc (min top.chain most_passed) else passed_on (top ∷ below)
 
 abbrev pub later : Called → ℕ → List Val → Later
 later called chain arguments = record { called = called; arguments = arguments; chain = chain }
