@@ -2,7 +2,7 @@
 
 use go_base::{FuncId, NameId, NoMemory, Pos, TypeId};
 use go_tree::Program;
-use go_type::{MethodEntry, SelectionKind, TypeIds, TypeTerm, Types, method_set};
+use go_type::{Selection, SelectionKind, TypeIds, TypeTerm, Types, find_selector};
 use ssa_ir::{Call, Instr, Instrs, Op, Operand, Operands};
 use std::alloc::Global;
 
@@ -71,24 +71,22 @@ pub(crate) fn hold(types: &mut Types, term: TypeTerm) -> Result<TypeId, NoMemory
     Err(lost())
 }
 
-/// The entry of a method in the method set of a type. None where the type is an interface, whose methods are its own.
-pub(crate) fn entry_of(
+/// A method of a type, with the embedded fields that lead to it. None where the type is an interface, whose methods are its
+/// own.
+pub(crate) fn selection_of(
     alloc: Global,
     types: &Types,
     of: TypeId,
     name: NameId,
     package: u32,
-) -> Result<Option<MethodEntry>, NoMemory> {
+) -> Result<Option<Selection>, NoMemory> {
     if matches!(types.underlying_term(of), Some(TypeTerm::Interface(_))) {
         return Ok(None);
     }
-    let set = method_set(alloc, types, of)?;
-    for entry in set.as_slice() {
-        if entry.name == name && entry.package == package {
-            return Ok(Some(entry.copy(alloc)?));
-        }
+    match find_selector(alloc, types, of, name, package) {
+        Ok(selection) => Ok(Some(selection)),
+        Err(_) => Err(lost()),
     }
-    Err(lost())
 }
 
 /// The value of a type, before any field.

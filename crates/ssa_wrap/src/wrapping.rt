@@ -1,10 +1,10 @@
 //! The wrapper of a need.
 
-use crate::walking::{Held, Straight, entry_of, hold, lost, start_of};
+use crate::walking::{Held, Straight, hold, lost, selection_of, start_of};
 use go_base::{NameId, NoMemory, Text, TypeId};
 use go_text::{Labels, push_method, push_type};
 use go_tree::Program;
-use go_type::{MethodEntry, SelectionKind, Signature, TypeIds, TypeTerm, Types};
+use go_type::{Selection, SelectionKind, Signature, TypeIds, TypeTerm, Types};
 use ssa_ir::{
     Block, BlockIds, Blocks, Call, Function, FunctionKind, Op, Operand, Operands, WrapNeed,
 };
@@ -70,10 +70,17 @@ pub fn wrapper(
 ) -> Result<Function, NoMemory> {
     let wanted = taken_apart(need);
     let name = wrapper_name(alloc, program, labels, types, wanted)?;
-    let entry = entry_of(alloc, types, wanted.receiver, wanted.name, wanted.package)?;
-    let signature = signature_of(alloc, types, wanted, &entry)?;
+    let selection = selection_of(alloc, types, wanted.receiver, wanted.name, wanted.package)?;
+    let signature = signature_of(alloc, types, wanted, &selection)?;
     let mut straight = Straight::new(alloc);
-    let call = call_of(&mut straight, program, types, wanted, &entry, &signature)?;
+    let call = call_of(
+        &mut straight,
+        program,
+        types,
+        wanted,
+        &selection,
+        &signature,
+    )?;
     give(&mut straight, types, call, signature.results.as_slice())?;
     function(alloc, straight, name, wanted, signature)
 }
@@ -108,10 +115,10 @@ fn signature_of(
     alloc: Global,
     types: &Types,
     wanted: Wanted,
-    entry: &Option<MethodEntry>,
+    selection: &Option<Selection>,
 ) -> Result<Signature, NoMemory> {
-    let of = match entry {
-        Some(entry) => entry.of,
+    let of = match selection {
+        Some(selection) => selection.result,
         None => interface_method(types, wanted)?,
     };
     match types.underlying_term(of) {
@@ -147,7 +154,7 @@ fn call_of(
     program: &Program,
     types: &mut Types,
     wanted: Wanted,
-    entry: &Option<MethodEntry>,
+    selection: &Option<Selection>,
     signature: &Signature,
 ) -> Result<Call, NoMemory> {
     let arguments = passed_on(straight.alloc, wanted, signature.params.as_slice().len())?;
@@ -157,7 +164,7 @@ fn call_of(
         Operand::Param(0)
     };
     let (name, package) = (wanted.name, wanted.package);
-    match entry {
+    match selection {
         None => {
             let held = Held {
                 operand: from,
@@ -167,10 +174,10 @@ fn call_of(
             let kind = SelectionKind::InterfaceMethod;
             straight.call(program, held, kind, name, package, arguments)
         }
-        Some(entry) => {
+        Some(selection) => {
             let start = start_of(types, from, wanted.receiver);
-            let end = straight.walk(types, start, entry.path.as_slice())?;
-            straight.call(program, end, entry.kind, name, package, arguments)
+            let end = straight.walk(types, start, selection.path.as_slice())?;
+            straight.call(program, end, selection.kind, name, package, arguments)
         }
     }
 }
