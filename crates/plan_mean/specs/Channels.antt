@@ -59,7 +59,7 @@ abbrev pub gives_done : ℕ → Option Val → Step → Given
 gives_done index it (act.Receive channel zero comma_ok slot) =
     record { slot = Some slot; value = Some (received zero comma_ok it) }
 gives_done index it (act.Select blocking cases slot) =
-    record { slot = Some slot; value = Some (selected cases (Some index) it) }
+    record { slot = Some slot; value = Some (selected cases.items (Some index) it) }
 gives_done index it _ = record { slot = None; value = None }
 
 abbrev pub with_given : Given → List (List (Option Val)) → List (List (Option Val))
