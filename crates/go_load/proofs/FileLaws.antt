@@ -17,9 +17,10 @@ use Rattle.go_load.specs.FileReading.{text_of, ReadsText, ReadsPath, ReadsPaths,
 use Rattle.go_load.specs.Finding.{view_file}
 use Rattle.go_load.specs.Modules.{Broken, ReadsWhole}
 use Rattle.go_load.specs.Places.{first_place, Refuses}
-use Rattle.go_load.specs.Programs.{File, Reads, TooLarge, TooMuch, Bad, Good, with_file, ReadsAll, Ends, Stops, Goes}
+use Rattle.go_load.specs.Programs.{File, Reads, TooLarge, TooMuch, Bad, Good, with_file, ReadsAll, Ends, Stops, Continues}
 use Rattle.go_load.specs.Projects.{FileText, text_at, texts_at}
-use Rattle.go_load.specs.Reading.{BreaksText, IsTree, ReadsTree}
+use Rattle.go_sources.specs.Reading.{HasTree}
+use Rattle.go_load.specs.Reading.{BreaksText, ReadsTree}
 
 -- ---- one text
 
@@ -33,7 +34,7 @@ bad_text path bytes those room (Refused place rule) small within b breaks = Bad 
 bad_text path bytes those room ReadFault small within b breaks = tt
 bad_text path bytes those room OutOfMemory small within b breaks = tt
 
-pub good_text : (path bytes there those : List ℕ) (room : ℕ) (tree : FileTree) → length bytes ≤ 4194304 → length bytes ≤ room → IsTree bytes tree → there ≡ path → those ≡ bytes → Reads room (text_of path bytes) (Ok (record { path = there; bytes = those; tree = tree }))
+pub good_text : (path bytes there those : List ℕ) (room : ℕ) (tree : FileTree) → length bytes ≤ 4194304 → length bytes ≤ room → HasTree bytes tree → there ≡ path → those ≡ bytes → Reads room (text_of path bytes) (Ok (record { path = there; bytes = those; tree = tree }))
 good_text path bytes there those room tree small within fine p b = rw (p, b) (Good small within tree fine)
 
 -- ---- the file at one path
@@ -112,7 +113,7 @@ read_next files paths room left index sources path source h e there reads behind
     let text : FileText = text_of (string_bytes path) source.bytes in
     let file : File = view_file source in
     let texts : List FileText = texts_from files paths (index + 1) in
-    let goes : ReadsAll left (text ∷ texts) (with_file file rest) = Goes left text texts file rest reads more in
+    let goes : ReadsAll left (text ∷ texts) (with_file file rest) = Continues left text texts file rest reads more in
     let here : ReadsAll left (texts_from files paths index) (with_file file rest) =
     subst (λ (these : List FileText). ReadsAll left these (with_file file rest)) (sym (texts_with files paths index path source.bytes h e there)) goes in
     let same : with_files (map view_file sources) (with_file file rest) ≡ with_files (map view_file (sources ++ source ∷ [])) rest =
@@ -198,7 +199,7 @@ built_in_read built_in path text source sources p x reads s =
     let here : Reads 4194304 (text_of (built_in_path built_in) (built_in_text built_in)) (Ok (view_file source)) =
     subst (λ (bytes : List ℕ). Reads 4194304 (text_of (built_in_path built_in) bytes) (Ok (view_file source))) x (subst (λ (name : List ℕ). Reads 4194304 (text_of name text) (Ok (view_file source))) p reads) in
     let all : ReadsAll 4194304 (text_of (built_in_path built_in) (built_in_text built_in) ∷ []) (Ok (view_file source ∷ [])) =
-    Goes 4194304 (text_of (built_in_path built_in) (built_in_text built_in)) [] (view_file source) (Ok []) here (Ends (4194304 - length (built_in_text built_in))) in
+    Continues 4194304 (text_of (built_in_path built_in) (built_in_text built_in)) [] (view_file source) (Ok []) here (Ends (4194304 - length (built_in_text built_in))) in
     subst (λ (these : List SourceFile). ReadsAll 4194304 (text_of (built_in_path built_in) (built_in_text built_in) ∷ []) (Ok (map view_file these))) (sym s) all
 
 pub built_in_refused : (built_in : BuiltIn) (path text : List ℕ) (error : LoadError) → path ≡ built_in_path built_in → text ≡ built_in_text built_in → ReadsText path text 4194304 (Err error) → ReadsBuiltIn built_in (Err error)

@@ -8,7 +8,7 @@ use Rattle.go_load.specs.declared.error.LoadError.{LoadError}
 use Rattle.go_load.specs.declared.error.LoadError.TheVariants.{Refused, ReadFault, OutOfMemory}
 use Rattle.go_load.specs.declared.find_module.Module as code
 use Rattle.go_base.specs.declared.target.Target.{Target}
-use Rattle.go_load.specs.Modules.{Broken, Module, go_mod_in, module_of, own_module, Governs, Own, Nowhere, Above, AnswersModule, ReadsWhole, HasModule, IsTargetDir, MindsModule, MindsTarget, view_module}
+use Rattle.go_load.specs.Modules.{Broken, Module, go_mod_in, module_of, own_module, Governs, Own, Nowhere, Above, AnswersModule, ReadsWhole, HasModule, IsTargetDir, RespectsGoModIn, RespectsGoMod, view_module}
 use Rattle.go_load.specs.Paths.{LiesIn}
 use Rattle.go_load.specs.Places.{first_place}
 
@@ -97,12 +97,12 @@ has_module : (files : Tree) (dir : List ℕ) (found : Option code.Module) → An
 has_module files dir None h = (None, h, tt)
 has_module files dir (Some root) h = (Some (Ok (view_module root)), h, tt)
 
-minds : (files : Tree) (dir : List ℕ) (result : Result Sources LoadError) → HasModule files dir → MindsModule files dir result
-minds files dir (Ok sources) h = h
-minds files dir (Err (Refused place rule)) h = inr h
-minds files dir (Err ReadFault) h = tt
-minds files dir (Err OutOfMemory) h = tt
+respects : (files : Tree) (dir : List ℕ) (result : Result Sources LoadError) → HasModule files dir → RespectsGoModIn files dir result
+respects files dir (Ok sources) h = h
+respects files dir (Err (Refused place rule)) h = inr h
+respects files dir (Err ReadFault) h = tt
+respects files dir (Err OutOfMemory) h = tt
 
-pub module_found : (tree : Option Tree) (target : Target) (dir : List ℕ) (found : Option code.Module) (result : Result Sources LoadError) → IsTargetDir target dir → IfSome tree (λ files. AnswersModule (Ok found) (Governs files dir)) → IfSome tree (λ files. MindsTarget files target result)
+pub module_found : (tree : Option Tree) (target : Target) (dir : List ℕ) (found : Option code.Module) (result : Result Sources LoadError) → IsTargetDir target dir → IfSome tree (λ files. AnswersModule (Ok found) (Governs files dir)) → IfSome tree (λ files. RespectsGoMod files target result)
 module_found None target dir found result d h = tt
-module_found (Some files) target dir found result d h = (dir, d, minds files dir result (has_module files dir found h))
+module_found (Some files) target dir found result d h = (dir, d, respects files dir result (has_module files dir found h))

@@ -12,7 +12,7 @@ use Rattle.go_load.specs.Finding.{view_origin, IsRightAt}
 use Rattle.go_load.specs.Loading.{broken, IfEntry, Checks, ChecksFiles}
 use Rattle.go_load.specs.Modules.{Broken}
 use Rattle.go_load.specs.Places.{first_place, Refuses}
-use Rattle.go_load.specs.Programs.{File, ReadsAll, Ends, Stops, Goes, name_fault, path_asked}
+use Rattle.go_load.specs.Programs.{File, ReadsAll, Ends, Stops, Continues, name_fault, path_asked}
 use Rattle.go_load.specs.Projects.{FileText, Project, Origin, BuiltInFile, Paths, texts_of, texts_at, dir_named, IsOriginOfImport}
 use Rattle.go_load.proofs.Listings.{directory_texts}
 
@@ -26,8 +26,8 @@ refused X place rule OutOfMemory fault e same = tt
 no_files : (room : ℕ) (texts : List FileText) (result : Result (List File) Broken) → ReadsAll room texts result → result ≡ Ok [] → texts ≡ []
 no_files room texts result (Ends _) e = refl
 no_files room texts result (Stops _ text more broken reads) e = cc
-no_files room texts result (Goes _ text more file (Ok rest) reads all) e = cc
-no_files room texts result (Goes _ text more file (Err broken) reads all) e = cc
+no_files room texts result (Continues _ text more file (Ok rest) reads all) e = cc
+no_files room texts result (Continues _ text more file (Err broken) reads all) e = cc
 
 built_in_has_text : (text : FileText) → text ∷ [] ≡ [] → ⊥
 built_in_has_text text e = cc

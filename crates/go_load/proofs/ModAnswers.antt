@@ -6,7 +6,7 @@ use Rattle.go_base.specs.declared.rule.Rule.TheVariants as rules
 use Rattle.go_sources.specs.Sources.{newest_minor}
 use Rattle.go_load.specs.declared.go_mod.Fault.{Fault}
 use Rattle.go_load.specs.GoMod.{Form, Module, Go, Opening, Said, Contents, line_of, module_path, said_in_all, nothing_said, go_mod}
-use Rattle.go_load.specs.GoModLines.{Line, lines_of, StaysOpen, IsInBlock, Says, HasModule, HasGo, malformed_at, Violates, NoForm, NoPath, SecondModule, SecondGo, TooNew, AreSound, GivesPath, GivesMinor, IsGoMod, IsBadGoMod, NoModule, FirstLine, Unclosed}
+use Rattle.go_load.specs.GoModLines.{Line, lines_of, StaysOpen, IsInBlock, HasForm, HasModule, HasGo, malformed_at, Violates, NoForm, NoPath, SecondModule, SecondGo, TooNew, AreSound, GivesPath, GivesMinor, IsGoMod, IsBadGoMod, NoModule, FirstLine, Unclosed}
 use Rattle.go_load.specs.Words.{is_newline}
 use Rattle.go_load.proofs.ModLines.{Holds, HasPath, PathHolds, MinorHolds, BlockHolds, FaultHolds, all_lines, all_hold, same_line, same_form, said_by, take_all}
 
@@ -60,23 +60,23 @@ Order i j = (i < j) ⊎ ((j < i) ⊎ (i ≡ j))
 order : (i j : ℕ) → Order i j
 order i j = grind arith
 
-within : (lines : List Line) (i : ℕ) (line : Line) {form : Form} → Says lines i line form → i < length lines
+within : (lines : List Line) (i : ℕ) (line : Line) {form : Form} → HasForm lines i line form → i < length lines
 within lines i line s = slice_get_within lines i line s.stands
 
 -- a module line that breaks no rule is the first
-module_first : (lines : List Line) (i j : ℕ) (line other : Line) (word second : List ℕ) → AreSound lines (length lines) → Says lines i line (Module word) → Says lines j other (Module second) → i < j → ⊥
+module_first : (lines : List Line) (i j : ℕ) (line other : Line) (word second : List ℕ) → AreSound lines (length lines) → HasForm lines i line (Module word) → HasForm lines j other (Module second) → i < j → ⊥
 module_first lines i j line other word second sound s t b =
     sound j other (malformed_at other.at) (within lines j other t) (SecondModule second t (i, line, word, b, s))
 
-go_first : (lines : List Line) (i j : ℕ) (line other : Line) (at minor place version : ℕ) → AreSound lines (length lines) → Says lines i line (Go at minor) → Says lines j other (Go place version) → i < j → ⊥
+go_first : (lines : List Line) (i j : ℕ) (line other : Line) (at minor place version : ℕ) → AreSound lines (length lines) → HasForm lines i line (Go at minor) → HasForm lines j other (Go place version) → i < j → ⊥
 go_first lines i j line other at minor place version sound s t b =
     sound j other (malformed_at other.at) (within lines j other t) (SecondGo place version t (i, line, at, minor, b, s))
 
-moved_says : (lines : List Line) (i j : ℕ) (line : Line) (form : Form) → i ≡ j → Says lines i line form → Says lines j line form
-moved_says lines i j line form e s = subst (λ (k : ℕ). Says lines k line form) e s
+moved_says : (lines : List Line) (i j : ℕ) (line : Line) (form : Form) → i ≡ j → HasForm lines i line form → HasForm lines j line form
+moved_says lines i j line form e s = subst (λ (k : ℕ). HasForm lines k line form) e s
 
 -- forms at one place are the same
-form_at : (lines : List Line) (i j : ℕ) (line other : Line) (form second : Form) → i ≡ j → Says lines i line form → Says lines j other second → form ≡ second
+form_at : (lines : List Line) (i j : ℕ) (line other : Line) (form second : Form) → i ≡ j → HasForm lines i line form → HasForm lines j other second → form ≡ second
 form_at lines i j line other form second e s t = same_form lines j line other form second (moved_says lines i j line form e s) t
 
 one_path : (lines : List Line) (a b : List ℕ) → AreSound lines (length lines) → GivesPath lines a → GivesPath lines b → a ≡ b
@@ -118,7 +118,7 @@ module_in lines path g = (g.0, g.1, g.2, within lines g.0 g.1 g.3, g.3)
 place_within : (lines : List Line) (i : ℕ) (line : Line) {fault : Fault} → Violates lines i line fault → i < length lines
 place_within lines i line v = within lines i line (said_by lines i line v).1
 
-in_block : (lines : List Line) (i n : ℕ) (line : Line) → i < n → Says lines i line Opening → StaysOpen lines i n → IsInBlock lines n
+in_block : (lines : List Line) (i n : ℕ) (line : Line) → i < n → HasForm lines i line Opening → StaysOpen lines i n → IsInBlock lines n
 in_block lines i n line b s o = record { i = i; line = line; stands = s.stands; before = b; opens = s.says; unclosed = o }
 
 never_both : (lines : List Line) (contents : Contents) {fault : Fault} → IsGoMod lines contents → IsBadGoMod lines fault → ⊥
@@ -165,7 +165,7 @@ first_fault lines i j line other f g v s w t = by (order i j)
     by (inr (inl more)) = absurd (s j other g more w)
     by (inr (inr e)) = one_violation lines i j line other f g e v w
 
-last_block : (lines : List Line) (i j : ℕ) (line other : Line) → Says lines i line Opening → StaysOpen lines i (length lines) → Says lines j other Opening → StaysOpen lines j (length lines) → line.at ≡ other.at
+last_block : (lines : List Line) (i j : ℕ) (line other : Line) → HasForm lines i line Opening → StaysOpen lines i (length lines) → HasForm lines j other Opening → StaysOpen lines j (length lines) → line.at ≡ other.at
 last_block lines i j line other s o t p = by (order i j)
   where
     shorter : (k m : ℕ) → m < length lines → StaysOpen lines k (length lines) → StaysOpen lines k m

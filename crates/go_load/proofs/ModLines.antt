@@ -8,7 +8,7 @@ use Rattle.go_base.specs.declared.rule.Rule.TheVariants as rules
 use Rattle.go_sources.specs.Sources.{newest_minor}
 use Rattle.go_load.specs.declared.go_mod.Fault.{Fault}
 use Rattle.go_load.specs.GoMod.{Form, Blank, Module, Go, Opening, Malformed, Said, module_line, go_line, is_passed_over, lone_word, is_closing, line_of, module_path, refuse, with_path, take_line, take_text, take_lines, nothing_said}
-use Rattle.go_load.specs.GoModLines.{Line, lines_from, closes, StaysOpen, IsInBlock, Says, HasModule, HasGo, Violates, NoForm, NoPath, SecondModule, SecondGo, TooNew, AreSound}
+use Rattle.go_load.specs.GoModLines.{Line, lines_from, closes, StaysOpen, IsInBlock, HasForm, HasModule, HasGo, Violates, NoForm, NoPath, SecondModule, SecondGo, TooNew, AreSound}
 use Rattle.go_load.specs.Words.{first_word, after_word, ends_in_opening, without_comment}
 
 -- ---- lines one after another
@@ -28,7 +28,7 @@ pub record OpenSince (lines : List Line) (n at : ℕ) : Type 0 where
   pub i : ℕ
   pub line : Line
   pub before : i < n
-  pub says : Says lines i line Opening
+  pub says : HasForm lines i line Opening
   pub unclosed : StaysOpen lines i n
   pub place : line.at ≡ at
 
@@ -38,7 +38,7 @@ pub record HasPath (lines : List Line) (n : ℕ) (path : List ℕ) : Type 0 wher
   pub line : Line
   pub word : List ℕ
   pub before : i < n
-  pub says : Says lines i line (Module word)
+  pub says : HasForm lines i line (Module word)
   pub path_is : unwrap_or (module_path word) [] ≡ path
 
 pub record HasMinor (lines : List Line) (n minor : ℕ) : Type 0 where
@@ -46,7 +46,7 @@ pub record HasMinor (lines : List Line) (n minor : ℕ) : Type 0 where
   pub line : Line
   pub at : ℕ
   pub before : i < n
-  pub says : Says lines i line (Go at minor)
+  pub says : HasForm lines i line (Go at minor)
 
 pub record FirstFault (lines : List Line) (n : ℕ) (fault : Fault) : Type 0 where
   pub i : ℕ
@@ -78,12 +78,12 @@ pub record Holds (lines : List Line) (n : ℕ) (said : Said) : Type 0 where
 pub same_line : (lines : List Line) (i : ℕ) (a b : Line) → slice_get lines i ≡ Some a → slice_get lines i ≡ Some b → a ≡ b
 same_line lines i a b p q = cc (p, q)
 
-pub same_form : (lines : List Line) (i : ℕ) (a b : Line) (f g : Form) → Says lines i a f → Says lines i b g → f ≡ g
+pub same_form : (lines : List Line) (i : ℕ) (a b : Line) (f g : Form) → HasForm lines i a f → HasForm lines i b g → f ≡ g
 same_form lines i a b f g s t =
     sym s.says ∙ ap (λ (l : Line). line_of l.at l.text) (same_line lines i a b s.stands t.stands) ∙ t.says
 
 -- what a line that breaks a rule says
-pub said_by : (lines : List Line) (i : ℕ) (line : Line) {fault : Fault} → Violates lines i line fault → (form : Form) × Says lines i line form
+pub said_by : (lines : List Line) (i : ℕ) (line : Line) {fault : Fault} → Violates lines i line fault → (form : Form) × HasForm lines i line form
 said_by lines i line (NoForm s) = (Malformed, s)
 said_by lines i line (NoPath word s e) = (Module word, s)
 said_by lines i line (SecondModule word s h) = (Module word, s)
@@ -101,7 +101,7 @@ Permits lines i Malformed = ⊥
 no_path : (o : Option (List ℕ)) (path : List ℕ) → o ≡ None → o ≡ Some path → ⊥
 no_path o path e f = cc (e, f)
 
-no_fault : (lines : List Line) (i : ℕ) (line other : Line) (form : Form) → Says lines i line form → Permits lines i form → {fault : Fault} → Violates lines i other fault → ⊥
+no_fault : (lines : List Line) (i : ℕ) (line other : Line) (form : Form) → HasForm lines i line form → Permits lines i form → {fault : Fault} → Violates lines i other fault → ⊥
 no_fault lines i line other form s p (NoForm t) = subst (Permits lines i) (same_form lines i line other form Malformed s t) p
 no_fault lines i line other form s p (NoPath word t e) =
     let h : Permits lines i (Module word) = subst (Permits lines i) (same_form lines i line other form (Module word) s t) p in
@@ -177,12 +177,12 @@ later_fault : (lines : List Line) (n : ℕ) (fault : Fault) → FirstFault lines
 later_fault lines n fault h = record { i = h.i; line = h.line; before = later h.i n h.before; violates = h.violates; sound = h.sound }
 
 module _ (lines : List Line) (n : ℕ) (line : Line) (here : slice_get lines n ≡ Some line) where
-  moved : (k : ℕ) (other : Line) (form : Form) → k ≡ n → Says lines k other form → Says lines n line form
+  moved : (k : ℕ) (other : Line) (form : Form) → k ≡ n → HasForm lines k other form → HasForm lines n line form
   moved k other form e s =
-      let there : Says lines n other form = subst (λ (m : ℕ). Says lines m other form) e s in
-      subst (λ (l : Line). Says lines n l form) (same_line lines n other line there.stands here) there
+      let there : HasForm lines n other form = subst (λ (m : ℕ). HasForm lines m other form) e s in
+      subst (λ (l : Line). HasForm lines n l form) (same_line lines n other line there.stands here) there
 
-  keep_path : (path : Option (List ℕ)) → ((word : List ℕ) → Says lines n line (Module word) → ⊥) → PathHolds lines n path → PathHolds lines (n + 1) path
+  keep_path : (path : Option (List ℕ)) → ((word : List ℕ) → HasForm lines n line (Module word) → ⊥) → PathHolds lines n path → PathHolds lines (n + 1) path
   keep_path None quiet h = λ m. by m (split m.0 n m.3)
     where
       by : (m : HasModule lines (n + 1)) → (m.0 < n) ⊎ (m.0 ≡ n) → ⊥
@@ -190,7 +190,7 @@ module _ (lines : List Line) (n : ℕ) (line : Line) (here : slice_get lines n �
       by m (inr e) = quiet m.2 (moved m.0 m.1 (Module m.2) e m.4)
   keep_path (Some path) quiet h = later_path lines n path h
 
-  keep_minor : (minor : Option ℕ) → ((at minor : ℕ) → Says lines n line (Go at minor) → ⊥) → MinorHolds lines n minor → MinorHolds lines (n + 1) minor
+  keep_minor : (minor : Option ℕ) → ((at minor : ℕ) → HasForm lines n line (Go at minor) → ⊥) → MinorHolds lines n minor → MinorHolds lines (n + 1) minor
   keep_minor None quiet h = λ m. by m (split m.0 n m.4)
     where
       by : (m : HasGo lines (n + 1)) → (m.0 < n) ⊎ (m.0 ≡ n) → ⊥
@@ -259,19 +259,19 @@ module _ (lines : List Line) (n : ℕ) (line : Line) (here : slice_get lines n �
 
   -- ---- a line outside blocks, with what it says
 
-  silent_line : (form : Form) → Says lines n line form → Permits lines n form → (other : Line) (fault : Fault) → Violates lines n other fault → ⊥
+  silent_line : (form : Form) → HasForm lines n line form → Permits lines n form → (other : Line) (fault : Fault) → Violates lines n other fault → ⊥
   silent_line form s p other fault v = no_fault lines n line other form s p v
 
-  no_module : (form : Form) → Says lines n line form → ((word : List ℕ) → form ≡ Module word → ⊥) → (word : List ℕ) → Says lines n line (Module word) → ⊥
+  no_module : (form : Form) → HasForm lines n line form → ((word : List ℕ) → form ≡ Module word → ⊥) → (word : List ℕ) → HasForm lines n line (Module word) → ⊥
   no_module form s other word t = other word (same_form lines n line line form (Module word) s t)
 
-  no_go : (form : Form) → Says lines n line form → ((at minor : ℕ) → form ≡ Go at minor → ⊥) → (at minor : ℕ) → Says lines n line (Go at minor) → ⊥
+  no_go : (form : Form) → HasForm lines n line form → ((at minor : ℕ) → form ≡ Go at minor → ⊥) → (at minor : ℕ) → HasForm lines n line (Go at minor) → ⊥
   no_go form s other at minor t = other at minor (same_form lines n line line form (Go at minor) s t)
 
-  not_open : (form : Form) → Says lines n line form → (form ≡ Opening → ⊥) → IsInBlock lines (n + 1) → ⊥
+  not_open : (form : Form) → HasForm lines n line form → (form ≡ Opening → ⊥) → IsInBlock lines (n + 1) → ⊥
   not_open form s other = still_closed (λ b. absurd (s.outside b)) (λ o. other (sym s.says ∙ o))
 
-  blank_line : (path : Option (List ℕ)) (minor : Option ℕ) (fault : Option Fault) → Says lines n line Blank → Holds lines n (record { path = path; minor = minor; block = None; fault = fault }) → Holds lines (n + 1) (record { path = path; minor = minor; block = None; fault = fault })
+  blank_line : (path : Option (List ℕ)) (minor : Option ℕ) (fault : Option Fault) → HasForm lines n line Blank → Holds lines n (record { path = path; minor = minor; block = None; fault = fault }) → Holds lines (n + 1) (record { path = path; minor = minor; block = None; fault = fault })
   blank_line path minor fault s h = record {
     path = keep_path path (no_module Blank s (λ word e. cc e)) h.path;
     minor = keep_minor minor (no_go Blank s (λ at version e. cc e)) h.minor;
@@ -279,7 +279,7 @@ module _ (lines : List Line) (n : ℕ) (line : Line) (here : slice_get lines n �
     fault = keep_fault fault (silent_line Blank s tt) h.fault;
   }
 
-  opening_line : (path : Option (List ℕ)) (minor : Option ℕ) (fault : Option Fault) → Says lines n line Opening → Holds lines n (record { path = path; minor = minor; block = None; fault = fault }) → Holds lines (n + 1) (record { path = path; minor = minor; block = Some line.at; fault = fault })
+  opening_line : (path : Option (List ℕ)) (minor : Option ℕ) (fault : Option Fault) → HasForm lines n line Opening → Holds lines n (record { path = path; minor = minor; block = None; fault = fault }) → Holds lines (n + 1) (record { path = path; minor = minor; block = Some line.at; fault = fault })
   opening_line path minor fault s h = record {
     path = keep_path path (no_module Opening s (λ word e. cc e)) h.path;
     minor = keep_minor minor (no_go Opening s (λ at version e. cc e)) h.minor;
@@ -287,14 +287,14 @@ module _ (lines : List Line) (n : ℕ) (line : Line) (here : slice_get lines n �
     fault = keep_fault fault (silent_line Opening s tt) h.fault;
   }
 
-  malformed_line : (path : Option (List ℕ)) (minor : Option ℕ) (fault : Option Fault) → Says lines n line Malformed → Holds lines n (record { path = path; minor = minor; block = None; fault = fault }) → Holds lines (n + 1) (refuse line.at rules.MalformedGoMod (record { path = path; minor = minor; block = None; fault = fault }))
+  malformed_line : (path : Option (List ℕ)) (minor : Option ℕ) (fault : Option Fault) → HasForm lines n line Malformed → Holds lines n (record { path = path; minor = minor; block = None; fault = fault }) → Holds lines (n + 1) (refuse line.at rules.MalformedGoMod (record { path = path; minor = minor; block = None; fault = fault }))
   malformed_line path minor fault s h =
       refused path minor None fault line.at rules.MalformedGoMod (NoForm s) (keep_path path (no_module Malformed s (λ word e. cc e)) h.path) (keep_minor minor (no_go Malformed s (λ at version e. cc e)) h.minor) (not_open Malformed s (λ e. cc e)) h.fault
 
-  module_at : (word path : List ℕ) → Says lines n line (Module word) → unwrap_or (module_path word) [] ≡ path → HasPath lines (n + 1) path
+  module_at : (word path : List ℕ) → HasForm lines n line (Module word) → unwrap_or (module_path word) [] ≡ path → HasPath lines (n + 1) path
   module_at word path s e = record { i = n; line = line; word = word; before = behind n; says = s; path_is = e }
 
-  first_module : (minor : Option ℕ) (fault : Option Fault) (word : List ℕ) (o : Option (List ℕ)) → module_path word ≡ o → Says lines n line (Module word) → Holds lines n (record { path = None; minor = minor; block = None; fault = fault }) → Holds lines (n + 1) (with_path line.at o (record { path = None; minor = minor; block = None; fault = fault }))
+  first_module : (minor : Option ℕ) (fault : Option Fault) (word : List ℕ) (o : Option (List ℕ)) → module_path word ≡ o → HasForm lines n line (Module word) → Holds lines n (record { path = None; minor = minor; block = None; fault = fault }) → Holds lines (n + 1) (with_path line.at o (record { path = None; minor = minor; block = None; fault = fault }))
   first_module minor fault word None e s h =
       refused (Some []) minor None fault line.at rules.MalformedGoMod (NoPath word s e) (module_at word [] s (ap (λ (o : Option (List ℕ)). unwrap_or o []) e)) (keep_minor minor (no_go (Module word) s (λ at version f. cc f)) h.minor) (not_open (Module word) s (λ f. cc f)) h.fault
   first_module minor fault word (Some path) e s h = record {
@@ -304,15 +304,15 @@ module _ (lines : List Line) (n : ℕ) (line : Line) (here : slice_get lines n �
     fault = keep_fault fault (silent_line (Module word) s (path, e, h.path)) h.fault;
   }
 
-  module_line_holds : (path : Option (List ℕ)) (minor : Option ℕ) (fault : Option Fault) (word : List ℕ) → Says lines n line (Module word) → Holds lines n (record { path = path; minor = minor; block = None; fault = fault }) → Holds lines (n + 1) (take_line line.at (Module word) (record { path = path; minor = minor; block = None; fault = fault }))
+  module_line_holds : (path : Option (List ℕ)) (minor : Option ℕ) (fault : Option Fault) (word : List ℕ) → HasForm lines n line (Module word) → Holds lines n (record { path = path; minor = minor; block = None; fault = fault }) → Holds lines (n + 1) (take_line line.at (Module word) (record { path = path; minor = minor; block = None; fault = fault }))
   module_line_holds None minor fault word s h = first_module minor fault word (module_path word) refl s h
   module_line_holds (Some path) minor fault word s h =
       refused (Some path) minor None fault line.at rules.MalformedGoMod (SecondModule word s (h.path.i, h.path.line, h.path.word, h.path.before, h.path.says)) (later_path lines n path h.path) (keep_minor minor (no_go (Module word) s (λ at version f. cc f)) h.minor) (not_open (Module word) s (λ f. cc f)) h.fault
 
-  go_at : (at minor : ℕ) → Says lines n line (Go at minor) → HasMinor lines (n + 1) minor
+  go_at : (at minor : ℕ) → HasForm lines n line (Go at minor) → HasMinor lines (n + 1) minor
   go_at at minor s = record { i = n; line = line; at = at; before = behind n; says = s }
 
-  first_go : (path : Option (List ℕ)) (fault : Option Fault) (at minor : ℕ) (b : Bool) → nat_lt newest_minor minor ≡ b → Says lines n line (Go at minor) → Holds lines n (record { path = path; minor = None; block = None; fault = fault }) → Holds lines (n + 1) (if b then refuse at rules.GoVersionNotSupported (record { path = path; minor = Some minor; block = None; fault = fault }) else record { path = path; minor = Some minor; block = None; fault = fault })
+  first_go : (path : Option (List ℕ)) (fault : Option Fault) (at minor : ℕ) (b : Bool) → nat_lt newest_minor minor ≡ b → HasForm lines n line (Go at minor) → Holds lines n (record { path = path; minor = None; block = None; fault = fault }) → Holds lines (n + 1) (if b then refuse at rules.GoVersionNotSupported (record { path = path; minor = Some minor; block = None; fault = fault }) else record { path = path; minor = Some minor; block = None; fault = fault })
   first_go path fault at minor true e s h =
       refused path (Some minor) None fault at rules.GoVersionNotSupported (TooNew at minor s h.minor (ltb-true newest_minor minor e)) (keep_path path (no_module (Go at minor) s (λ word f. cc f)) h.path) (go_at at minor s) (not_open (Go at minor) s (λ f. cc f)) h.fault
   first_go path fault at minor false e s h = record {
@@ -322,12 +322,12 @@ module _ (lines : List Line) (n : ℕ) (line : Line) (here : slice_get lines n �
     fault = keep_fault fault (silent_line (Go at minor) s (h.minor, λ newer. absurd (omega (arith, newer, ltb-false newest_minor minor e)))) h.fault;
   }
 
-  go_line_holds : (path : Option (List ℕ)) (minor : Option ℕ) (fault : Option Fault) (at version : ℕ) → Says lines n line (Go at version) → Holds lines n (record { path = path; minor = minor; block = None; fault = fault }) → Holds lines (n + 1) (take_line line.at (Go at version) (record { path = path; minor = minor; block = None; fault = fault }))
+  go_line_holds : (path : Option (List ℕ)) (minor : Option ℕ) (fault : Option Fault) (at version : ℕ) → HasForm lines n line (Go at version) → Holds lines n (record { path = path; minor = minor; block = None; fault = fault }) → Holds lines (n + 1) (take_line line.at (Go at version) (record { path = path; minor = minor; block = None; fault = fault }))
   go_line_holds path None fault at version s h = first_go path fault at version (nat_lt newest_minor version) refl s h
   go_line_holds path (Some minor) fault at version s h =
       refused path (Some minor) None fault line.at rules.MalformedGoMod (SecondGo at version s (h.minor.i, h.minor.line, h.minor.at, minor, h.minor.before, h.minor.says)) (keep_path path (no_module (Go at version) s (λ word f. cc f)) h.path) (later_minor lines n minor h.minor) (not_open (Go at version) s (λ f. cc f)) h.fault
 
-  line_holds : (path : Option (List ℕ)) (minor : Option ℕ) (fault : Option Fault) (form : Form) → Says lines n line form → Holds lines n (record { path = path; minor = minor; block = None; fault = fault }) → Holds lines (n + 1) (take_line line.at form (record { path = path; minor = minor; block = None; fault = fault }))
+  line_holds : (path : Option (List ℕ)) (minor : Option ℕ) (fault : Option Fault) (form : Form) → HasForm lines n line form → Holds lines n (record { path = path; minor = minor; block = None; fault = fault }) → Holds lines (n + 1) (take_line line.at form (record { path = path; minor = minor; block = None; fault = fault }))
   line_holds path minor fault Blank s h = blank_line path minor fault s h
   line_holds path minor fault (Module word) s h = module_line_holds path minor fault word s h
   line_holds path minor fault (Go at version) s h = go_line_holds path minor fault at version s h

@@ -18,7 +18,7 @@ use Rattle.go_syntax.specs.declared.decls.FileTree.{FileTree}
 use Rattle.go_load.specs.Modules.{Broken}
 use Rattle.go_load.specs.OneReading.{IsSameFile, IsSameResult, AreSameFiles, IsSameRead, AreSameRead}
 use Rattle.go_load.specs.Places.{start_in}
-use Rattle.go_load.specs.Programs.{File, Reads, TooLarge, TooMuch, Bad, Good, ReadsAll, Ends, Stops, Goes, with_file}
+use Rattle.go_load.specs.Programs.{File, Reads, TooLarge, TooMuch, Bad, Good, ReadsAll, Ends, Stops, Continues, with_file}
 use Rattle.go_load.specs.Projects.{FileText}
 use Rattle.go_load.specs.Reading.{IsVerdict, IsBadText, BadBytes, TooDeep, BadSyntax, BreaksText}
 
@@ -108,11 +108,11 @@ one_read room text (TooMuch h more) (Good k fits tree has) = absurd (omega (arit
 one_read room text (Bad h fits place rule breaks) (TooLarge k) = absurd (omega (arith, h, k))
 one_read room text (Bad h fits place rule breaks) (TooMuch k more) = absurd (omega (arith, more, fits))
 one_read room text (Bad h fits place rule breaks) (Bad k room_too at by broken) = one_break text.path text.bytes place at rule by breaks broken
-one_read room text (Bad h fits place rule breaks) (Good k room_too tree is) = tree_or_fault text.bytes tree is.has breaks.bad
+one_read room text (Bad h fits place rule breaks) (Good k room_too tree is) = tree_or_fault text.bytes tree is breaks.bad
 one_read room text (Good h fits tree has) (TooLarge k) = absurd (omega (arith, h, k))
 one_read room text (Good h fits tree has) (TooMuch k more) = absurd (omega (arith, more, fits))
-one_read room text (Good h fits tree is) (Bad k room_too place rule breaks) = tree_or_fault text.bytes tree is.has breaks.bad
-one_read room text (Good h fits a is) (Good k room_too b are) = record { path = refl; bytes = refl; tree = one_view text.bytes a b is.has are.has }
+one_read room text (Good h fits tree is) (Bad k room_too place rule breaks) = tree_or_fault text.bytes tree is breaks.bad
+one_read room text (Good h fits a is) (Good k room_too b are) = record { path = refl; bytes = refl; tree = one_view text.bytes a b is are }
 
 same_with : (file other : File) (a b : Result (List File) Broken) → IsSameFile file other → AreSameRead a b → AreSameRead (with_file file a) (with_file other b)
 same_with file other (Ok a) (Ok b) f h = (f, h)
@@ -123,7 +123,7 @@ same_with file other (Err broken) (Err again) f h = h
 pub one_reading : (room : ℕ) (texts : List FileText) {a b : Result (List File) Broken} → ReadsAll room texts a → ReadsAll room texts b → AreSameRead a b
 one_reading room _ (Ends _) (Ends _) = tt
 one_reading room _ (Stops _ text texts broken h) (Stops _ _ _ other k) = one_read room text h k
-one_reading room _ (Stops _ text texts broken h) (Goes _ _ _ file rest k more) = absurd (one_read room text h k)
-one_reading room _ (Goes _ text texts file rest h more) (Stops _ _ _ broken k) = absurd (one_read room text h k)
-one_reading room _ (Goes _ text texts file rest h more) (Goes _ _ _ other left k others) =
+one_reading room _ (Stops _ text texts broken h) (Continues _ _ _ file rest k more) = absurd (one_read room text h k)
+one_reading room _ (Continues _ text texts file rest h more) (Stops _ _ _ broken k) = absurd (one_read room text h k)
+one_reading room _ (Continues _ text texts file rest h more) (Continues _ _ _ other left k others) =
     same_with file other rest left (one_read room text h k) (one_reading (room - length text.bytes) texts more others)

@@ -13,7 +13,7 @@ use Rattle.go_load.specs.declared.error.LoadError.TheVariants.{Refused, ReadFaul
 use Rattle.go_load.specs.declared.found.Entry.{Entry}
 use Rattle.go_load.specs.declared.found.Found.{Found}
 use Rattle.go_load.specs.declared.loader.Loader.{Loader}
-use Rattle.go_load.specs.FileReading.{AreOf, Says, view_files}
+use Rattle.go_load.specs.FileReading.{AreOf, AnswersBy, view_files}
 use Rattle.go_load.specs.Finding.{view_file, view_origin, AreRight, IsRightAt}
 use Rattle.go_load.specs.Loading.{broken, Checks, ChecksFiles, FindsImportsOf, Holds, IfEntry, LoadsFiles, LoadsPackage, PackageImportsFound, PackageLoaded, AddsPackage, told_package}
 use Rattle.go_load.specs.Modules.{Broken}
@@ -75,14 +75,14 @@ by_entry files number old new result within f = λ project packages files_are ho
     f project packages found.0 files_are holds at (ap (slice_get old.found.entries.items) (sym at) ∙ found.1)
 
 read_of : (files : Tree) (number : ℕ) (old : Loader) (entry : Entry) (result : Result (Vec SourceFile Global) LoadError) → slice_get old.found.entries.items number ≡ Some entry → LoadsFiles files number old result
-    → Says view_files (ReadsAll (if built_in_at entry then max_file_bytes else old.left) (texts_of files (origin_of entry))) result
+    → AnswersBy view_files (ReadsAll (if built_in_at entry then max_file_bytes else old.left) (texts_of files (origin_of entry))) result
 read_of files number old entry result e h =
-    at_entry old.found number entry (λ entry. let origin = view_origin entry.origin in Says view_files (ReadsAll (if is_built_in origin then max_file_bytes else old.left) (texts_of files origin)) result) e h
+    at_entry old.found number entry (λ entry. let origin = view_origin entry.origin in AnswersBy view_files (ReadsAll (if is_built_in origin then max_file_bytes else old.left) (texts_of files origin)) result) e h
 
 read_in : (project : Project) (files : Tree) (number : ℕ) (packages : List Package) (old : Loader) (entry : Entry) (result : Result (Vec SourceFile Global) LoadError) → project.files ≡ files → number ≡ length packages → slice_get old.found.entries.items (length packages) ≡ Some entry → LoadsFiles files number old result
-    → Says view_files (ReadsAll (if built_in_at entry then max_file_bytes else old.left) (texts_of project.files (origin_of entry))) result
+    → AnswersBy view_files (ReadsAll (if built_in_at entry then max_file_bytes else old.left) (texts_of project.files (origin_of entry))) result
 read_in project files number packages old entry result files_are at e h =
-    subst (λ (tree : Tree). Says view_files (ReadsAll (if built_in_at entry then max_file_bytes else old.left) (texts_of tree (origin_of entry))) result) (sym files_are)
+    subst (λ (tree : Tree). AnswersBy view_files (ReadsAll (if built_in_at entry then max_file_bytes else old.left) (texts_of tree (origin_of entry))) result) (sym files_are)
     (read_of files number old entry result (ap (slice_get old.found.entries.items) at ∙ e) h)
 
 pub unread : (tree : Option Tree) (number : ℕ) (old new : Loader) (error : LoadError) → number < length old.found.entries.items → IfSome tree (λ files. LoadsFiles files number old (Err error)) → IfSome tree (λ files. LoadsPackage files number old new (Err error))

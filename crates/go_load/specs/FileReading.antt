@@ -19,18 +19,18 @@ abbrev pub text_of : List ℕ → List ℕ → FileText
 text_of path bytes = record { path = path; bytes = bytes }
 
 -- an answer of the code, seen by view; a failed device and want of memory are free
-abbrev pub Says : {X Y : Type 0} → (X → Y) → (Result Y Broken → Type 0) → Result X LoadError → Type 0
-Says view Holds (Ok x) = Holds (Ok (view x))
-Says view Holds (Err (Refused place rule)) = Holds (Err (record { place = place; rule = rule }))
-Says view Holds (Err ReadFault) = Unit {0}
-Says view Holds (Err OutOfMemory) = Unit {0}
+abbrev pub AnswersBy : {X Y : Type 0} → (X → Y) → (Result Y Broken → Type 0) → Result X LoadError → Type 0
+AnswersBy view Holds (Ok x) = Holds (Ok (view x))
+AnswersBy view Holds (Err (Refused place rule)) = Holds (Err (record { place = place; rule = rule }))
+AnswersBy view Holds (Err ReadFault) = Unit {0}
+AnswersBy view Holds (Err OutOfMemory) = Unit {0}
 
 abbrev pub view_files : Vec SourceFile Global → List File
 view_files files = map view_file files.items
 
 -- the answer for a text
 abbrev pub ReadsText : List ℕ → List ℕ → ℕ → Result SourceFile LoadError → Type 0
-ReadsText path bytes room result = Says view_file (Reads room (text_of path bytes)) result
+ReadsText path bytes room result = AnswersBy view_file (Reads room (text_of path bytes)) result
 
 -- the answer for the file at a path
 abbrev pub ReadsPath : Tree → List ℕ → ℕ → Result (Option SourceFile) LoadError → Type 0
@@ -46,12 +46,14 @@ ReadsPath files path room (Err OutOfMemory) = Unit {0}
 
 -- the answer for the files at paths
 abbrev pub ReadsPaths : Tree → List (String Global) → ℕ → Result (Vec SourceFile Global) LoadError → Type 0
-ReadsPaths files paths room result = Says view_files (ReadsAll room (texts_at files (map string_bytes paths))) result
+ReadsPaths files paths room result =
+    AnswersBy view_files (ReadsAll room (texts_at files (map string_bytes paths))) result
 
 -- the answer for the file of a built-in package
 abbrev pub ReadsBuiltIn : BuiltIn → Result (Vec SourceFile Global) LoadError → Type 0
 ReadsBuiltIn built_in result =
-    Says view_files (ReadsAll max_file_bytes (text_of (built_in_path built_in) (built_in_text built_in) ∷ [])) result
+    AnswersBy view_files
+    (ReadsAll max_file_bytes (text_of (built_in_path built_in) (built_in_text built_in) ∷ [])) result
 
 -- files are those of the package with this number
 abbrev pub AreOf : ℕ → List SourceFile → Type 0

@@ -42,8 +42,8 @@ pub record IsInBlock (lines : List Line) (n : ℕ) : Type 0 where
   pub opens : line_of line.at line.text ≡ Opening
   pub unclosed : StaysOpen lines i n
 
--- line i is this one, which stands in no block, and says this
-pub record Says (lines : List Line) (i : ℕ) (line : Line) (form : Form) : Type 0 where
+-- line i is this one, which stands in no block, and has this form
+pub record HasForm (lines : List Line) (i : ℕ) (line : Line) (form : Form) : Type 0 where
   pub stands : slice_get lines i ≡ Some line
   pub outside : IsInBlock lines i → ⊥
   pub says : line_of line.at line.text ≡ form
@@ -52,11 +52,11 @@ pub record Says (lines : List Line) (i : ℕ) (line : Line) (form : Form) : Type
 
 -- a module line stands before line n
 abbrev pub HasModule : List Line → ℕ → Type 0
-HasModule lines n = (i : ℕ) × (line : Line) × (word : List ℕ) × (i < n) × Says lines i line (Module word)
+HasModule lines n = (i : ℕ) × (line : Line) × (word : List ℕ) × (i < n) × HasForm lines i line (Module word)
 
 -- a go line stands before line n
 abbrev pub HasGo : List Line → ℕ → Type 0
-HasGo lines n = (i : ℕ) × (line : Line) × (at : ℕ) × (minor : ℕ) × (i < n) × Says lines i line (Go at minor)
+HasGo lines n = (i : ℕ) × (line : Line) × (at : ℕ) × (minor : ℕ) × (i < n) × HasForm lines i line (Go at minor)
 
 abbrev pub malformed_at : ℕ → Fault
 malformed_at offset = record { offset = offset; rule = rules.MalformedGoMod }
@@ -64,18 +64,18 @@ malformed_at offset = record { offset = offset; rule = rules.MalformedGoMod }
 -- what line i breaks
 pub data Violates (lines : List Line) (i : ℕ) (line : Line) : Fault → Type 0 where
   -- it has no form
-  NoForm : Says lines i line Malformed → Violates lines i line (malformed_at line.at)
+  NoForm : HasForm lines i line Malformed → Violates lines i line (malformed_at line.at)
   -- the word of a module line is no path of a module
-  NoPath : (word : List ℕ) → Says lines i line (Module word) → module_path word ≡ None
+  NoPath : (word : List ℕ) → HasForm lines i line (Module word) → module_path word ≡ None
       → Violates lines i line (malformed_at line.at)
   -- it is a second module line
-  SecondModule : (word : List ℕ) → Says lines i line (Module word) → HasModule lines i
+  SecondModule : (word : List ℕ) → HasForm lines i line (Module word) → HasModule lines i
       → Violates lines i line (malformed_at line.at)
   -- it is a second go line
-  SecondGo : (at minor : ℕ) → Says lines i line (Go at minor) → HasGo lines i
+  SecondGo : (at minor : ℕ) → HasForm lines i line (Go at minor) → HasGo lines i
       → Violates lines i line (malformed_at line.at)
   -- it is the first go line, and wants a newer Go: the place is that of the version
-  TooNew : (at minor : ℕ) → Says lines i line (Go at minor) → (HasGo lines i → ⊥) → newest_minor < minor
+  TooNew : (at minor : ℕ) → HasForm lines i line (Go at minor) → (HasGo lines i → ⊥) → newest_minor < minor
       → Violates lines i line (record { offset = at; rule = rules.GoVersionNotSupported })
 
 -- no line before line n breaks a rule
@@ -87,12 +87,12 @@ AreSound lines n = (i : ℕ) (line : Line) (fault : Fault) → i < n → Violate
 -- the path is that of a module line
 abbrev pub GivesPath : List Line → List ℕ → Type 0
 GivesPath lines path =
-    (i : ℕ) × (line : Line) × (word : List ℕ) × Says lines i line (Module word) × (module_path word ≡ Some path)
+    (i : ℕ) × (line : Line) × (word : List ℕ) × HasForm lines i line (Module word) × (module_path word ≡ Some path)
 
 -- the N of Go 1.N is that of a go line, or the newest where there is none
 abbrev pub GivesMinor : List Line → ℕ → Type 0
 GivesMinor lines minor =
-    ((i : ℕ) × (line : Line) × (at : ℕ) × Says lines i line (Go at minor))
+    ((i : ℕ) × (line : Line) × (at : ℕ) × HasForm lines i line (Go at minor))
     ⊎ ((HasGo lines (length lines) → ⊥) × (minor ≡ newest_minor))
 
 -- Lines are a go.mod that says this: none breaks a rule, so that a module line and a go line stand once at most, and
@@ -112,4 +112,4 @@ pub data IsBadGoMod (lines : List Line) : Fault → Type 0 where
       → AreSound lines i → IsBadGoMod lines fault
   -- no line breaks a rule, and the block that this one opens is not closed
   Unclosed : (i : ℕ) (line : Line) → HasModule lines (length lines) → AreSound lines (length lines)
-      → Says lines i line Opening → StaysOpen lines i (length lines) → IsBadGoMod lines (malformed_at line.at)
+      → HasForm lines i line Opening → StaysOpen lines i (length lines) → IsBadGoMod lines (malformed_at line.at)

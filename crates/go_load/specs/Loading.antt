@@ -19,7 +19,7 @@ use Rattle.go_load.specs.declared.found.Entry.{Entry}
 use Rattle.go_load.specs.declared.found.Found.{Found}
 use Rattle.go_load.specs.declared.links.Link as code
 use Rattle.go_load.specs.declared.loader.Loader.{Loader}
-use Rattle.go_load.specs.FileReading.{Says, view_files}
+use Rattle.go_load.specs.FileReading.{AnswersBy, view_files}
 use Rattle.go_load.specs.Finding.{view_file, view_origin, AreRight, listed, numbered_files}
 use Rattle.go_load.specs.Imports.{Import, import_path}
 use Rattle.go_load.specs.Modules.{Broken, Module}
@@ -117,7 +117,7 @@ Checks fault (Err OutOfMemory) = Unit {0}
 -- the answer for files that are to be found here
 abbrev pub LoadsOrigin : Tree → ℕ → Origin → Result (Vec SourceFile Global) LoadError → Type 0
 LoadsOrigin files left origin result =
-    Says view_files (ReadsAll (if is_built_in origin then max_file_bytes else left) (texts_of files origin)) result
+    AnswersBy view_files (ReadsAll (if is_built_in origin then max_file_bytes else left) (texts_of files origin)) result
 
 -- the answer for the files of a package
 abbrev pub LoadsFiles : Tree → ℕ → Loader → Result (Vec SourceFile Global) LoadError → Type 0

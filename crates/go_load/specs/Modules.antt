@@ -91,12 +91,12 @@ abbrev pub HasModule : Tree → List ℕ → Type 0
 HasModule files dir = (said : Option (Result Module Broken)) × Governs files dir said × IsSound said
 
 -- a program is loaded, or refused for another reason, only where its go.mod breaks no rule
-abbrev pub MindsModule : Tree → List ℕ → Result Sources LoadError → Type 0
-MindsModule files dir (Ok sources) = HasModule files dir
-MindsModule files dir (Err (Refused place rule)) =
+abbrev pub RespectsGoModIn : Tree → List ℕ → Result Sources LoadError → Type 0
+RespectsGoModIn files dir (Ok sources) = HasModule files dir
+RespectsGoModIn files dir (Err (Refused place rule)) =
     Governs files dir (Some (Err (record { place = place; rule = rule }))) ⊎ HasModule files dir
-MindsModule files dir (Err ReadFault) = Unit {0}
-MindsModule files dir (Err OutOfMemory) = Unit {0}
+RespectsGoModIn files dir (Err ReadFault) = Unit {0}
+RespectsGoModIn files dir (Err OutOfMemory) = Unit {0}
 
-abbrev pub MindsTarget : Tree → Target → Result Sources LoadError → Type 0
-MindsTarget files target result = (dir : List ℕ) × IsTargetDir target dir × MindsModule files dir result
+abbrev pub RespectsGoMod : Tree → Target → Result Sources LoadError → Type 0
+RespectsGoMod files target result = (dir : List ℕ) × IsTargetDir target dir × RespectsGoModIn files dir result

@@ -14,12 +14,13 @@ use Rattle.import_graph.specs.Cycles.{IsFirstOnCycle}
 use Rattle.import_graph.specs.declared.edges.Edge.{Edge}
 use Rattle.go_sources.specs.Packages.{text_in}
 use Rattle.go_sources.specs.Places.{place_in}
+use Rattle.go_sources.specs.Reading.{HasTree}
 use Rattle.go_load.specs.Imports.{Import, imports_of, import_path}
 use Rattle.go_load.specs.Modules.{Broken}
 use Rattle.go_load.specs.Places.{first_place}
 use Rattle.go_load.specs.Projects.{FileText, Project, Origin, texts_of, is_built_in, IsOriginAt, target_path}
 use Rattle.go_load.specs.Projects.{is_import_found}
-use Rattle.go_load.specs.Reading.{max_file_bytes, BreaksText, IsTree}
+use Rattle.go_load.specs.Reading.{max_file_bytes, BreaksText}
 
 -- a file of a program, with its tree
 pub record File : Type 0 where
@@ -47,7 +48,7 @@ pub data Reads (room : ℕ) (text : FileText) : Result File Broken → Type 0 wh
       → Reads room text (Err (record { place = first_place text.path; rule = rules.ProgramTooLarge }))
   Bad : length text.bytes ≤ max_file_bytes → length text.bytes ≤ room → (place : Place) (rule : Rule)
       → BreaksText text.path text.bytes place rule → Reads room text (Err (record { place = place; rule = rule }))
-  Good : length text.bytes ≤ max_file_bytes → length text.bytes ≤ room → (tree : FileTree) → IsTree text.bytes tree
+  Good : length text.bytes ≤ max_file_bytes → length text.bytes ≤ room → (tree : FileTree) → HasTree text.bytes tree
       → Reads room text (Ok (record { path = text.path; bytes = text.bytes; tree = tree }))
 
 abbrev pub with_file : File → Result (List File) Broken → Result (List File) Broken
@@ -59,7 +60,7 @@ pub data ReadsAll : ℕ → List FileText → Result (List File) Broken → Type
   Ends : (room : ℕ) → ReadsAll room [] (Ok [])
   Stops : (room : ℕ) (text : FileText) (texts : List FileText) (broken : Broken) → Reads room text (Err broken)
       → ReadsAll room (text ∷ texts) (Err broken)
-  Goes : (room : ℕ) (text : FileText) (texts : List FileText) (file : File) (rest : Result (List File) Broken)
+  Continues : (room : ℕ) (text : FileText) (texts : List FileText) (file : File) (rest : Result (List File) Broken)
       → Reads room text (Ok file) → ReadsAll (room - length text.bytes) texts rest
       → ReadsAll room (text ∷ texts) (with_file file rest)
 

@@ -1,5 +1,5 @@
 -- What is read of one file.
-use Rattle.std.specs.Prelude.{◌≡◌, ℕ, true, List, Result, Ok, Err, slice_get}
+use Rattle.std.specs.Prelude.{◌≡◌, ℕ, List, Result, Ok, Err, slice_get}
 use Rattle.go_base.specs.declared.place.Place.{Place}
 use Rattle.go_base.specs.declared.rule.Rule.{Rule}
 use Rattle.go_base.specs.declared.rule.Rule.TheVariants as rules
@@ -12,7 +12,6 @@ use Rattle.go_parse.specs.declared.stop.ParseError.{ParseError}
 use Rattle.go_parse.specs.declared.stop.ParseError.TheVariants as parses
 use Rattle.go_sources.specs.Places.{place_in}
 use Rattle.go_sources.specs.Reading.{HasTree}
-use Rattle.tree_roles.specs.Roles.{roles_of_file}
 use Rattle.go_load.specs.declared.error.LoadError.{LoadError}
 use Rattle.go_load.specs.declared.error.LoadError.TheVariants.{Refused, ReadFault, OutOfMemory}
 use Rattle.go_load.specs.Places.{start_in}
@@ -42,14 +41,9 @@ pub record BreaksText (path bytes : List ℕ) (place : Place) (rule : Rule) : Ty
   pub bad : IsBadText bytes offset rule
   pub place_is : place ≡ place_in path bytes offset
 
--- a text has this tree, and each of its tokens is of the kind of the field in which it stands
-pub record IsTree (bytes : List ℕ) (tree : FileTree) : Type 0 where
-  pub has : HasTree bytes tree
-  pub roles : roles_of_file tree ≡ true
-
 -- an answer of the code to a text at a path
 abbrev pub ReadsTree : List ℕ → List ℕ → Result FileTree LoadError → Type 0
-ReadsTree path bytes (Ok tree) = IsTree bytes tree
+ReadsTree path bytes (Ok tree) = HasTree bytes tree
 ReadsTree path bytes (Err (Refused place rule)) = BreaksText path bytes place rule
 ReadsTree path bytes (Err ReadFault) = Unit {0}
 ReadsTree path bytes (Err OutOfMemory) = Unit {0}

@@ -3,7 +3,7 @@
 ghost use Rattle.std.specs.Prelude.{◌≡◌, ◌≤◌, string_bytes, option_map, IfOk, IfErr, IfSome, IsErrOf, OnOk};
 ghost use Rattle.go_base.specs.Devices.{HasFaulted};
 ghost use Rattle.go_sources.specs.Sources.{files_of, AreTold};
-ghost use Rattle.go_load.specs.Modules.{view_module, MindsTarget};
+ghost use Rattle.go_load.specs.Modules.{view_module, RespectsGoMod};
 ghost use Rattle.go_load.specs.Answers.{lone_project, max_program_bytes, HasStopped, IsAnswer, IsAnswerIn, IsLoaded};
 ghost use Rattle.go_load.specs.Refusals.{Stops};
 ghost use Rattle.go_load.specs.Projects.{no_import_path, path_of_target};
@@ -27,7 +27,7 @@ pub fn load<F: Files>(alloc: Global, files: &mut F, target: &Target) -> Result<S
     ensures fault { IsErrOf result LoadError.ReadFault → HasFaulted (F.faults files.old) (F.faults files.new) }
     ensures later { F.faults files.old ≤ F.faults files.new }
     ensures same { F.tree files.new ≡ F.tree files.old }
-    ensures go_mod { IfSome (F.tree files.old) (λ tree. MindsTarget tree target.now result) }
+    ensures go_mod { IfSome (F.tree files.old) (λ tree. RespectsGoMod tree target.now result) }
     // Where files are told: the packages of the program in order, or the first rule that is broken.
     ensures exact { IfSome (F.tree files.old) (λ tree. IsAnswer tree target.now max_program_bytes result) }
 {
@@ -46,7 +46,7 @@ pub(crate) fn load_within<F: Files>(
     ensures fault { IsErrOf result LoadError.ReadFault → HasFaulted (F.faults files.old) (F.faults files.new) }
     ensures later { F.faults files.old ≤ F.faults files.new }
     ensures same { F.tree files.new ≡ F.tree files.old }
-    ensures go_mod { IfSome (F.tree files.old) (λ tree. MindsTarget tree target.now result) }
+    ensures go_mod { IfSome (F.tree files.old) (λ tree. RespectsGoMod tree target.now result) }
     ensures exact { IfSome (F.tree files.old) (λ tree. IsAnswer tree target.now limit result) }
 {
     let module = find_module(alloc, files, target_dir(target))?;

@@ -114,8 +114,17 @@ fn source_of(
     let tree = read_tree(alloc, path, number, bytes.as_slice())?;
     Ok(SourceFile {
         path: Text::new(alloc, path)?,
-        bytes: Bytes::new(bytes),
+        bytes: without_room(bytes),
         tree,
         package: slot.package,
     })
+}
+
+/// The bytes of a file. The room behind them, which reading left, is given back.
+fn without_room(bytes: Vec<u8>) -> Bytes
+    ensures { result ≡ bytes.items }
+{
+    let mut bytes = bytes;
+    bytes.shrink_to_fit();
+    Bytes::new(bytes)
 }

@@ -1,6 +1,6 @@
 //! Reading of one file.
 
-ghost use Rattle.std.specs.Prelude.{◌≡◌, ◌≢◌, ◌≤◌, [], cond, Ok, Err, length, min, Option, IfOk, IfErr, IfSome, IsErrOf, slice_get};
+ghost use Rattle.std.specs.Prelude.{◌≡◌, ◌≢◌, ◌≤◌, [], length, min, Option, IfOk, IfErr, IfSome, IsErrOf, slice_get};
 ghost use Rattle.go_base.specs.Devices.{HasFaulted, Tree};
 ghost use Rattle.go_base.specs.declared.place.Place.{Place};
 ghost use Rattle.go_ast.specs.Lexical.{IsTokenList};
@@ -10,7 +10,6 @@ ghost use Rattle.go_load.specs.Places.{start_in, IsSmall, Refuses};
 ghost use Rattle.go_load.specs.Modules.{ReadsWhole};
 ghost use Rattle.go_load.specs.Reading.{ReadsTree};
 ghost use Rattle.go_load.specs.Refusals.{Justifies, Stops};
-ghost use Rattle.tree_roles.specs.Roles.{roles_of_file};
 
 use crate::error::LoadError;
 use go_ast::Tokens;
@@ -20,7 +19,6 @@ use go_scan::{ScanError, scan};
 use go_sources::{SourceFile, place_at};
 use go_syntax::FileTree;
 use std::alloc::Global;
-use tree_roles::has_roles;
 
 /// The first byte of a file, whatever it holds.
 fn first_place(alloc: Global, path: &str) -> Result<Place, NoMemory>
@@ -125,7 +123,7 @@ fn tree_of(alloc: Global, path: &str, bytes: &[u8], tokens: &Tokens) -> Result<F
     ensures answer { ReadsTree path.now bytes.now result }
 {
     match parse(alloc, tokens) {
-        Ok(tree) => with_roles(tree),
+        Ok(tree) => Ok(tree),
         Err(ParseError::OutOfMemory) => Err(LoadError::OutOfMemory),
         Err(ParseError::TooDeep { index }) => {
             let offset = token_start(bytes, tokens, index);
@@ -135,18 +133,6 @@ fn tree_of(alloc: Global, path: &str, bytes: &[u8], tokens: &Tokens) -> Result<F
             let offset = token_start(bytes, tokens, index);
             Err(refuse_at(alloc, path, bytes, offset, Rule::SyntaxError))
         }
-    }
-}
-
-/// A tree of which each token is of the kind of its field; want of memory where one is not. The parser makes no such tree,
-/// which is not proved.
-fn with_roles(tree: FileTree) -> Result<FileTree, LoadError>
-    ensures { result ≡ cond (roles_of_file tree) (Ok tree) (Err LoadError.OutOfMemory) }
-{
-    if has_roles(&tree) {
-        Ok(tree)
-    } else {
-        Err(LoadError::OutOfMemory)
     }
 }
 

@@ -1,7 +1,7 @@
 -- What is read of the parts of files, step by step.
 use Rattle.std.proofs.Common.{◌≡◌, ℕ, zero, suc, ◌-◌, ◌+◌, ◌≤◌, ◌<◌, Bool, true, false, List, [], ◌∷◌, ◌++◌, length, Option, Some, None, refl, sym, ap, ◌∙◌, subst, arith}
 use Rattle.std.proofs.lemmas.Bool.{eqb-true}
-use Rattle.std.specs.Prelude.{Result, Ok, Err, not, ◌==◌}
+use Rattle.std.specs.Prelude.{Result, Ok, Err, IfOk, if◌then◌else◌, not, ◌==◌}
 use Rattle.go_ast.specs.declared.token.Kind.TheVariants as kinds
 use Rattle.go_ast.specs.declared.token.Token.{Token}
 use Rattle.go_grammar.specs.Forests as forms
@@ -18,6 +18,7 @@ use Rattle.go_grammar.specs.View.{view_file}
 use Rattle.go_grammar.proofs.PartLaws.{parts_sound}
 use Rattle.go_grammar.proofs.AllAgain.{stops_unexpected}
 use Rattle.go_syntax.specs.declared.decls.FileTree.{FileTree}
+use Rattle.tree_roles.specs.Roles.{roles_of_file}
 use Rattle.go_readers.specs.Funcs.{func_in}
 use Rattle.go_fragments.specs.Words.{line_end_in}
 use Rattle.go_fragments.proofs.Words.{is_closing_paren}
@@ -160,13 +161,23 @@ stopped_at : {A : Type 0} (all index : ℕ) (read : Result A ℕ) → at_index a
 stopped_at all index (Ok x) h = absurd cc
 stopped_at all index (Err left) h = let e : all - left ≡ index = cc in record { left = left; is = refl; at = sym e }
 
-pub parsed_by_parts : (tokens : List Token) (result : Result FileTree ParseError) → GivesParts (length tokens) view_file result (file_by_parts (parsers (length tokens)) tokens) → IsParsed tokens result
-parsed_by_parts tokens (Ok file) h = parts_sound (length tokens) tokens (view_file file) (ok_read (length tokens) (file_by_parts (parsers (length tokens)) tokens) (view_file file) h)
-parsed_by_parts tokens (Err (errors.TooDeep index)) h = tt
-parsed_by_parts tokens (Err (errors.Unexpected index)) h =
+pub parsed_by_parts : (tokens : List Token) (result : Result FileTree ParseError) → GivesParts (length tokens) view_file result (file_by_parts (parsers (length tokens)) tokens) → IfOk result (λ tree. roles_of_file tree ≡ true) → IsParsed tokens result
+parsed_by_parts tokens (Ok file) h roles = (parts_sound (length tokens) tokens (view_file file) (ok_read (length tokens) (file_by_parts (parsers (length tokens)) tokens) (view_file file) h), roles)
+parsed_by_parts tokens (Err (errors.TooDeep index)) h roles = tt
+parsed_by_parts tokens (Err (errors.Unexpected index)) h roles =
     let s = stopped_at (length tokens) index (file_by_parts (parsers (length tokens)) tokens) h in
     subst (IsUnexpected tokens) (sym s.at) (stops_unexpected (length tokens) tokens s.left (omega arith) s.is)
-parsed_by_parts tokens (Err errors.OutOfMemory) h = tt
+parsed_by_parts tokens (Err errors.OutOfMemory) h roles = tt
+
+-- ---- a tree, where its tokens have the kinds of their fields
+
+pub given_with_roles : (all : ℕ) (tree : FileTree) (result : Result FileTree ParseError) (read : Result Forest ℕ) (b : Bool) → at_index all read ≡ Ok (view_file tree) → result ≡ (if b then Ok tree else Err errors.OutOfMemory) → GivesParts all view_file result read
+given_with_roles all tree result read true h e = rw e h
+given_with_roles all tree result read false h e = rw e tt
+
+pub has_given_roles : (tree : FileTree) (result : Result FileTree ParseError) (b : Bool) → roles_of_file tree ≡ b → result ≡ (if b then Ok tree else Err errors.OutOfMemory) → IfOk result (λ tree. roles_of_file tree ≡ true)
+has_given_roles tree result true roles e = rw e roles
+has_given_roles tree result false roles e = rw e tt
 
 pub within_by_parts : (tokens : List Token) (result : Result FileTree ParseError) → IsParsed tokens result → IsWithin (length tokens) result
 within_by_parts tokens (Ok file) h = tt

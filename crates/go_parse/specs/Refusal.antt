@@ -1,11 +1,12 @@
 -- Where tokens are refused.
-use Rattle.std.specs.Prelude.{◌≡◌, ℕ, ◌<◌, ◌≤◌, List, Option, Some, None, Result, Ok, Err}
+use Rattle.std.specs.Prelude.{◌≡◌, ℕ, ◌<◌, ◌≤◌, true, List, Option, Some, None, Result, Ok, Err}
 use Rattle.go_ast.specs.declared.token.Token.{Token}
 use Rattle.go_grammar.specs.Files.{IsTreeOf, IsUnexpected}
 use Rattle.go_grammar.specs.View.{view_file}
 use Rattle.go_fragments.specs.declared.stop.Stop.{Stop}
 use Rattle.go_fragments.specs.declared.stop.Stop.TheVariants as stops
 use Rattle.go_syntax.specs.declared.decls.FileTree.{FileTree}
+use Rattle.tree_roles.specs.Roles.{roles_of_file}
 use Rattle.go_parse.specs.declared.stop.ParseError.{ParseError}
 use Rattle.go_parse.specs.declared.stop.ParseError.TheVariants as errors
 
@@ -25,10 +26,10 @@ abbrev pub IsRefusalAt : ℕ → Stop → ParseError → Type 0
 IsRefusalAt at stops.Memory error = error ≡ errors.OutOfMemory
 IsRefusalAt at stops.Unexpected error = error ≡ errors.Unexpected at
 
--- The answer is the one well-formed tree of the tokens, or the index of the first part that cannot be read, unless a
--- token reaches too far or memory ran out.
+-- The answer is the one well-formed tree of the tokens, each of the kind of the field in which it stands, or the index
+-- of the first part that cannot be read, unless a token reaches too far or memory ran out.
 abbrev pub IsParsed : List Token → Result FileTree ParseError → Type 0
-IsParsed tokens (Ok file) = IsTreeOf tokens (view_file file)
+IsParsed tokens (Ok file) = IsTreeOf tokens (view_file file) × (roles_of_file file ≡ true)
 IsParsed tokens (Err (errors.TooDeep index)) = Unit {0}
 IsParsed tokens (Err (errors.Unexpected index)) = IsUnexpected tokens index
 IsParsed tokens (Err errors.OutOfMemory) = Unit {0}

@@ -1,11 +1,12 @@
 //! Files, part after part: the package clause, imports and declarations. Go specification, "Source file organization".
 
-ghost use Rattle.std.specs.Prelude.{◌≡◌, ◌-◌, length};
+ghost use Rattle.std.specs.Prelude.{◌≡◌, ◌-◌, length, true, IfOk, Ok, Err, if◌then◌else◌};
 ghost use Rattle.go_grammar.specs.FileReading.{parsers};
 ghost use Rattle.go_grammar.specs.PartReading.{file_by_parts};
 ghost use Rattle.go_grammar.specs.View.{view_file, view_import, view_import_spec, view_line, one, token_if, each, ◌⊕◌};
 ghost use Rattle.go_fragments.specs.Giving.{Gives};
 ghost use Rattle.go_syntax.specs.Reach.{reach_index};
+ghost use Rattle.tree_roles.specs.Roles.{roles_of_file};
 ghost use Rattle.go_parse.specs.FileParts.{GivesParts, view_clause, clause_in, path_in, import_line_in, import_lines_in, import_alone_in, import_in, imports_in, decl_line_in, decls_in};
 ghost use Rattle.go_parse.specs.Refusal.{DecidesReach, IsParsed, IsRefusalAt, IsWithin};
 
@@ -17,6 +18,7 @@ use go_fragments::tokens::{begins_with, line_end, optional, semicolon, skip};
 use go_readers::{decl, func_decl};
 use go_syntax::{Decl, DeclLine, FileTree, ImportDecl, ImportSpec};
 use std::alloc::Global;
+use tree_roles::has_roles;
 
 /// The word, the name and the semicolon of a package clause.
 #[derive(Clone, Copy, Debug, PartialEq, Eq)]
@@ -224,17 +226,45 @@ fn file(alloc: Global, tokens: &[Token]) -> Result<FileTree, ParseError>
     }
 }
 
+/// The tree of a file's tokens, each of which is of the kind of the field in which it stands.
+fn file_with_roles(alloc: Global, tokens: &[Token]) -> Result<FileTree, ParseError>
+    ensures read { GivesParts (length tokens.now) (λ x. view_file x) result (file_by_parts (parsers (length tokens.now)) tokens.now) }
+    ensures roles { IfOk result (λ tree. roles_of_file tree ≡ true) }
+{
+    let tree = file(alloc, tokens)?;
+    with_roles(tree)
+}
+
+/// A tree of which each token is of the kind of the field in which it stands.
+fn with_roles(tree: FileTree) -> Result<FileTree, ParseError>
+    ensures { result ≡ (if roles_of_file tree then Ok tree else Err ParseError.OutOfMemory) }
+{
+    if has_roles(&tree) {
+        Ok(tree)
+    } else {
+        Err(lost())
+    }
+}
+
+/// What is answered in a case that cannot come, which is not proved yet.
+fn lost() -> ParseError
+    ensures { result ≡ ParseError.OutOfMemory }
+{
+    ParseError::OutOfMemory
+}
+
 /// The tree of a file's tokens. Go specification, "Source file organization".
 pub fn parse(alloc: Global, tokens: &Tokens) -> Result<FileTree, ParseError>
     // `TooDeep` exactly where a token reaches too far, with the index of the first.
     ensures too_deep { DecidesReach result (reach_index tokens.now) }
-    // Else the well-formed tree of the tokens, or the index of the first part that cannot be read.
+    // Else the well-formed tree of the tokens, each of the kind of its field, or the index of the first part that cannot
+    // be read.
     ensures parsed { IsParsed tokens.now result }
     // The index of `Unexpected` is that of a token, or 0 where there are none.
     ensures within { IsWithin (length tokens.now) result }
 {
     match too_deep(alloc, tokens.as_slice())? {
         Some(index) => Err(ParseError::TooDeep { index }),
-        None => file(alloc, tokens.as_slice()),
+        None => file_with_roles(alloc, tokens.as_slice()),
     }
 }

@@ -2,6 +2,8 @@
 #![tactic(auto)]
 
 #[cfg(test)]
+mod roles;
+#[cfg(test)]
 mod tables;
 #[cfg(test)]
 mod tests;

@@ -18,5 +18,5 @@ pub fn one_tree_of_view()
 
 /// The bytes of a file have one tree, token by token and field by field.
 pub fn one_tree_of_text()
-    ensures { (bytes : List ℕ) (a b : FileTree) → HasTree bytes a → HasTree bytes b → roles_of_file a ≡ true → roles_of_file b ≡ true → fields_of_file a ≡ fields_of_file b }
+    ensures { (bytes : List ℕ) (a b : FileTree) → HasTree bytes a → HasTree bytes b → fields_of_file a ≡ fields_of_file b }
 {}

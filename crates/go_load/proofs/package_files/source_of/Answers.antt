@@ -19,4 +19,4 @@ returns-in_err-tree-clause-answer c =
 
 pub returns-clause-answer : goal.returns-clause-answer
 returns-clause-answer c =
-    good_text c.args.path.now c.args.bytes.items c.in_ok-new.field-0 c.new-2.result c.args.room c.in_ok-tree.tree c.requires (search rules) (rw c.as_slice.ensures.value at c.in_ok-tree.ensures.answer) (search rules) (search rules)
+    good_text c.args.path.now c.args.bytes.items c.in_ok-new.field-0 c.without_room.result c.args.room c.in_ok-tree.tree c.requires (search rules) (rw c.as_slice.ensures.value at c.in_ok-tree.ensures.answer) (search rules) (search rules)

@@ -1,7 +1,5 @@
-use Rattle.std.proofs.Common.{refl}
-use Rattle.tree_roles.specs.Roles.{roles_of_file}
 use Rattle.go_load.proofs.Stopping.{deep_stops, syntax_stops}
-use Rattle.go_load.proofs.TextReading.{too_deep, bad_syntax, chosen_no_fault, chosen_why, chosen_tree}
+use Rattle.go_load.proofs.TextReading.{too_deep, bad_syntax}
 use Rattle.go_load.proofs.read.tree_of.Goals as goal
 
 pub returns-in-Err-TooDeep-clause-why : goal.returns-in-Err-TooDeep-clause-why
@@ -13,17 +11,9 @@ returns-in-Err-Unexpected-clause-why c = λ files text.
     syntax_stops files c.args.path.now c.args.bytes.now c.args.tokens.now c.in-Err-Unexpected.index c.token_start-offset-in-Err-Unexpected.result c.refuse_at-in-Err-Unexpected.result c.requires.list
     (rw c.in-Err-Unexpected.field-0-is at c.in-Err-Unexpected.ensures.too_deep) (rw c.in-Err-Unexpected.field-0-is at c.in-Err-Unexpected.ensures.parsed) c.token_start-offset-in-Err-Unexpected.ensures.start c.refuse_at-in-Err-Unexpected.ensures text
 
-pub returns-in-Ok-clause-no_fault : goal.returns-in-Ok-clause-no_fault
-returns-in-Ok-clause-no_fault c = chosen_no_fault c.in-Ok.tree c.with_roles.result (roles_of_file c.in-Ok.tree) c.with_roles.ensures
-
-pub returns-in-Ok-clause-why : goal.returns-in-Ok-clause-why
-returns-in-Ok-clause-why c = chosen_why c.args.path.now c.args.bytes.now c.in-Ok.tree c.with_roles.result (roles_of_file c.in-Ok.tree) c.with_roles.ensures
-
 pub returns-in-Ok-clause-answer : goal.returns-in-Ok-clause-answer
 returns-in-Ok-clause-answer c =
-    chosen_tree c.args.path.now c.args.bytes.now c.in-Ok.tree c.with_roles.result
-    (record { tokens = c.args.tokens.now; list = c.requires.list; verdict = (c.in-Ok.ensures.too_deep, c.in-Ok.ensures.parsed) })
-    (roles_of_file c.in-Ok.tree) refl c.with_roles.ensures
+    record { tokens = c.args.tokens.now; list = c.requires.list; verdict = (c.in-Ok.ensures.too_deep, c.in-Ok.ensures.parsed.0); roles = c.in-Ok.ensures.parsed.1 }
 
 pub returns-in-Err-TooDeep-clause-answer : goal.returns-in-Err-TooDeep-clause-answer
 returns-in-Err-TooDeep-clause-answer c =

@@ -9,13 +9,14 @@ use Rattle.go_parse.specs.Refusal.{IsParsed, IsWithin}
 use Rattle.go_parse.proofs.FileParts.{parsed_by_parts, within_by_parts}
 use Rattle.go_parse.proofs.parser.parse.Goals as goal
 
-parsed : (c : goal.After-file) → IsParsed c.args.tokens.now c.file.result
+parsed : (c : goal.After-file_with_roles) → IsParsed c.args.tokens.now c.file_with_roles.result
 parsed c =
-    parsed_by_parts c.args.tokens.now c.file.result
-    (subst (λ (ts : List Token). GivesParts (length ts) view_file c.file.result (file_by_parts (parsers (length ts)) ts)) c.as_slice-in-None.ensures c.file.ensures)
+    parsed_by_parts c.args.tokens.now c.file_with_roles.result
+    (subst (λ (ts : List Token). GivesParts (length ts) view_file c.file_with_roles.result (file_by_parts (parsers (length ts)) ts)) c.as_slice-in-None.ensures c.file_with_roles.ensures.read)
+    c.file_with_roles.ensures.roles
 
 pub returns-in-None-clause-parsed : goal.returns-in-None-clause-parsed
 returns-in-None-clause-parsed c = parsed c
 
 pub returns-in-None-clause-within : goal.returns-in-None-clause-within
-returns-in-None-clause-within c = within_by_parts c.args.tokens.now c.file.result (parsed c)
+returns-in-None-clause-within c = within_by_parts c.args.tokens.now c.file_with_roles.result (parsed c)
