@@ -54,6 +54,20 @@ def fields(count):
     return f"package main\ntype S struct {{\n{lines}}}\nfunc main() {{ var s S; {last} = 7; if {last} != 7 {{ panic(1) }} }}\n"
 
 
+def methods(types, each):
+    """So many types, each with so many methods."""
+    lines = [f"type T{n} int\n" + "".join(f"func (T{n}) m{k}() {{}}\n" for k in range(each)) for n in range(types)]
+    return "package main\n" + "".join(lines) + "func main() {}\n"
+
+
+def one_type(count):
+    """A type of so many methods, of which the last is called through an interface that a pointer is put into."""
+    lines = "".join(f"func (T) m{n}() int {{ return {n} }}\n" for n in range(count))
+    last = f"m{count - 1}"
+    call = f"var i interface{{ {last}() int }} = new(T); if i.{last}() != {count - 1} {{ panic(1) }}"
+    return f"package main\ntype T int\n{lines}func main() {{ {call} }}\n"
+
+
 def variables(count):
     """So many variables, each of which needs the next."""
     lines = "".join(f"var v{n} = v{n + 1} + 1\n" for n in range(count - 1))
@@ -90,6 +104,8 @@ def cases():
     yield "1,048,576 leaves", {"a.go": leaves(1_048_576)}, ["a.go"], "", 0
     yield "one leaf more", {"a.go": leaves(1_048_577)}, ["a.go"], "a.go:2:7: type too large (N11)", 1
     yield "100,000 fields", {"a.go": fields(100_000)}, ["-run", "a.go"], "", 0
+    yield "100,000 methods of 20,000 types", {"a.go": methods(20_000, 5)}, ["a.go"], "", 0
+    yield "5,000 methods of one type", {"a.go": one_type(5_000)}, ["-run", "a.go"], "", 0
     yield "50,000 variables in a row", {"a.go": variables(50_000)}, ["-run", "a.go"], "", 0
     yield "20,000 imports", {"a.go": imports(20_000)}, ["a.go"], "", 0
     yield "10,000 packages in a row", packages(10_000, None), ["-run", "."], "", 0
