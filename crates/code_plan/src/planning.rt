@@ -370,9 +370,9 @@ fn add_method(all: &mut IndexMap<MethodOf, u32>, line: &MethodLine) -> Result<()
 fn is_main(function: &Function) -> bool {
     function.kind == FunctionKind::Source
         && function.name.as_str() == "main.main"
-        && function.params.is_empty()
-        && function.free.is_empty()
-        && function.results.is_empty()
+        && function.params.as_slice().is_empty()
+        && function.free.as_slice().is_empty()
+        && function.results.as_slice().is_empty()
 }
 
 /// Whether a function is the wrapper of a promoted method.
