@@ -1,6 +1,7 @@
 -- What the forms of expressions are seen as.
 use Rattle.std.proofs.Common.{◌≡◌, refl, sym, ap, ◌∙◌, List, [], ◌∷◌, map, Option, Some, None, ℕ, Bool, true, false, ◌&&◌, ◌||◌}
 use Rattle.std.specs.Prelude.{◌==◌, not, nat_lt, length, is_none, is_some, slice_get}
+use Rattle.std.specs.Global.{Box}
 use Rattle.std.specs.List.{list_all}
 use Rattle.std.specs.Option.{option_and_then, option_map_or}
 use Rattle.go_base.specs.declared.ids.TypeId.{TypeId}
@@ -13,6 +14,10 @@ use Rattle.go_tree.specs.declared.exprs.FieldInit.{FieldInit}
 use Rattle.go_tree.specs.declared.exprs.ItemInit.{ItemInit}
 use Rattle.go_tree.specs.declared.exprs.TypedExpr.{TypedExpr}
 use Rattle.go_tree.specs.declared.exprs.Values.{Values}
+use Rattle.go_tree.specs.declared.exprs.SliceBase.{SliceBase}
+use Rattle.go_tree.specs.declared.exprs.SliceBase.TheVariants as sliced
+use Rattle.go_tree.specs.declared.exprs.IndexBase.{IndexBase}
+use Rattle.go_tree.specs.declared.exprs.IndexBase.TheVariants as indexed
 use Rattle.go_tree.specs.declared.exprs.Callee.TheOpen as layers
 use Rattle.go_tree.specs.declared.exprs.Callee.TheOpen.{Callee-F, Elements-F, ExprKind-F, Values-F}
 use Rattle.go_tree.specs.declared.exprs.Callee.TheVariants as callees
@@ -33,7 +38,9 @@ use Rattle.typed_trees.specs.Nodes.{Seen, SeenField, SeenItem, SeenEntry, is_pla
 use Rattle.typed_trees.specs.declared.forms.Form.{Form}
 use Rattle.typed_trees.specs.declared.forms.Form.TheVariants as forms
 use Rattle.expr_typing.specs.Parts.{is_integer_type, is_struct, has_items, item_type, key_type, value_type, item_fits, entry_fits}
-use Rattle.expr_typing.specs.Trees.{layer_exprs, value_exprs, part_types, are_several, seen_callee, seen_elements, seen_kind, seen_entry, seen_field, seen_item, bound_fits}
+use Rattle.expr_typing.specs.Trees.{layer_exprs, value_exprs, part_types, are_several, seen_callee, seen_elements, seen_kind, seen_entry, seen_field, seen_item, bound_fits, typed_as}
+use Rattle.expr_typing.proofs.Arguments.{fits_alike}
+use Rattle.expr_typing.specs.Parts as part
 
 abbrev kind_layer_at : (a : Around) → ExprKind-F Callee Elements ExprKind Values EntryInit FieldInit ItemInit TypedExpr → TypeId → Seen
 kind_layer_at a x = kind_layer a (map-ExprKind Callee Elements ExprKind Values EntryInit FieldInit ItemInit TypedExpr SeenCallee SeenElements (TypeId → Seen) SeenValues SeenEntry SeenField SeenItem Seen (seen_callee a) (seen_elements a) (seen_kind a) (seen_values a) (seen_entry a) (seen_field a) (seen_item a) (seen a) x)
@@ -111,6 +118,9 @@ of_is a x = ap (λ (y : Seen). y.of) (expr_is a x) ∙ (ap (λ (k : TypeId → S
 pub fits_is : (a : Around) (x : TypedExpr) → (seen a x).fits ≡ (seen_kind a x.kind x.of).fits
 fits_is a x = ap (λ (y : Seen). y.fits) (expr_is a x)
 
+pub kind_fits : (a : Around) (x : TypedExpr) (kind : ExprKind) → x.kind ≡ kind → (seen a x).fits ≡ (seen_kind a kind x.of).fits
+kind_fits a x kind e = fits_is a x ∙ ap (λ (k : ExprKind). (seen_kind a k x.of).fits) e
+
 pub form_is : (a : Around) (x : TypedExpr) → (seen a x).form ≡ (seen_kind a x.kind x.of).form
 form_is a x = ap (λ (y : Seen). y.form) (expr_is a x)
 
@@ -118,6 +128,20 @@ pub part_is : (a : Around) (x : TypedExpr) (parts : List TypeId) → (seen a x).
 part_is a x parts = ap (λ (y : Seen). y.fits_part parts) (expr_is a x)
 
 -- ---- an expression by its form
+
+index_same : (a : Around) (base : IndexBase) (form : Form) → index_form a base form ≡ part.element_form base form
+index_same a indexed.Array form = refl
+index_same a indexed.Slice form = refl
+index_same a indexed.Text form = refl
+
+text_same : (a : Around) (base : SliceBase) → is_text_base a base ≡ part.is_text_base base
+text_same a sliced.ArrayPointer = refl
+text_same a sliced.Slice = refl
+text_same a sliced.Text = refl
+
+entry_same : (a : Around) (comma_ok : Bool) → entry_form a comma_ok ≡ part.entry_form comma_ok
+entry_same a true = refl
+entry_same a false = refl
 
 const_of_is : (a : Around) (value : _) → seen_kind a (kinds.ConstOf value) ≡ kind_layer_at a (layers.ExprKind-F.ConstOf value)
 const_of_is a value = ap (seen_kind a) (sym (kinds.rolls-ConstOf value)) ∙ kind_is a (layers.ExprKind-F.ConstOf value)
@@ -221,8 +245,8 @@ index_of_is a base operand index = ap (seen_kind a) (sym (kinds.rolls-IndexOf ba
 pub index_of_fits : (a : Around) (base operand index : _) (of : TypeId) → (seen_kind a (kinds.IndexOf base operand index) of).fits ≡ (fits_element a base operand.value.of of && is_integer_type a.program.types index.value.of) && ((seen a operand.value).fits && (seen a index.value).fits)
 index_of_fits a base operand index of = ap (λ (k : TypeId → Seen). (k of).fits) (index_of_is a base operand index) ∙ (λ i. (fits_element a base (of_is a operand.value i) of && is_integer_type a.program.types (of_is a index.value i)) && ((seen a operand.value).fits && (seen a index.value).fits))
 
-pub index_of_form : (a : Around) (base operand index : _) (of : TypeId) → (seen_kind a (kinds.IndexOf base operand index) of).form ≡ index_form a base (seen a operand.value).form
-index_of_form a base operand index of = ap (λ (k : TypeId → Seen). (k of).form) (index_of_is a base operand index)
+pub index_of_form : (a : Around) (base operand index : _) (of : TypeId) → (seen_kind a (kinds.IndexOf base operand index) of).form ≡ part.element_form base (seen a operand.value).form
+index_of_form a base operand index of = ap (λ (k : TypeId → Seen). (k of).form) (index_of_is a base operand index) ∙ index_same a base (seen a operand.value).form
 
 pub index_of_part : (a : Around) (base operand index : _) (of : TypeId) (parts : List TypeId) → (seen_kind a (kinds.IndexOf base operand index) of).fits_part parts ≡ false
 index_of_part a base operand index of parts = ap (λ (k : TypeId → Seen). (k of).fits_part parts) (index_of_is a base operand index)
@@ -233,8 +257,8 @@ map_index_is a table key comma_ok = ap (seen_kind a) (sym (kinds.rolls-MapIndex 
 pub map_index_fits : (a : Around) (table key comma_ok : _) (of : TypeId) → (seen_kind a (kinds.MapIndex table key comma_ok) of).fits ≡ fits_map_index a table.value.of key.value.of comma_ok of && ((seen a table.value).fits && (seen a key.value).fits)
 map_index_fits a table key comma_ok of = ap (λ (k : TypeId → Seen). (k of).fits) (map_index_is a table key comma_ok) ∙ (λ i. fits_map_index a (of_is a table.value i) (of_is a key.value i) comma_ok of && ((seen a table.value).fits && (seen a key.value).fits))
 
-pub map_index_form : (a : Around) (table key comma_ok : _) (of : TypeId) → (seen_kind a (kinds.MapIndex table key comma_ok) of).form ≡ entry_form a comma_ok
-map_index_form a table key comma_ok of = ap (λ (k : TypeId → Seen). (k of).form) (map_index_is a table key comma_ok)
+pub map_index_form : (a : Around) (table key comma_ok : _) (of : TypeId) → (seen_kind a (kinds.MapIndex table key comma_ok) of).form ≡ part.entry_form comma_ok
+map_index_form a table key comma_ok of = ap (λ (k : TypeId → Seen). (k of).form) (map_index_is a table key comma_ok) ∙ entry_same a comma_ok
 
 pub map_index_part : (a : Around) (table key comma_ok : _) (of : TypeId) (parts : List TypeId) → (seen_kind a (kinds.MapIndex table key comma_ok) of).fits_part parts ≡ false
 map_index_part a table key comma_ok of parts = ap (λ (k : TypeId → Seen). (k of).fits_part parts) (map_index_is a table key comma_ok)
@@ -409,15 +433,15 @@ part_of_part a part of parts = ap (λ (k : TypeId → Seen). (k of).fits_part pa
 
 -- a slice expression by the places that are left out
 
-pub slice_of_fits : (a : Around) (base operand low high max : _) (of : TypeId) → (seen_kind a (kinds.SliceOf base operand low high max) of).fits ≡ fits_sliced a base operand.value.of of && ((seen a operand.value).fits && (bound_fits a low && (bound_fits a high && (bound_fits a max && (not (is_text_base a base) || not (is_some max))))))
-slice_of_fits a base operand None None None of = ap (λ (k : TypeId → Seen). (k of).fits) (ap (seen_kind a) (sym (kinds.rolls-SliceOf base operand None None None)) ∙ kind_is a (layers.ExprKind-F.SliceOf base operand None None None)) ∙ (λ i. fits_sliced a base (of_is a operand.value i) of && ((seen a operand.value).fits && (bound_fits a None && (bound_fits a None && (bound_fits a None && (not (is_text_base a base) || not (is_some None)))))))
-slice_of_fits a base operand None None (Some m) of = ap (λ (k : TypeId → Seen). (k of).fits) (ap (seen_kind a) (sym (kinds.rolls-SliceOf base operand None None (Some m))) ∙ kind_is a (layers.ExprKind-F.SliceOf base operand None None (Some m))) ∙ (λ i. fits_sliced a base (of_is a operand.value i) of && ((seen a operand.value).fits && (bound_fits a None && (bound_fits a None && (bound_fits a (Some m) && (not (is_text_base a base) || not (is_some (Some m))))))))
-slice_of_fits a base operand None (Some h) None of = ap (λ (k : TypeId → Seen). (k of).fits) (ap (seen_kind a) (sym (kinds.rolls-SliceOf base operand None (Some h) None)) ∙ kind_is a (layers.ExprKind-F.SliceOf base operand None (Some h) None)) ∙ (λ i. fits_sliced a base (of_is a operand.value i) of && ((seen a operand.value).fits && (bound_fits a None && (bound_fits a (Some h) && (bound_fits a None && (not (is_text_base a base) || not (is_some None)))))))
-slice_of_fits a base operand None (Some h) (Some m) of = ap (λ (k : TypeId → Seen). (k of).fits) (ap (seen_kind a) (sym (kinds.rolls-SliceOf base operand None (Some h) (Some m))) ∙ kind_is a (layers.ExprKind-F.SliceOf base operand None (Some h) (Some m))) ∙ (λ i. fits_sliced a base (of_is a operand.value i) of && ((seen a operand.value).fits && (bound_fits a None && (bound_fits a (Some h) && (bound_fits a (Some m) && (not (is_text_base a base) || not (is_some (Some m))))))))
-slice_of_fits a base operand (Some l) None None of = ap (λ (k : TypeId → Seen). (k of).fits) (ap (seen_kind a) (sym (kinds.rolls-SliceOf base operand (Some l) None None)) ∙ kind_is a (layers.ExprKind-F.SliceOf base operand (Some l) None None)) ∙ (λ i. fits_sliced a base (of_is a operand.value i) of && ((seen a operand.value).fits && (bound_fits a (Some l) && (bound_fits a None && (bound_fits a None && (not (is_text_base a base) || not (is_some None)))))))
-slice_of_fits a base operand (Some l) None (Some m) of = ap (λ (k : TypeId → Seen). (k of).fits) (ap (seen_kind a) (sym (kinds.rolls-SliceOf base operand (Some l) None (Some m))) ∙ kind_is a (layers.ExprKind-F.SliceOf base operand (Some l) None (Some m))) ∙ (λ i. fits_sliced a base (of_is a operand.value i) of && ((seen a operand.value).fits && (bound_fits a (Some l) && (bound_fits a None && (bound_fits a (Some m) && (not (is_text_base a base) || not (is_some (Some m))))))))
-slice_of_fits a base operand (Some l) (Some h) None of = ap (λ (k : TypeId → Seen). (k of).fits) (ap (seen_kind a) (sym (kinds.rolls-SliceOf base operand (Some l) (Some h) None)) ∙ kind_is a (layers.ExprKind-F.SliceOf base operand (Some l) (Some h) None)) ∙ (λ i. fits_sliced a base (of_is a operand.value i) of && ((seen a operand.value).fits && (bound_fits a (Some l) && (bound_fits a (Some h) && (bound_fits a None && (not (is_text_base a base) || not (is_some None)))))))
-slice_of_fits a base operand (Some l) (Some h) (Some m) of = ap (λ (k : TypeId → Seen). (k of).fits) (ap (seen_kind a) (sym (kinds.rolls-SliceOf base operand (Some l) (Some h) (Some m))) ∙ kind_is a (layers.ExprKind-F.SliceOf base operand (Some l) (Some h) (Some m))) ∙ (λ i. fits_sliced a base (of_is a operand.value i) of && ((seen a operand.value).fits && (bound_fits a (Some l) && (bound_fits a (Some h) && (bound_fits a (Some m) && (not (is_text_base a base) || not (is_some (Some m))))))))
+pub slice_of_fits : (a : Around) (base operand low high max : _) (of : TypeId) → (seen_kind a (kinds.SliceOf base operand low high max) of).fits ≡ fits_sliced a base operand.value.of of && ((seen a operand.value).fits && (bound_fits a low && (bound_fits a high && (bound_fits a max && (not (part.is_text_base base) || not (is_some max))))))
+slice_of_fits a base operand None None None of = ap (λ (k : TypeId → Seen). (k of).fits) (ap (seen_kind a) (sym (kinds.rolls-SliceOf base operand None None None)) ∙ kind_is a (layers.ExprKind-F.SliceOf base operand None None None)) ∙ (λ i. fits_sliced a base (of_is a operand.value i) of && ((seen a operand.value).fits && (bound_fits a None && (bound_fits a None && (bound_fits a None && (not (text_same a base i) || not (is_some {T = Box TypedExpr} None)))))))
+slice_of_fits a base operand None None (Some m) of = ap (λ (k : TypeId → Seen). (k of).fits) (ap (seen_kind a) (sym (kinds.rolls-SliceOf base operand None None (Some m))) ∙ kind_is a (layers.ExprKind-F.SliceOf base operand None None (Some m))) ∙ (λ i. fits_sliced a base (of_is a operand.value i) of && ((seen a operand.value).fits && (bound_fits a None && (bound_fits a None && (bound_fits a (Some m) && (not (text_same a base i) || not (is_some {T = Box TypedExpr} (Some m))))))))
+slice_of_fits a base operand None (Some h) None of = ap (λ (k : TypeId → Seen). (k of).fits) (ap (seen_kind a) (sym (kinds.rolls-SliceOf base operand None (Some h) None)) ∙ kind_is a (layers.ExprKind-F.SliceOf base operand None (Some h) None)) ∙ (λ i. fits_sliced a base (of_is a operand.value i) of && ((seen a operand.value).fits && (bound_fits a None && (bound_fits a (Some h) && (bound_fits a None && (not (text_same a base i) || not (is_some {T = Box TypedExpr} None)))))))
+slice_of_fits a base operand None (Some h) (Some m) of = ap (λ (k : TypeId → Seen). (k of).fits) (ap (seen_kind a) (sym (kinds.rolls-SliceOf base operand None (Some h) (Some m))) ∙ kind_is a (layers.ExprKind-F.SliceOf base operand None (Some h) (Some m))) ∙ (λ i. fits_sliced a base (of_is a operand.value i) of && ((seen a operand.value).fits && (bound_fits a None && (bound_fits a (Some h) && (bound_fits a (Some m) && (not (text_same a base i) || not (is_some {T = Box TypedExpr} (Some m))))))))
+slice_of_fits a base operand (Some l) None None of = ap (λ (k : TypeId → Seen). (k of).fits) (ap (seen_kind a) (sym (kinds.rolls-SliceOf base operand (Some l) None None)) ∙ kind_is a (layers.ExprKind-F.SliceOf base operand (Some l) None None)) ∙ (λ i. fits_sliced a base (of_is a operand.value i) of && ((seen a operand.value).fits && (bound_fits a (Some l) && (bound_fits a None && (bound_fits a None && (not (text_same a base i) || not (is_some {T = Box TypedExpr} None)))))))
+slice_of_fits a base operand (Some l) None (Some m) of = ap (λ (k : TypeId → Seen). (k of).fits) (ap (seen_kind a) (sym (kinds.rolls-SliceOf base operand (Some l) None (Some m))) ∙ kind_is a (layers.ExprKind-F.SliceOf base operand (Some l) None (Some m))) ∙ (λ i. fits_sliced a base (of_is a operand.value i) of && ((seen a operand.value).fits && (bound_fits a (Some l) && (bound_fits a None && (bound_fits a (Some m) && (not (text_same a base i) || not (is_some {T = Box TypedExpr} (Some m))))))))
+slice_of_fits a base operand (Some l) (Some h) None of = ap (λ (k : TypeId → Seen). (k of).fits) (ap (seen_kind a) (sym (kinds.rolls-SliceOf base operand (Some l) (Some h) None)) ∙ kind_is a (layers.ExprKind-F.SliceOf base operand (Some l) (Some h) None)) ∙ (λ i. fits_sliced a base (of_is a operand.value i) of && ((seen a operand.value).fits && (bound_fits a (Some l) && (bound_fits a (Some h) && (bound_fits a None && (not (text_same a base i) || not (is_some {T = Box TypedExpr} None)))))))
+slice_of_fits a base operand (Some l) (Some h) (Some m) of = ap (λ (k : TypeId → Seen). (k of).fits) (ap (seen_kind a) (sym (kinds.rolls-SliceOf base operand (Some l) (Some h) (Some m))) ∙ kind_is a (layers.ExprKind-F.SliceOf base operand (Some l) (Some h) (Some m))) ∙ (λ i. fits_sliced a base (of_is a operand.value i) of && ((seen a operand.value).fits && (bound_fits a (Some l) && (bound_fits a (Some h) && (bound_fits a (Some m) && (not (text_same a base i) || not (is_some {T = Box TypedExpr} (Some m))))))))
 
 pub slice_of_form : (a : Around) (base operand low high max : _) (of : TypeId) → (seen_kind a (kinds.SliceOf base operand low high max) of).form ≡ forms.Other
 slice_of_form a base operand None None None of = ap (λ (k : TypeId → Seen). (k of).form) (ap (seen_kind a) (sym (kinds.rolls-SliceOf base operand None None None)) ∙ kind_is a (layers.ExprKind-F.SliceOf base operand None None None))
@@ -447,9 +471,9 @@ part_map : (a : Around) (types : List TypeId) (xs : List TypedExpr) → list_all
 part_map a types [] = refl
 part_map a types (x ∷ xs) = ap (λ (b : Bool). (seen a x).fits_part types && b) (part_map a types xs)
 
-pub builtin_of_fits : (a : Around) (builtin form arguments spread : _) (of : TypeId) → (seen_kind a (kinds.BuiltinOf builtin form arguments spread) of).fits ≡ fits_built_in a builtin form spread (map (seen a) arguments.items) of && list_all (λ x. (seen a x).fits) arguments.items
-builtin_of_fits a builtin None arguments spread of = ap (λ (k : TypeId → Seen). (k of).fits) (ap (seen_kind a) (sym (kinds.rolls-BuiltinOf builtin None arguments spread)) ∙ kind_is a (layers.ExprKind-F.BuiltinOf builtin None arguments spread)) ∙ ap (λ (b : Bool). fits_built_in a builtin None spread (map (seen a) arguments.items) of && b) (all_fit_map a arguments.items)
-builtin_of_fits a builtin (Some id) arguments spread of = ap (λ (k : TypeId → Seen). (k of).fits) (ap (seen_kind a) (sym (kinds.rolls-BuiltinOf builtin (Some id) arguments spread)) ∙ kind_is a (layers.ExprKind-F.BuiltinOf builtin (Some id) arguments spread)) ∙ ap (λ (b : Bool). fits_built_in a builtin (Some id) spread (map (seen a) arguments.items) of && b) (all_fit_map a arguments.items)
+pub builtin_of_fits : (a : Around) (builtin form arguments spread : _) (of : TypeId) → (seen_kind a (kinds.BuiltinOf builtin form arguments spread) of).fits ≡ fits_built_in a builtin form spread (map typed_as arguments.items) of && list_all (λ x. (seen a x).fits) arguments.items
+builtin_of_fits a builtin None arguments spread of = ap (λ (k : TypeId → Seen). (k of).fits) (ap (seen_kind a) (sym (kinds.rolls-BuiltinOf builtin None arguments spread)) ∙ kind_is a (layers.ExprKind-F.BuiltinOf builtin None arguments spread)) ∙ (λ i. fits_alike a (seen a) typed_as (of_is a) builtin None spread arguments.items of i && all_fit_map a arguments.items i)
+builtin_of_fits a builtin (Some id) arguments spread of = ap (λ (k : TypeId → Seen). (k of).fits) (ap (seen_kind a) (sym (kinds.rolls-BuiltinOf builtin (Some id) arguments spread)) ∙ kind_is a (layers.ExprKind-F.BuiltinOf builtin (Some id) arguments spread)) ∙ (λ i. fits_alike a (seen a) typed_as (of_is a) builtin (Some id) spread arguments.items of i && all_fit_map a arguments.items i)
 
 pub builtin_of_form : (a : Around) (builtin form arguments spread : _) (of : TypeId) → (seen_kind a (kinds.BuiltinOf builtin form arguments spread) of).form ≡ forms.Call
 builtin_of_form a builtin None arguments spread of = ap (λ (k : TypeId → Seen). (k of).form) (ap (seen_kind a) (sym (kinds.rolls-BuiltinOf builtin None arguments spread)) ∙ kind_is a (layers.ExprKind-F.BuiltinOf builtin None arguments spread))

@@ -1,5 +1,7 @@
 pub mod Layers
+pub mod Arguments
 pub mod Lists
+pub mod Takes
 pub mod Told
 pub mod Turns
 pub mod GivenOnce

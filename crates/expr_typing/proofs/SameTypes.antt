@@ -83,3 +83,11 @@ module _ (types : Table) (held : IsHeld types) where
 
   pub same_answer : (a b : TypeId) (r : Bool) → r ≡ same_to (length types.terms) types a b → IsTrue r ↔ SameButTags types a b
   same_answer a b r e = (λ h. (length types.terms, sym e ∙ h), λ k. e ∙ enough k.0 a b k.1)
+
+-- by one step more than the terms of two types that are not one
+pub same_deeper : (types : Table) (a b : TypeId) (s t : TypeTerm) (depth less : ℕ) (r : Bool) → depth ≡ suc less → same_id a b ≡ false → Some s ≡ term_at types a → Some t ≡ term_at types b
+    → r ≡ like_term (same_to less types) (untagged s) (untagged t) → r ≡ same_to depth types a b
+same_deeper types a b s t depth less r deep apart hs ht e =
+    e ∙ ((λ i. alike (same_to less types) (option_map untagged (hs i)) (option_map untagged (ht i)))
+    ∙ (sym (ap (λ c. c || alike (same_to less types) (untagged_at types a) (untagged_at types b)) apart)
+    ∙ sym (ap (λ d. same_to d types a b) deep)))

@@ -3,7 +3,6 @@ use Rattle.std.proofs.Common.{◌≡◌, ℕ, zero, suc, ◌<◌, ◌==◌, Bool
 use Rattle.std.specs.Cmp.{unsigned_Decides}
 use Rattle.std.specs.List.{All, Contains}
 use Rattle.std.proofs.lemmas.List.Elements.{All-head, All-tail}
-use Rattle.std.proofs.lemmas.Map.Lookups.{exact_unsigned}
 use Rattle.go_base.specs.declared.ids.NameId.{NameId}
 use Rattle.go_base.specs.declared.ids.TypeId.{TypeId}
 use Rattle.go_type.specs.declared.members.Member.{Member}
@@ -33,7 +32,7 @@ module _ (types : Table) (of : TypeId) (name : NameId) (owner : ℕ) where
   named : (e : MethodEntry) → is_named e ≡ true → name_of e ≡ wanted
   named e h =
       let k = both (e.name.number == name.number) _ h in
-      λ i. record { name = record { number = exact_unsigned e.name.number name.number k.0 i }; «package» = exact_unsigned e.«package» owner k.1 i }
+      λ i. record { name = record { number = (unsigned_Decides e.name.number name.number).0 k.0 i }; «package» = (unsigned_Decides e.«package» owner).0 k.1 i }
 
   here : (e : MethodEntry) (m : TypeId) → is_named e ≡ true → e.of ≡ m → IsMethod types of e → HasMethod types of name owner m
   here e m h is own = (own.0, (subst (λ (w : Wanted). HasMember types of w own.0) (named e h) own.1.0, sym (ap (λ (x : MethodEntry). x.of) own.1.1) ∙ is))

@@ -10,7 +10,9 @@ drop_past (x ∷ xs) (suc i) h = drop_past xs i (omega arith)
 
 module _ {A : Type 0} (p : A → Bool) where
   all_at : (xs : List A) (i : ℕ) (x d : A) → i < length xs → x ≡ get_or xs i d → list_all p (drop i xs) ≡ p x && list_all p (drop (i + 1) xs)
-  all_at xs i x d h e = ap (list_all p) (rw add-one (drop-cons xs i d h ∙ ap (λ y. y ∷ drop (suc i) xs) (sym e)))
+  all_at xs i x d h e =
+      let whole : drop i xs ≡ x ∷ drop (i + 1) xs = rw add-one (drop-cons xs i d h ∙ ap (λ y. y ∷ drop (suc i) xs) (sym e)) in
+      ap (list_all p) whole
 
   -- one item more
   pub all_turn : (xs : List A) (i : ℕ) (x d : A) (b : Bool) → i < length xs → x ≡ get_or xs i d → b ≡ p x → b ≡ true

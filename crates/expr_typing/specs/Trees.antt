@@ -23,7 +23,8 @@ use Rattle.typed_trees.specs.Around.{Around}
 use Rattle.typed_trees.specs.Expressions.{SeenCallee, SeenValues, SeenElements, seen}
 use Rattle.typed_trees.specs.Expressions.{callee_layer, values_layer, elements_layer, kind_layer}
 use Rattle.typed_trees.specs.Expressions.{entry_layer, field_layer, item_layer, expr_layer}
-use Rattle.typed_trees.specs.Nodes.{Seen, SeenField, SeenItem, SeenEntry}
+use Rattle.typed_trees.specs.declared.forms.Form.TheVariants as forms
+use Rattle.typed_trees.specs.Nodes.{whole, Seen, SeenField, SeenItem, SeenEntry}
 
 -- whether an expression fits as a whole, or where it is made of parts of types
 abbrev pub asks : Asked → Seen → Bool
@@ -40,6 +41,10 @@ layer_exprs (layers.Values-F.Spread tuple parts) = parts.items
 -- the expressions of the values of a list
 unfoldable pub value_exprs : Values → List TypedExpr
 value_exprs values = layer_exprs (out-Values values)
+
+-- an expression by its type alone
+abbrev pub typed_as : TypedExpr → Seen
+typed_as x = whole x.of forms.Other true
 
 abbrev pub has_type : TypedExpr → TypeId → Bool
 has_type x of = same_id x.of of

@@ -2,7 +2,7 @@
 
 ghost use Rattle.std.specs.Prelude.{◌≡◌, ◌&&◌, slice_get};
 ghost use Rattle.type_shapes.specs.Shapes.{is_id};
-ghost use Rattle.expr_typing.specs.Telling.{at_tests};
+ghost use Rattle.expr_typing.specs.Telling.{at_tests, function_type, literal_type, method_type_of};
 ghost use Rattle.typed_trees.specs.Around as spec;
 ghost use Rattle.typed_trees.specs.Tests.{Tests};
 
@@ -32,7 +32,7 @@ fn function_at(around: Around<'_>, id: FuncId) -> Option<FunctionDecl>
 
 /// The type of a declared function.
 pub fn function_type(around: Around<'_>, id: FuncId) -> Option<TypeId>
-    ensures { (tests : Tests) → result ≡ spec.function_type (at_tests around.entry tests) id }
+    ensures { result ≡ function_type around.entry.program.now id }
 {
     match function_at(around, id) {
         Some(decl) => plain_signature(decl),
@@ -51,7 +51,7 @@ fn plain_signature(decl: FunctionDecl) -> Option<TypeId>
 
 /// The type of a literal of the function.
 pub fn literal_type(around: Around<'_>, id: FuncId) -> Option<TypeId>
-    ensures { (tests : Tests) → result ≡ spec.literal_type (at_tests around.entry tests) id }
+    ensures { result ≡ literal_type around.entry.program.now around.entry.function id }
 {
     match function_at(around, id) {
         Some(decl) => literal_signature(decl, around.function),
@@ -70,7 +70,7 @@ fn literal_signature(decl: FunctionDecl, function: FuncId) -> Option<TypeId>
 
 /// The type of a declared method with a receiver of a type.
 pub fn method_type_of(around: Around<'_>, id: FuncId, receiver: TypeId) -> Option<TypeId>
-    ensures { (tests : Tests) → result ≡ spec.method_type_of (at_tests around.entry tests) id receiver }
+    ensures { result ≡ method_type_of around.entry.program.now id receiver }
 {
     match function_at(around, id) {
         Some(decl) => method_signature(decl, receiver),

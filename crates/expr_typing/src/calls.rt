@@ -2,12 +2,13 @@
 
 ghost use Rattle.std.specs.Prelude.{◌≡◌, option_copied};
 ghost use Rattle.std.specs.Cmp.Lexicographic.{pointwise};
+ghost use Rattle.std.specs.Option.{option_and_then};
 ghost use Rattle.go_type.specs.Table.{term_at};
 ghost use Rattle.expr_typing.specs.Telling.{at_tests};
 ghost use Rattle.expr_typing.specs.Trees.{seen_callee, value_exprs, has_type};
 ghost use Rattle.type_shapes.specs.Shapes.{parts_of};
 ghost use Rattle.typed_trees.specs.Around as spec;
-ghost use Rattle.typed_trees.specs.Expressions.{seen_values, type_signature};
+ghost use Rattle.typed_trees.specs.Expressions.{seen_values};
 ghost use Rattle.typed_trees.specs.Nodes as node;
 ghost use Rattle.typed_trees.specs.Tests.{Tests};
 
@@ -20,7 +21,7 @@ use type_shapes::parts;
 
 /// The signature of a type.
 fn signature_at<'a>(around: Around<'a>, of: Option<TypeId>) -> Option<&'a Signature>
-    ensures { (tests : Tests) → option_copied result ≡ type_signature (at_tests around.entry tests) of }
+    ensures { option_copied result ≡ option_and_then (λ it. spec.signature_in (term_at around.entry.program.now.types it)) of }
 {
     match of {
         Some(of) => signature_in(around.program.types.get(of)),
@@ -38,7 +39,7 @@ fn signature_in(term: Option<&TypeTerm>) -> Option<&Signature>
 }
 
 /// The signature of what is called, without a receiver.
-#[tactic(auto, using(crate::proofs::Layers::callee_signatures, crate::proofs::Layers::of_is))]
+#[tactic(auto, using(crate::proofs::Layers::callee_signatures, crate::proofs::Lists::method_names))]
 pub fn callee_signature<'a>(around: Around<'a>, callee: &Callee) -> Option<&'a Signature>
     ensures { (tests : Tests) → option_copied result ≡ (seen_callee (at_tests around.entry tests) callee.now).signature }
 {
@@ -98,11 +99,17 @@ fn have_types(exprs: &[TypedExpr], types: &[TypeId]) -> bool
         return false;
     }
     for (index, expr) in exprs.iter().enumerate() {
-        if expr.of != types[index] {
+        if !has_type(expr, types[index]) {
             return false;
         }
     }
     true
+}
+
+fn has_type(expr: &TypedExpr, of: TypeId) -> bool
+    ensures { result ≡ has_type expr.now of }
+{
+    expr.of == of
 }
 
 /// Whether results are given as a value of a type: one as itself, none or several as a tuple.

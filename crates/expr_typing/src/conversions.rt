@@ -18,7 +18,7 @@ pub fn fits_conversion(around: Around<'_>, from: TypeId, to: TypeId) -> bool
     ensures { (told : Told around.entry.program.now.types) → result ≡ conversion.fits_conversion (at_tests around.entry told.tests) from to }
 {
     !is_interface(&around.program.types, to)
-        && (keeps_value(around, from, to) || makes_value(around, from, to))
+        & (keeps_value(around, from, to) | makes_value(around, from, to))
 }
 
 fn keeps_value(around: Around<'_>, from: TypeId, to: TypeId) -> bool

@@ -1,6 +1,7 @@
 //! What an expression is for the one above it. Go specification, "Address operators" and "Assignment statements".
 
 ghost use Rattle.std.specs.Prelude.{◌≡◌};
+ghost use Rattle.expr_typing.specs.Parts as part;
 ghost use Rattle.typed_trees.specs.Around.{Around};
 ghost use Rattle.typed_trees.specs.Expressions.{seen};
 ghost use Rattle.typed_trees.specs.Nodes as node;
@@ -55,7 +56,7 @@ fn place_if(is_place: bool) -> Form
 
 /// An element of a slice is a place, and one of an array that is one.
 fn index_form(base: IndexBase, operand: Form) -> Form
-    ensures { (around : Around) → result ≡ node.index_form around base operand }
+    ensures { result ≡ part.element_form base operand }
 {
     match base {
         IndexBase::Slice => Form::Place,
@@ -65,7 +66,7 @@ fn index_form(base: IndexBase, operand: Form) -> Form
 }
 
 fn entry_form(comma_ok: bool) -> Form
-    ensures { (around : Around) → result ≡ node.entry_form around comma_ok }
+    ensures { result ≡ part.entry_form comma_ok }
 {
     if comma_ok { Form::Other } else { Form::Entry }
 }

@@ -5,7 +5,7 @@ ghost use Rattle.std.specs.Option.{option_and_then, option_map_or};
 ghost use Rattle.std.specs.Prelude.{◌≡◌, ◌&&◌, ◌||◌, not, true, false, IfOk};
 ghost use Rattle.go_type.specs.Assignable.{underlying_term_of};
 ghost use Rattle.go_type.specs.Table.{term_at};
-ghost use Rattle.expr_typing.specs.Parts.{is_integer_type, is_ordered_type};
+ghost use Rattle.expr_typing.specs.Parts as part;
 ghost use Rattle.expr_typing.specs.Telling.{Told, at_tests};
 ghost use Rattle.type_shapes.specs.Shapes as shape;
 ghost use Rattle.typed_trees.specs.Around as spec;
@@ -18,12 +18,13 @@ use go_base::{NameId, NoMemory, TypeId};
 use go_tree::{IndexBase, Method, SliceBase};
 use go_type::{Basic, Const, MethodType, Signature, TypeTerm, Types, int_kind, represent};
 use type_shapes::{
-    array_elem, base_of, field_of, has_nil, is_id, is_plain, is_slice_of, is_text, is_with_ok,
+    array_elem, base_of, field_of, has_nil, is_id, is_plain, is_slice, is_slice_of, is_text,
+    is_with_ok,
 };
 
 /// Whether the underlying type of a type is one of integers.
 pub fn has_integers(around: Around<'_>, of: TypeId) -> bool
-    ensures { result ≡ is_integer_type around.entry.program.now.types of }
+    ensures { result ≡ part.is_integer_type around.entry.program.now.types of }
 {
     match int_kind(&around.program.types, of) {
         Some(_) => true,
@@ -33,7 +34,7 @@ pub fn has_integers(around: Around<'_>, of: TypeId) -> bool
 
 /// Whether values of a type are ordered: integers and strings.
 pub fn is_ordered(around: Around<'_>, of: TypeId) -> bool
-    ensures { result ≡ is_ordered_type around.entry.program.now.types of }
+    ensures { result ≡ part.is_ordered_type around.entry.program.now.types of }
 {
     has_integers(around, of) || is_text(&around.program.types, of)
 }
@@ -41,7 +42,7 @@ pub fn is_ordered(around: Around<'_>, of: TypeId) -> bool
 pub fn fits_constant(around: Around<'_>, value: &Const, of: TypeId) -> bool
     ensures { (tests : Tests) → result ≡ node.fits_constant (at_tests around.entry tests) value.now of }
 {
-    is_typed_basic(around, of) && represent(&around.program.types, value, of)
+    is_typed_basic(around, of) & represent(&around.program.types, value, of)
 }
 
 fn is_typed_basic(around: Around<'_>, of: TypeId) -> bool
@@ -54,7 +55,7 @@ fn is_typed_basic(around: Around<'_>, of: TypeId) -> bool
 }
 
 fn is_typed(basic: Basic) -> bool
-    ensures { (around : spec.Around) → result ≡ node.is_typed_basic around (Some (TypeTerm.Basic basic)) }
+    ensures { result ≡ part.is_typed basic }
 {
     match basic {
         Basic::UntypedBool
@@ -67,7 +68,7 @@ fn is_typed(basic: Basic) -> bool
 }
 
 pub fn fits_nil(around: Around<'_>, of: TypeId) -> bool
-    ensures { (tests : Tests) → result ≡ node.fits_nil (at_tests around.entry tests) of }
+    ensures { result ≡ shape.has_nil (underlying_term_of around.entry.program.now.types of) }
 {
     has_nil(&around.program.types, of)
 }
@@ -79,7 +80,7 @@ pub fn interface_method(
     package: u32,
     of: TypeId,
 ) -> Option<TypeId>
-    ensures { (tests : Tests) → result ≡ node.interface_method (at_tests around.entry tests) name «package» (underlying_term_of around.entry.program.now.types of) }
+    ensures { result ≡ part.interface_method name «package» (underlying_term_of around.entry.program.now.types of) }
 {
     match around.program.types.underlying_term(of) {
         Some(TypeTerm::Interface(methods)) => method_named(methods.as_slice(), name, package),
@@ -88,7 +89,7 @@ pub fn interface_method(
 }
 
 fn method_named(methods: &[MethodType], name: NameId, package: u32) -> Option<TypeId>
-    ensures { (around : spec.Around) → result ≡ node.method_named around name «package» methods.now }
+    ensures { result ≡ part.method_named name «package» methods.now }
 {
     for method in methods {
         if method.name == name && method.package == package {
@@ -98,6 +99,7 @@ fn method_named(methods: &[MethodType], name: NameId, package: u32) -> Option<Ty
     None
 }
 
+#[tactic(auto, using(crate::proofs::Lists::method_names))]
 pub fn fits_method(around: Around<'_>, method: Method, receiver: TypeId, of: TypeId) -> bool
     ensures { (tests : Tests) → result ≡ node.fits_method (at_tests around.entry tests) method receiver of }
 {
@@ -119,9 +121,21 @@ pub fn fits_method_expression(
 ) -> Result<bool, NoMemory>
     ensures { (told : Told around.entry.program.now.types) → IfOk result (λ r. r ≡ node.fits_method_expression (at_tests around.entry told.tests) receiver name «package» of) }
 {
-    match method_of(around, receiver, name, package)? {
-        Some(method) => Ok(is_method_expression(around, receiver, method, of)),
-        None => Ok(false),
+    let method = method_of(around, receiver, name, package)?;
+    Ok(is_expression_of(around, receiver, method, of))
+}
+
+fn is_expression_of(
+    around: Around<'_>,
+    receiver: TypeId,
+    method: Option<TypeId>,
+    of: TypeId,
+) -> bool
+    ensures { (tests : Tests) → result ≡ node.is_method_expression (at_tests around.entry tests) receiver of (option_and_then (λ method. spec.signature_in (term_at around.entry.program.now.types method)) method) (spec.signature_in (term_at around.entry.program.now.types of)) }
+{
+    match method {
+        Some(method) => is_method_expression(around, receiver, method, of),
+        None => false,
     }
 }
 
@@ -133,14 +147,14 @@ fn is_method_expression(around: Around<'_>, receiver: TypeId, method: TypeId, of
         around.program.types.get(of),
     ) {
         (Some(TypeTerm::Func(method)), Some(TypeTerm::Func(signature))) => {
-            takes_receiver(receiver, of, method, signature)
+            takes_receiver(receiver, method, signature)
         }
         _ => false,
     }
 }
 
-fn takes_receiver(receiver: TypeId, of: TypeId, method: &Signature, signature: &Signature) -> bool
-    ensures { (around : spec.Around) → result ≡ node.is_method_expression around receiver of (Some method.now) (Some signature.now) }
+fn takes_receiver(receiver: TypeId, method: &Signature, signature: &Signature) -> bool
+    ensures { result ≡ part.takes_receiver receiver method.now signature.now }
 {
     match signature.params.as_slice() {
         [first, rest @ ..] => {
@@ -154,14 +168,14 @@ fn takes_receiver(receiver: TypeId, of: TypeId, method: &Signature, signature: &
 }
 
 pub fn fits_field(around: Around<'_>, field: u32, operand: TypeId, of: TypeId) -> bool
-    ensures { (tests : Tests) → result ≡ node.fits_field (at_tests around.entry tests) field operand of }
+    ensures { result ≡ shape.is_id (shape.field_of field (underlying_term_of around.entry.program.now.types operand)) of }
 {
     is_id(field_of(&around.program.types, operand, field), of)
 }
 
 /// The type of the elements of a slice type.
 pub fn slice_elem(types: &Types, of: TypeId) -> Option<TypeId>
-    ensures { (around : spec.Around) → result ≡ node.slice_elem around (underlying_term_of types.now of) }
+    ensures { result ≡ part.slice_type (underlying_term_of types.now of) }
 {
     match types.underlying_term(of) {
         Some(TypeTerm::Slice(elem)) => Some(*elem),
@@ -177,11 +191,12 @@ pub fn fits_index(
     index: TypeId,
     of: TypeId,
 ) -> bool
-    ensures { (tests : Tests) → result ≡ (node.fits_element (at_tests around.entry tests) base operand of && is_integer_type around.entry.program.now.types index) }
+    ensures { (tests : Tests) → result ≡ (node.fits_element (at_tests around.entry tests) base operand of && part.is_integer_type around.entry.program.now.types index) }
 {
     fits_element(around, base, operand, of) && has_integers(around, index)
 }
 
+#[tactic(auto, using(crate::proofs::Lists::slice_rules))]
 fn fits_element(around: Around<'_>, base: IndexBase, operand: TypeId, of: TypeId) -> bool
     ensures { (tests : Tests) → result ≡ node.fits_element (at_tests around.entry tests) base operand of }
 {
@@ -223,6 +238,7 @@ pub fn fits_map_index(
 }
 
 /// Whether a slice of an operand has a type.
+#[tactic(auto, using(crate::proofs::Lists::slice_rules))]
 pub fn fits_sliced(around: Around<'_>, base: SliceBase, operand: TypeId, of: TypeId) -> bool
     ensures { (tests : Tests) → result ≡ node.fits_sliced (at_tests around.entry tests) base operand of }
 {
@@ -253,18 +269,9 @@ fn is_slice_of_array(around: Around<'_>, elem: Option<TypeId>, of: TypeId) -> bo
     }
 }
 
-fn is_slice(types: &Types, of: TypeId) -> bool
-    ensures { (around : spec.Around) → result ≡ option_map_or (λ elem. true) (node.slice_elem around (underlying_term_of types.now of)) false }
-{
-    match slice_elem(types, of) {
-        Some(_) => true,
-        None => false,
-    }
-}
-
 /// Whether a slice expression may have a third place.
 pub fn takes_max(base: SliceBase, has_max: bool) -> bool
-    ensures { (around : spec.Around) → result ≡ (not (node.is_text_base around base) || not has_max) }
+    ensures { result ≡ (not (part.is_text_base base) || not has_max) }
 {
     match base {
         SliceBase::Text => !has_max,
@@ -273,7 +280,7 @@ pub fn takes_max(base: SliceBase, has_max: bool) -> bool
 }
 
 pub fn fits_deref(around: Around<'_>, operand: TypeId, of: TypeId) -> bool
-    ensures { (tests : Tests) → result ≡ node.fits_deref (at_tests around.entry tests) operand of }
+    ensures { result ≡ shape.is_id (shape.base_of (underlying_term_of around.entry.program.now.types operand)) of }
 {
     is_id(base_of(&around.program.types, operand), of)
 }

@@ -1,13 +1,13 @@
 //! Which types operators, interfaces and assertions need. Go specification, "Operators" and "Type assertions".
 
-ghost use Rattle.std.specs.Prelude.{◌≡◌, ◌&&◌};
+ghost use Rattle.std.specs.Prelude.{◌≡◌, ◌&&◌, ◌||◌};
 ghost use Rattle.go_type.specs.Assignable.{underlying_term_of};
 ghost use Rattle.go_type.specs.Same.{same_id};
 ghost use Rattle.go_type.specs.Table.{term_at};
+ghost use Rattle.expr_typing.specs.Parts as part;
 ghost use Rattle.expr_typing.specs.Parts.{compares};
 ghost use Rattle.expr_typing.specs.Telling.{Told, at_tests};
 ghost use Rattle.type_shapes.specs.Shapes as shape;
-ghost use Rattle.typed_trees.specs.Around as spec;
 ghost use Rattle.typed_trees.specs.Nodes as node;
 ghost use Rattle.typed_trees.specs.Tests.{Tests};
 
@@ -43,6 +43,7 @@ fn takes_unary(around: Around<'_>, op: UnaryOp, of: TypeId) -> bool
 }
 
 /// Whether an operator has operands of two types, and gives a value of a third. Go specification, "Arithmetic operators".
+#[tactic(auto, using(crate::proofs::Lists::join_rules))]
 pub fn fits_binary(
     around: Around<'_>,
     op: BinaryOp,
@@ -53,20 +54,20 @@ pub fn fits_binary(
     ensures { (tests : Tests) → result ≡ node.fits_binary (at_tests around.entry tests) op left right of }
 {
     match op.shift() {
-        Some(_) => left == of && has_integers(around, left) && has_integers(around, right),
-        None => left == of && right == of && takes_binary(around, op, of),
+        Some(_) => (left == of) & (has_integers(around, left) & has_integers(around, right)),
+        None => (left == of) & ((right == of) & takes_binary(around, op, of)),
     }
 }
 
 /// Whether an operator takes values of a type: integers, and strings that are joined.
 fn takes_binary(around: Around<'_>, op: BinaryOp, of: TypeId) -> bool
-    ensures { (tests : Tests) → result ≡ node.takes_binary (at_tests around.entry tests) op of }
+    ensures { result ≡ (part.is_integer_type around.entry.program.now.types of || (part.is_join op && shape.is_text (underlying_term_of around.entry.program.now.types of))) }
 {
     has_integers(around, of) || (is_join(op) && is_text(&around.program.types, of))
 }
 
 fn is_join(op: BinaryOp) -> bool
-    ensures { (around : spec.Around) → result ≡ node.is_join around op }
+    ensures { result ≡ part.is_join op }
 {
     matches!(op, BinaryOp::Add)
 }
@@ -96,7 +97,7 @@ fn compares(around: Around<'_>, op: CompareOp, of: TypeId, is_nil: bool) -> bool
 }
 
 pub fn fits_logic(around: Around<'_>, left: TypeId, right: TypeId, of: TypeId) -> bool
-    ensures { (tests : Tests) → result ≡ node.fits_logic (at_tests around.entry tests) left right of }
+    ensures { result ≡ (same_id left of && (same_id right of && shape.is_truth (underlying_term_of around.entry.program.now.types of))) }
 {
     left == of && right == of && is_truth(&around.program.types, of)
 }

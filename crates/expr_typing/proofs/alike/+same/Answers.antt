@@ -1,4 +1,5 @@
-use Rattle.std.proofs.Common.{arith, refl, sym, ◌∙◌}
+use Rattle.std.proofs.Common.{arith, refl, sym, ◌∙◌, ◌<◌, ◌-◌}
+use Rattle.expr_typing.proofs.SameTypes.{same_deeper}
 use Rattle.go_type.specs.Identity.{like_method}
 use Rattle.expr_typing.specs.Alike.{like_bare_field}
 use Rattle.type_bare.specs.Same.{same_to}
@@ -34,3 +35,9 @@ pub are_same_methods-loop-index-preserved : goal.are_same_methods-loop-index-pre
 are_same_methods-loop-index-preserved t c =
     pairs-turn (like_method (same_to c.args.depth c.args.types.now)) c.args.a.now c.args.b.now c.loop-index.index _ _ _ _
     (omega arith) (omega arith) refl refl (sym c.is_same_method.ensures ∙ c.if-not-is_same_method.false) c.loop-index.invariant
+
+pub is_same-returns-in-Some-Some : goal.is_same-returns-in-Some-Some
+is_same-returns-in-Some-Some t c =
+    let pos : 0 < c.args.depth = omega (arith, c.if-depth-eq0.false) in
+    same_deeper c.args.types.now c.args.a c.args.b c.in-Some-Some.a.now c.in-Some-Some.b.now c.args.depth (c.args.depth - 1) c.is_same_term.result
+    (omega arith) (sym c.eq.ensures ∙ c.if-eq.false) c.in-Some-Some.ensures c.in-Some-Some.ensures' c.is_same_term.ensures
