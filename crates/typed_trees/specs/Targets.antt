@@ -27,6 +27,11 @@ use Rattle.typed_trees.specs.Around.{Around, under, has_texts, is_variable, is_o
 use Rattle.typed_trees.specs.Expressions.{seen}
 use Rattle.typed_trees.specs.Nodes.{Seen, can_be_set}
 
+-- what a range gives in each turn
+pub record Turns : Type 0 where
+  pub key : TypeId
+  pub value : Option TypeId
+
 module _ (around : Around) where
   -- ---- assignments
 
@@ -74,10 +79,6 @@ module _ (around : Around) where
       option_map_or (λ elem. receives_into elem targets) (received_elem (under around channel)) false
 
   -- ---- what a range gives: keys and values
-
-  pub record Turns : Type 0 where
-    pub key : TypeId
-    pub value : Option TypeId
 
   abbrev pub int_type : TypeId
   int_type = basic_id basic.Int

@@ -1,0 +1,5 @@
+pub mod Lists
+pub mod Pairs
+pub mod Clauses
+pub mod StmtForms
+pub mod Both
