@@ -1,6 +1,6 @@
 //! The test of whole programs.
 
-ghost use Rattle.std.specs.Prelude.{◌≡◌, Some, IfOk};
+ghost use Rattle.std.specs.Prelude.{◌≡◌, Some, IfOk, IsTrue};
 ghost use Rattle.go_tree.specs.declared.program.Program.{Program};
 ghost use Rattle.go_type.specs.Table.{term_at};
 ghost use Rattle.typed_trees.specs.Around.{is_plain, signature_in};
@@ -17,6 +17,7 @@ use std::alloc::Global;
 /// Whether a program is typed: each node has parts of the types that it needs, and each name, field and method that a
 /// node selects exists.
 pub fn is_program(alloc: Global, program: &Program) -> Result<bool, NoMemory>
+    ensures typed { IfOk result (λ r. IsTrue r → programs.IsTypedProgram program.now) }
     ensures exact { (tests : Tests) → AreTold program.now.types tests → IfOk result (λ r. r ≡ programs.fits_program program.now tests) }
 {
     let functions = fit_functions(alloc, program)?;
