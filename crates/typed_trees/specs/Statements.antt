@@ -22,7 +22,7 @@ use Rattle.go_type.specs.declared.operators.BinaryOp.{BinaryOp}
 use Rattle.type_shapes.specs.Shapes.{is_interface, sent_elem, is_id}
 use Rattle.typed_trees.specs.Around.{Around, under, has_truths, only_if, variable_at, is_own_variable}
 use Rattle.typed_trees.specs.Expressions.{seen, seen_values, SeenValues}
-use Rattle.typed_trees.specs.Nodes.{fits_binary, can_be_set, is_call, is_nothing}
+use Rattle.typed_trees.specs.Nodes.{Seen, fits_binary, can_be_set, is_call, is_nothing}
 use Rattle.typed_trees.specs.Targets.{take_values, define_all, receives, ranges}
 
 -- what stands around a statement of a function: the types of the results, how many statements a `break` may leave and
