@@ -1,5 +1,6 @@
 pub mod Lists
 pub mod Pairs
-pub mod Clauses
+pub mod ClauseForms
 pub mod StmtForms
 pub mod Both
+pub mod Numbered

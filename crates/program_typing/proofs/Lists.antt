@@ -1,9 +1,16 @@
 -- Lists whose items are tested one after another.
-use Rattle.std.proofs.Common.{◌≡◌, refl, sym, ap, ◌∙◌, ℕ, zero, suc, ◌+◌, ◌<◌, ◌≤◌, List, [], ◌∷◌, drop, length, get_or, arith}
+use Rattle.std.proofs.Common.{◌≡◌, refl, sym, ap, ◌∙◌, ℕ, zero, suc, ◌+◌, ◌<◌, ◌≤◌, List, [], ◌∷◌, ◌++◌, drop, length, get_or, append_assoc, append-nil, arith}
 use Rattle.std.proofs.lemmas.Bool.Decides.{nat_tests}
 use Rattle.std.proofs.lemmas.List.{at_drop_more, at_drop_all}
 use Rattle.std.specs.List.{list_all}
 use Rattle.std.specs.Prelude.{Bool, true, false, ◌&&◌, nat_lt}
+use Rattle.std.specs.Prelude.{Option, Some, None}
+use Rattle.std.specs.Option.{option_map_or}
+use Rattle.go_base.specs.declared.ids.TypeId.{TypeId}
+use Rattle.go_base.specs.declared.ids.VarId.{VarId}
+use Rattle.go_tree.specs.declared.variables.Variable.{Variable}
+use Rattle.typed_trees.specs.Around.{Around, variable_at}
+use Rattle.typed_trees.specs.Statements.{variable_types}
 use Rattle.program_typing.proofs.Both.{and_true}
 
 -- ---- each item by itself
@@ -74,3 +81,24 @@ module _ {A : Type 0} (f : A → Bool → Bool) (F : List A → Bool) (none : F 
 
   pub turn-done : (xs : List A) (i : ℕ) (whole : Bool) → length xs ≤ i → F (drop i xs) ≡ whole → true ≡ whole
   turn-done xs i whole past before = sym none ∙ (sym (at_drop_all F xs i past) ∙ before)
+
+-- ---- lists that are made one after another
+
+variable_type : (o : Option Variable) (types : List TypeId) → option_map_or (λ (it : Variable). it.of ∷ types) o types ≡ option_map_or (λ (it : Variable). it.of ∷ []) o [] ++ types
+variable_type None types = refl
+variable_type (Some it) types = refl
+
+pub variable_types-more : (a : Around) (id : VarId) (ids : List VarId) → variable_types a (id ∷ ids) ≡ variable_types a (id ∷ []) ++ variable_types a ids
+variable_types-more a id ids = variable_type (variable_at a id) (variable_types a ids)
+
+module _ {A B : Type 0} (f : List A → List B) (more : (x : A) (xs : List A) → f (x ∷ xs) ≡ f (x ∷ []) ++ f xs) (none : f [] ≡ []) where
+  pub made-kept : (xs : List A) (i : ℕ) (x d : A) (old new whole : List B) → i < length xs → x ≡ get_or xs i d → new ≡ old ++ f (x ∷ []) → old ++ f (drop i xs) ≡ whole → new ++ f (drop (i + 1) xs) ≡ whole
+  made-kept xs i x d old new whole within is e before =
+      ap (λ (l : List B). l ++ f (drop (i + 1) xs)) e
+      ∙ (append_assoc old (f (x ∷ [])) (f (drop (i + 1) xs))
+      ∙ (ap (λ (l : List B). old ++ l) (sym (at_drop_more f xs i d within ∙ (ap (λ (y : A). f (y ∷ drop (i + 1) xs)) (sym is) ∙ more x (drop (i + 1) xs))))
+      ∙ before))
+
+  pub made-done : (xs : List A) (i : ℕ) (old whole : List B) → length xs ≤ i → old ++ f (drop i xs) ≡ whole → old ≡ whole
+  made-done xs i old whole past before =
+      sym (append-nil old) ∙ (ap (λ (l : List B). old ++ l) (sym (at_drop_all f xs i past ∙ none)) ∙ before)

@@ -2,6 +2,10 @@
 use Rattle.std.proofs.Common.{◌≡◌, ℕ, ◌+◌, ◌<◌, ◌≤◌, Bool, true, false, ◌&&◌, List, [], ◌∷◌, length, drop, get_or, refl, sym, ◌∙◌, ap}
 use Rattle.std.proofs.lemmas.List.{at_drop_more, at_drop_all}
 use Rattle.std.specs.Cmp.Lexicographic.{pointwise}
+use Rattle.go_base.specs.declared.ids.TypeId.{TypeId}
+use Rattle.go_base.specs.declared.ids.VarId.{VarId}
+use Rattle.typed_trees.specs.Around.{Around, is_own_variable}
+use Rattle.program_typing.specs.Walk.{are_own}
 
 module _ {A B : Type 0} (R : A → B → Bool) where
   pair_at : (xs : List A) (ys : List B) (i : ℕ) (x d : A) (y e : B) → i < length xs → i < length ys → x ≡ get_or xs i d → y ≡ get_or ys i e
@@ -27,3 +31,10 @@ module _ {A B : Type 0} (R : A → B → Bool) where
   pub pairs-done : (xs : List A) (ys : List B) (i : ℕ) (whole : Bool) → length xs ≤ i → length ys ≤ i → pointwise R (drop i xs) (drop i ys) ≡ whole → true ≡ whole
   pairs-done xs ys i whole h k before =
       sym (at_drop_all (λ (zs : List A). pointwise R zs (drop i ys)) xs i h ∙ at_drop_all (λ (zs : List B). pointwise R [] zs) ys i k) ∙ before
+
+-- variables of the function itself, of these types
+pub own_pairs : (a : Around) (ids : List VarId) (types : List TypeId) → pointwise (is_own_variable a) ids types ≡ are_own a ids types
+own_pairs a [] [] = refl
+own_pairs a [] (of ∷ types) = refl
+own_pairs a (id ∷ ids) [] = refl
+own_pairs a (id ∷ ids) (of ∷ types) = ap (λ (b : Bool). is_own_variable a id of && b) (own_pairs a ids types)

@@ -13,6 +13,7 @@ use Rattle.go_tree.specs.declared.stmts.RangeTargets.{RangeTargets}
 use Rattle.go_tree.specs.declared.stmts.ReceiveInto.{ReceiveInto}
 use Rattle.go_tree.specs.declared.stmts.SelectClause.{SelectClause}
 use Rattle.go_tree.specs.declared.stmts.Target.{Target}
+use Rattle.go_tree.specs.declared.stmts.Target.TheVariants as target
 use Rattle.go_tree.specs.declared.stmts.TypeClause.{TypeClause}
 use Rattle.go_tree.specs.declared.stmts.TypedArm.{TypedArm}
 use Rattle.go_tree.specs.declared.stmts.TypedBlock.{TypedBlock}
@@ -29,6 +30,10 @@ use Rattle.typed_trees.specs.Programs.{are_variables, is_of_another, is_of_packa
 use Rattle.typed_trees.specs.Statements.{fits_expr, values_are, variable_types}
 use Rattle.typed_trees.specs.Targets.{Turns, take_values, define_all, are_part_of, part_types, receives, sets_turn}
 use Rattle.typed_trees.specs.Targets.{defines_one, all_types, listed_targets}
+
+abbrev pub is_no_place : Option Target → Bool
+is_no_place (Some (target.Place place)) = false
+is_no_place _ = true
 
 module _ (around : Around) where
   unfoldable pub fits_stmt : TypedStmt → Fits

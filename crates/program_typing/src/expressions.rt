@@ -3,6 +3,7 @@
 ghost use Rattle.std.specs.Prelude.{◌≡◌, ◌++◌, ◌∷◌, [], IfOk, OnOk};
 ghost use Rattle.expr_typing.specs.Telling.{at_tests};
 ghost use Rattle.go_type.specs.Assignable.{underlying_term_of};
+ghost use Rattle.go_type.specs.Same.{same_ids};
 ghost use Rattle.program_typing.specs.Telling.{Gives, Tells};
 ghost use Rattle.type_shapes.specs.Shapes as shape;
 ghost use Rattle.program_typing.specs.Walk.{is_one_of_own};
@@ -153,8 +154,13 @@ pub fn values_are(
     ensures { Tells around.entry result (λ a. statement.values_are a (tree.seen_values a values.now) types.now) }
 {
     let seen = see_values(around, values)?;
-    let same = seen.types.as_slice() == types;
-    Ok(seen.fits & same)
+    Ok(seen.fits & are_same(seen.types.as_slice(), types))
+}
+
+fn are_same(types: &[TypeId], others: &[TypeId]) -> bool
+    ensures { result ≡ same_ids types.now others.now }
+{
+    types == others
 }
 
 /// Whether an operator may change a place by a value. Go specification, "IncDec statements" and "Assignment statements".

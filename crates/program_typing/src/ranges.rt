@@ -1,11 +1,11 @@
 //! What a range sets. Go specification, "For statements with range clause".
 
-ghost use Rattle.std.specs.Prelude.{◌∷◌, [], Some, None, option_map};
+ghost use Rattle.std.specs.Prelude.{◌≡◌, ◌∷◌, [], Some, None, option_map};
 ghost use Rattle.program_typing.specs.Telling.{Gives, Tells};
 ghost use Rattle.program_typing.specs.Turning.{turns_as};
 ghost use Rattle.program_typing.specs.Walk as walk;
 ghost use Rattle.typed_trees.specs.Expressions as tree;
-ghost use Rattle.typed_trees.specs.Targets as target;
+ghost use Rattle.typed_trees.specs.Targets as aims;
 
 use crate::targets::{are_part_of, part_types, takes_value};
 use crate::turns::{Turns, turns_of};
@@ -20,11 +20,41 @@ pub fn fits_range(
     operand: &TypedExpr,
     targets: &RangeTargets,
 ) -> Result<bool, NoMemory>
-    ensures { Tells around.entry result (λ a. target.ranges a over (tree.seen a operand.now) targets.now) }
+    ensures { Tells around.entry result (λ a. aims.ranges a over (tree.seen a operand.now) targets.now) }
 {
     let operand = see(around, operand)?;
     let set = sets_turns(around, turns_of(around, over, operand.of), targets)?;
-    Ok(operand.fits & set)
+    Ok(operand.fits & (suits(around, over, targets) & set))
+}
+
+/// Whether no value is asked for of an operand that is not evaluated.
+fn suits(around: Around<'_>, over: RangeOver, targets: &RangeTargets) -> bool
+    ensures { Gives around.entry result (λ a. aims.suits a over targets.now) }
+{
+    match over {
+        RangeOver::Constant(_) => lacks_value(around, targets),
+        _ => true,
+    }
+}
+
+fn lacks_value(around: Around<'_>, targets: &RangeTargets) -> bool
+    ensures { Gives around.entry result (λ a. aims.lacks_value a targets.now) }
+{
+    let _around = around;
+    match targets {
+        RangeTargets::None => true,
+        RangeTargets::Define { value, .. } => value.is_none(),
+        RangeTargets::Assign { value, .. } => is_no_place(value),
+    }
+}
+
+fn is_no_place(value: &Option<Target>) -> bool
+    ensures { result ≡ walk.is_no_place value.now }
+{
+    match value {
+        Some(Target::Place(_)) => false,
+        _ => true,
+    }
 }
 
 fn sets_turns(
@@ -45,7 +75,7 @@ fn sets_turn(
     turns: Turns,
     targets: &RangeTargets,
 ) -> Result<bool, NoMemory>
-    ensures { Tells around.entry result (λ a. target.sets_turn a targets.now (turns_as turns)) }
+    ensures { Tells around.entry result (λ a. aims.sets_turn a targets.now (turns_as turns)) }
 {
     match targets {
         RangeTargets::None => Ok(true),
@@ -69,7 +99,7 @@ fn define_turn(
 
 /// Whether no variable is defined, or one of the type that is given.
 fn defines_one(around: Around<'_>, variable: Option<VarId>, of: Option<TypeId>) -> bool
-    ensures { Gives around.entry result (λ a. target.defines_one a variable of) }
+    ensures { Gives around.entry result (λ a. aims.defines_one a variable of) }
 {
     match variable {
         Some(variable) => defines_given(around, variable, of),
@@ -78,7 +108,7 @@ fn defines_one(around: Around<'_>, variable: Option<VarId>, of: Option<TypeId>) 
 }
 
 fn defines_given(around: Around<'_>, variable: VarId, of: Option<TypeId>) -> bool
-    ensures { Gives around.entry result (λ a. target.defines_one a (Some variable) of) }
+    ensures { Gives around.entry result (λ a. aims.defines_one a (Some variable) of) }
 {
     match of {
         Some(of) => is_own_variable(around, variable, of),
@@ -107,7 +137,7 @@ fn are_given(
     turns: Turns,
     parts: &[TypedExpr],
 ) -> Result<bool, NoMemory>
-    ensures { Tells around.entry result (λ a. target.are_part_of a (target.all_types a (turns_as turns)) parts.now) }
+    ensures { Tells around.entry result (λ a. aims.are_part_of a (aims.all_types a (turns_as turns)) parts.now) }
 {
     match turns.value {
         Some(value) => are_part_of(around, &[turns.key, value], parts),
@@ -122,7 +152,7 @@ fn take_turn(
     value: &Option<Target>,
     types: &[TypeId],
 ) -> Result<bool, NoMemory>
-    ensures { Tells around.entry result (λ a. target.take_values a (target.listed_targets a key.now value.now) types.now) }
+    ensures { Tells around.entry result (λ a. aims.take_values a (aims.listed_targets a key.now value.now) types.now) }
 {
     match key {
         Some(key) => take_key(around, key, value, types),
@@ -136,7 +166,7 @@ fn take_key(
     value: &Option<Target>,
     types: &[TypeId],
 ) -> Result<bool, NoMemory>
-    ensures { Tells around.entry result (λ a. target.take_values a (target.listed_targets a (Some key.now) value.now) types.now) }
+    ensures { Tells around.entry result (λ a. aims.take_values a (aims.listed_targets a (Some key.now) value.now) types.now) }
 {
     match types {
         [of, others @ ..] => {
@@ -153,7 +183,7 @@ fn take_last(
     value: &Option<Target>,
     types: &[TypeId],
 ) -> Result<bool, NoMemory>
-    ensures { Tells around.entry result (λ a. target.take_values a (target.listed_targets a None value.now) types.now) }
+    ensures { Tells around.entry result (λ a. aims.take_values a (aims.listed_targets a None value.now) types.now) }
 {
     match value {
         Some(value) => take_one(around, value, types),
@@ -162,7 +192,7 @@ fn take_last(
 }
 
 fn take_one(around: Around<'_>, value: &Target, types: &[TypeId]) -> Result<bool, NoMemory>
-    ensures { Tells around.entry result (λ a. target.take_values a (value.now ∷ []) types.now) }
+    ensures { Tells around.entry result (λ a. aims.take_values a (value.now ∷ []) types.now) }
 {
     match types {
         [of, others @ ..] => {

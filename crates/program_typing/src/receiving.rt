@@ -5,7 +5,7 @@ ghost use Rattle.program_typing.specs.Telling.{Gives, Tells};
 ghost use Rattle.program_typing.specs.Walk as walk;
 ghost use Rattle.typed_trees.specs.Expressions as tree;
 ghost use Rattle.typed_trees.specs.Statements as statement;
-ghost use Rattle.typed_trees.specs.Targets as target;
+ghost use Rattle.typed_trees.specs.Targets as aims;
 
 use crate::expressions::{received_elem, sends};
 use crate::targets::{assign_parts, define_all};
@@ -42,7 +42,7 @@ fn receives(
     channel: TypeId,
     into: &ReceiveInto,
 ) -> Result<bool, NoMemory>
-    ensures { Tells around.entry result (λ a. target.receives a channel into.now) }
+    ensures { Tells around.entry result (λ a. aims.receives a channel into.now) }
 {
     match received_elem(&around.program.types, channel) {
         Some(elem) => receives_into(around, elem, into),
@@ -55,7 +55,7 @@ fn receives_into(
     elem: TypeId,
     into: &ReceiveInto,
 ) -> Result<bool, NoMemory>
-    ensures { Tells around.entry result (λ a. target.receives_into a elem into.now) }
+    ensures { Tells around.entry result (λ a. aims.receives_into a elem into.now) }
 {
     match into {
         ReceiveInto::Nothing => Ok(true),
@@ -69,7 +69,7 @@ fn receives_into(
 
 /// A value, and whether it was sent: the value alone for one target, and else both.
 fn define_received(around: Around<'_>, targets: &[DefineTarget], elem: TypeId) -> bool
-    ensures { Gives around.entry result (λ a. target.define_all a targets.now (target.first_types a (length targets.now) elem)) }
+    ensures { Gives around.entry result (λ a. aims.define_all a targets.now (aims.first_types a (length targets.now) elem)) }
 {
     if targets.len() == 1 {
         return define_all(around, targets, &[elem]);

@@ -15,7 +15,7 @@ use crate::expressions::{
 };
 use crate::ranges::fits_range;
 use crate::targets::{assigns, define};
-use crate::within::{Within, in_block, in_clause, in_loop, in_turn};
+use crate::within::{Within, in_block, in_clause, in_loop, in_turn, is_within};
 use expr_typing::{Around, see};
 use go_base::NoMemory;
 use go_tree::{SelectClause, TypeClause, TypedArm, TypedBlock, TypedClause, TypedStmt};
@@ -73,7 +73,8 @@ fn fits_statement(
     ensures { Tells around.entry result (λ a. walk.fits_stmt a stmt.now (within_of within.entry)) }
 {
     match stmt {
-        TypedStmt::Const { .. } | TypedStmt::TypeDecl { .. } => Ok(true),
+        TypedStmt::Const { .. } => Ok(true),
+        TypedStmt::TypeDecl { .. } => Ok(true),
         TypedStmt::Var {
             variables,
             values,
@@ -107,8 +108,8 @@ fn fits_statement(
         TypedStmt::Go { call, .. } => is_call_of(around, call),
         TypedStmt::Defer { call, .. } => is_call_of(around, call),
         TypedStmt::Return { values, .. } => returns(around, values, within.results),
-        TypedStmt::Break { levels, .. } => Ok(u64::from(*levels) < within.breaks),
-        TypedStmt::Continue { levels, .. } => Ok(u64::from(*levels) < within.continues),
+        TypedStmt::Break { levels, .. } => Ok(is_within(*levels, within.breaks)),
+        TypedStmt::Continue { levels, .. } => Ok(is_within(*levels, within.continues)),
         TypedStmt::Fallthrough { .. } => Ok(within.falls),
         TypedStmt::Block(block) => fits_block(around, block, in_block(within)),
         TypedStmt::If {

@@ -2,10 +2,11 @@
 
 ghost use Rattle.std.specs.Prelude.{◌≡◌, IfOk};
 ghost use Rattle.expr_typing.specs.Telling.{Told, at_tests};
+ghost use Rattle.go_type.specs.Same.{same_id};
 ghost use Rattle.program_typing.specs.Telling.{Gives, Tells};
 ghost use Rattle.program_typing.specs.Walk as walk;
 ghost use Rattle.typed_trees.specs.Expressions as tree;
-ghost use Rattle.typed_trees.specs.Targets as target;
+ghost use Rattle.typed_trees.specs.Targets as aims;
 
 use expr_typing::{
     Around, can_be_set, fits_part, is_own_variable, is_variable, see, see_values,
@@ -28,7 +29,7 @@ pub fn take_values(
     targets: &[Target],
     types: &[TypeId],
 ) -> Result<bool, NoMemory>
-    ensures { Tells around.entry result (λ a. target.take_values a targets.now types.now) }
+    ensures { Tells around.entry result (λ a. aims.take_values a targets.now types.now) }
 {
     if targets.len() != types.len() {
         return Ok(false);
@@ -47,7 +48,7 @@ pub fn takes_value(
     target: &Target,
     of: TypeId,
 ) -> Result<bool, NoMemory>
-    ensures { Tells around.entry result (λ a. target.takes_value a target.now of) }
+    ensures { Tells around.entry result (λ a. aims.takes_value a target.now of) }
 {
     match target {
         Target::Place(place) => takes_place(around, place, of),
@@ -56,7 +57,7 @@ pub fn takes_value(
 }
 
 fn takes_place(around: Around<'_>, place: &TypedExpr, of: TypeId) -> Result<bool, NoMemory>
-    ensures { Tells around.entry result (λ a. target.takes_place a (tree.seen a place.now) of) }
+    ensures { Tells around.entry result (λ a. aims.takes_place a (tree.seen a place.now) of) }
 {
     let seen = see(around, place)?;
     Ok(can_be_set(seen.form) & (is(seen.of, of) & seen.fits))
@@ -82,7 +83,7 @@ pub fn define(
 
 /// Whether what `:=` sets takes values of these types, one each.
 pub fn define_all(around: Around<'_>, targets: &[DefineTarget], types: &[TypeId]) -> bool
-    ensures { Gives around.entry result (λ a. target.define_all a targets.now types.now) }
+    ensures { Gives around.entry result (λ a. aims.define_all a targets.now types.now) }
 {
     if targets.len() != types.len() {
         return false;
@@ -96,7 +97,7 @@ pub fn define_all(around: Around<'_>, targets: &[DefineTarget], types: &[TypeId]
 }
 
 fn defines(around: Around<'_>, target: DefineTarget, of: TypeId) -> bool
-    ensures { Gives around.entry result (λ a. target.defines a target of) }
+    ensures { Gives around.entry result (λ a. aims.defines a target of) }
 {
     match target {
         DefineTarget::New(variable) => is_own_variable(around, variable, of),
@@ -126,7 +127,7 @@ pub fn are_part_of(
     given: &[TypeId],
     parts: &[TypedExpr],
 ) -> Result<bool, NoMemory>
-    ensures { Tells around.entry result (λ a. target.are_part_of a given.now parts.now) }
+    ensures { Tells around.entry result (λ a. aims.are_part_of a given.now parts.now) }
 {
     for part in parts {
         if !fits_part(around, part, given)? {
@@ -138,7 +139,7 @@ pub fn are_part_of(
 
 /// The types of what is made of parts.
 pub fn part_types(around: Around<'_>, parts: &[TypedExpr]) -> Result<Vec<TypeId>, NoMemory>
-    ensures { (told : Told around.entry.program.now.types) → IfOk result (λ types. types.items ≡ target.part_types (at_tests around.entry told.tests) parts.now) }
+    ensures { (told : Told around.entry.program.now.types) → IfOk result (λ types. types.items ≡ aims.part_types (at_tests around.entry told.tests) parts.now) }
 {
     let mut types = Vec::new(around.alloc);
     for part in parts {

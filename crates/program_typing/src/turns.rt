@@ -5,7 +5,7 @@ ghost use Rattle.expr_typing.specs.Telling.{at_tests};
 ghost use Rattle.go_type.specs.Assignable.{underlying_term_of};
 ghost use Rattle.program_typing.specs.Turning.{turns_as};
 ghost use Rattle.typed_trees.specs.Around.{Around as Near};
-ghost use Rattle.typed_trees.specs.Targets as target;
+ghost use Rattle.typed_trees.specs.Targets as aims;
 ghost use Rattle.typed_trees.specs.Tests.{Tests};
 
 use crate::expressions::received_elem;
@@ -24,7 +24,7 @@ pub struct Turns {
 
 /// What a range over an operand of a type gives.
 pub fn turns_of(around: Around<'_>, over: RangeOver, of: TypeId) -> Option<Turns>
-    ensures { (tests : Tests) → option_map turns_as result ≡ target.turns_of (at_tests around.entry tests) over of }
+    ensures { (tests : Tests) → option_map turns_as result ≡ aims.turns_of (at_tests around.entry tests) over of }
 {
     let types = &around.program.types;
     match over {
@@ -34,13 +34,13 @@ pub fn turns_of(around: Around<'_>, over: RangeOver, of: TypeId) -> Option<Turns
         RangeOver::Text => text_turns(is_text(types, of)),
         RangeOver::Map => map_turns(types, of),
         RangeOver::Channel => channel_turns(received_elem(types, of)),
-        RangeOver::Constant(len) => index_turns(is_array_of(around, len, of)),
+        RangeOver::Constant(len) => constant_turns(around, len, of),
         RangeOver::Integer => None,
     }
 }
 
 fn with_elements(elem: Option<TypeId>) -> Option<Turns>
-    ensures { (a : Near) → option_map turns_as result ≡ target.with_elements a elem }
+    ensures { (a : Near) → option_map turns_as result ≡ aims.with_elements a elem }
 {
     match elem {
         Some(elem) => Some(Turns {
@@ -52,7 +52,7 @@ fn with_elements(elem: Option<TypeId>) -> Option<Turns>
 }
 
 fn array_elements(types: &Types, of: TypeId) -> Option<TypeId>
-    ensures { (a : Near) → result ≡ target.array_elements a (underlying_term_of types.now of) }
+    ensures { (a : Near) → result ≡ aims.array_elements a (underlying_term_of types.now of) }
 {
     match types.underlying_term(of) {
         Some(TypeTerm::Array { elem, .. }) => Some(*elem),
@@ -62,7 +62,7 @@ fn array_elements(types: &Types, of: TypeId) -> Option<TypeId>
 
 /// The elements of an array that is pointed to.
 fn pointed_elements(around: Around<'_>, of: TypeId) -> Option<TypeId>
-    ensures { (tests : Tests) → result ≡ target.pointed_elements (at_tests around.entry tests) (underlying_term_of around.entry.program.now.types of) }
+    ensures { (tests : Tests) → result ≡ aims.pointed_elements (at_tests around.entry tests) (underlying_term_of around.entry.program.now.types of) }
 {
     let types = &around.program.types;
     match types.underlying_term(of) {
@@ -72,7 +72,7 @@ fn pointed_elements(around: Around<'_>, of: TypeId) -> Option<TypeId>
 }
 
 fn slice_elements(types: &Types, of: TypeId) -> Option<TypeId>
-    ensures { (a : Near) → result ≡ target.slice_elements a (underlying_term_of types.now of) }
+    ensures { (a : Near) → result ≡ aims.slice_elements a (underlying_term_of types.now of) }
 {
     match types.underlying_term(of) {
         Some(TypeTerm::Slice(elem)) => Some(*elem),
@@ -81,7 +81,7 @@ fn slice_elements(types: &Types, of: TypeId) -> Option<TypeId>
 }
 
 fn text_turns(is_text: bool) -> Option<Turns>
-    ensures { (a : Near) → option_map turns_as result ≡ target.text_turns a is_text }
+    ensures { (a : Near) → option_map turns_as result ≡ aims.text_turns a is_text }
 {
     if is_text {
         return Some(Turns {
@@ -93,7 +93,7 @@ fn text_turns(is_text: bool) -> Option<Turns>
 }
 
 fn map_turns(types: &Types, of: TypeId) -> Option<Turns>
-    ensures { (a : Near) → option_map turns_as result ≡ target.map_turns a (underlying_term_of types.now of) }
+    ensures { (a : Near) → option_map turns_as result ≡ aims.map_turns a (underlying_term_of types.now of) }
 {
     match types.underlying_term(of) {
         Some(TypeTerm::Map { key, elem }) => Some(Turns {
@@ -105,7 +105,7 @@ fn map_turns(types: &Types, of: TypeId) -> Option<Turns>
 }
 
 fn channel_turns(elem: Option<TypeId>) -> Option<Turns>
-    ensures { (a : Near) → option_map turns_as result ≡ target.channel_turns a elem }
+    ensures { (a : Near) → option_map turns_as result ≡ aims.channel_turns a elem }
 {
     match elem {
         Some(elem) => Some(Turns {
@@ -116,21 +116,31 @@ fn channel_turns(elem: Option<TypeId>) -> Option<Turns>
     }
 }
 
-fn index_turns(is_array: bool) -> Option<Turns>
-    ensures { (a : Near) → option_map turns_as result ≡ target.index_turns a is_array }
+/// What is known of an array of a length, or of a pointer to one, that is not evaluated.
+fn constant_turns(around: Around<'_>, len: u64, of: TypeId) -> Option<Turns>
+    ensures { (tests : Tests) → option_map turns_as result ≡ aims.turns_of (at_tests around.entry tests) (RangeOver.Constant len) of }
 {
-    if is_array {
-        return Some(Turns {
-            key: basic(Basic::Int),
-            value: None,
-        });
+    if !is_array_of(around, len, of) {
+        return None;
     }
-    None
+    with_elements(elements_below(around, of))
+}
+
+/// The elements of an array, or of one that is pointed to.
+fn elements_below(around: Around<'_>, of: TypeId) -> Option<TypeId>
+    ensures { (tests : Tests) → result ≡ aims.elements_below (at_tests around.entry tests) (underlying_term_of around.entry.program.now.types of) }
+{
+    let types = &around.program.types;
+    match types.underlying_term(of) {
+        Some(TypeTerm::Pointer(base)) => array_elements(types, *base),
+        Some(TypeTerm::Array { elem, .. }) => Some(*elem),
+        _ => None,
+    }
 }
 
 /// Whether a type is one of arrays of a length, or of pointers to such.
 fn is_array_of(around: Around<'_>, len: u64, of: TypeId) -> bool
-    ensures { (tests : Tests) → result ≡ target.is_array_of (at_tests around.entry tests) len (underlying_term_of around.entry.program.now.types of) }
+    ensures { (tests : Tests) → result ≡ aims.is_array_of (at_tests around.entry tests) len (underlying_term_of around.entry.program.now.types of) }
 {
     let types = &around.program.types;
     match types.underlying_term(of) {
@@ -141,7 +151,7 @@ fn is_array_of(around: Around<'_>, len: u64, of: TypeId) -> bool
 }
 
 fn has_length(types: &Types, len: u64, of: TypeId) -> bool
-    ensures { (a : Near) → result ≡ target.has_length a len (underlying_term_of types.now of) }
+    ensures { (a : Near) → result ≡ aims.has_length a len (underlying_term_of types.now of) }
 {
     match types.underlying_term(of) {
         Some(TypeTerm::Array { len: size, .. }) => len == *size,

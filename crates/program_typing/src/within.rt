@@ -1,8 +1,9 @@
 //! What stands around a statement. Go specification, "Break statements", "Continue statements" and "Fallthrough
 //! statements".
 
-ghost use Rattle.std.specs.Prelude.{◌≡◌, suc, IfOk, if◌then◌else◌};
+ghost use Rattle.std.specs.Prelude.{◌≡◌, suc, IfOk, if◌then◌else◌, nat_lt};
 ghost use Rattle.program_typing.specs.Placing.{within_of};
+ghost use Rattle.typed_trees.specs.Programs as programs;
 ghost use Rattle.typed_trees.specs.Statements as statement;
 
 use go_base::{NoMemory, TypeId};
@@ -19,10 +20,7 @@ pub struct Within<'a> {
 
 /// What stands around the body of a function with results of these types.
 pub fn inside(results: &[TypeId]) -> Within<'_>
-    ensures results { result.results.now ≡ results.now }
-    ensures breaks { result.breaks ≡ 0 }
-    ensures continues { result.continues ≡ 0 }
-    ensures falls { result.falls ≡ false }
+    ensures { within_of result ≡ programs.inside results.now }
 {
     Within {
         results,
@@ -76,6 +74,13 @@ pub fn in_clause(within: Within<'_>, falls: bool) -> Result<Within<'_>, NoMemory
         continues: within.continues,
         falls,
     })
+}
+
+/// Whether so many of the statements around, less one, may be left.
+pub fn is_within(levels: u32, count: u64) -> bool
+    ensures { result ≡ nat_lt levels count }
+{
+    u64::from(levels) < count
 }
 
 /// One more statement around, of which memory holds fewer than a number counts.

@@ -1,5 +1,6 @@
 -- Clauses of switches and selects, by their parts.
-use Rattle.std.proofs.Common.{◌≡◌, refl, sym, ap, ◌∙◌, ℕ, zero, suc, ◌+◌, List, [], ◌∷◌, map, zero-add, arith}
+use Rattle.std.proofs.Common.{◌≡◌, refl, sym, ap, ◌∙◌, ℕ, zero, suc, ◌+◌, List, [], ◌∷◌, map, arith}
+use Rattle.std.proofs.lemmas.List.Recursion.{is_count_by}
 use Rattle.std.proofs.lemmas.Bool.Decides.{nat_tests}
 use Rattle.std.specs.List.{list_all, list_any}
 use Rattle.std.specs.Prelude.{Bool, true, false, ◌&&◌, ◌||◌, not, nat_lt, nat_le, count_by, cond, Option}
@@ -21,23 +22,35 @@ use Rattle.program_typing.proofs.StmtForms.{stmt_is, clause_is, type_clause_is, 
 
 -- ---- at most one default
 
-any_step : (b any : Bool) (n : ℕ) → any ≡ nat_lt 0 n → b || any ≡ nat_lt 0 (cond b 1 0 + n)
+-- how many pass a test
+abbrev number : {A : Type 0} → (A → Bool) → List A → ℕ
+number p [] = 0
+number p (x ∷ xs) = cond (p x) (1 + number p xs) (number p xs)
+
+counts : {A : Type 0} (p : A → Bool) (xs : List A) → number p xs ≡ count_by p xs
+counts p xs = is_count_by (number p) p refl (λ _ _. refl) xs
+
+any_step : (b any : Bool) (n : ℕ) → any ≡ nat_lt 0 n → b || any ≡ nat_lt 0 (cond b (1 + n) n)
 any_step true any n p = grind (arith, nat_tests)
-any_step false any n p = p ∙ ap (nat_lt 0) (sym (zero-add n))
+any_step false any n p = p
 
-any_is : (clauses : List Clause) → list_any (λ it. it.is_default) clauses ≡ nat_lt 0 (count_by (λ (it : Clause). it.is_default) clauses)
+any_is : (clauses : List Clause) → list_any (λ it. it.is_default) clauses ≡ nat_lt 0 (number (λ (it : Clause). it.is_default) clauses)
 any_is [] = refl
-any_is (first ∷ others) = any_step first.is_default _ (count_by (λ (it : Clause). it.is_default) others) (any_is others)
+any_is (first ∷ others) = any_step first.is_default _ (number (λ (it : Clause). it.is_default) others) (any_is others)
 
-one_step : (b any rest : Bool) (n : ℕ) → any ≡ nat_lt 0 n → rest ≡ nat_le n 1 → not (b && any) && rest ≡ nat_le (cond b 1 0 + n) 1
-one_step false any rest n p q = q ∙ ap (λ (k : ℕ). nat_le k 1) (sym (zero-add n))
+one_step : (b any rest : Bool) (n : ℕ) → any ≡ nat_lt 0 n → rest ≡ nat_le n 1 → not (b && any) && rest ≡ nat_le (cond b (1 + n) n) 1
+one_step false any rest n p q = q
 one_step true true rest n p q = grind (arith, nat_tests)
 one_step true false rest n p q = q ∙ grind (arith, nat_tests)
 
-one_is : (clauses : List Clause) → one_default clauses ≡ nat_le (count_by (λ (it : Clause). it.is_default) clauses) 1
+one_is : (clauses : List Clause) → one_default clauses ≡ nat_le (number (λ (it : Clause). it.is_default) clauses) 1
 one_is [] = refl
 one_is (first ∷ others) =
-    one_step first.is_default _ _ (count_by (λ (it : Clause). it.is_default) others) (any_is others) (one_is others)
+    one_step first.is_default _ _ (number (λ (it : Clause). it.is_default) others) (any_is others) (one_is others)
+
+-- the defaults of what is seen are those of what it is seen of
+same_number : (clauses : List Clause) (n m : ℕ) → number (λ (it : Clause). it.is_default) clauses ≡ n → n ≡ m → one_default clauses ≡ nat_le m 1
+same_number clauses n m p q = one_is clauses ∙ ap (λ (k : ℕ). nat_le k 1) (p ∙ q)
 
 -- ---- clauses of a switch
 
@@ -49,9 +62,9 @@ module _ (a : Around) (tag : Option TypeId) where
   cases_are [] = refl
   cases_are (c ∷ cs) = λ i. (clause_is a c tag i).cases && cases_are cs i
 
-  defaults_are : (clauses : List TypedClause) → count_by (λ (it : Clause). it.is_default) (seen_at clauses) ≡ count_by (λ (it : TypedClause). it.is_default) clauses
+  defaults_are : (clauses : List TypedClause) → number (λ (it : Clause). it.is_default) (seen_at clauses) ≡ number (λ (it : TypedClause). it.is_default) clauses
   defaults_are [] = refl
-  defaults_are (c ∷ cs) = λ i. cond (clause_is a c tag i).is_default 1 0 + defaults_are cs i
+  defaults_are (c ∷ cs) = λ i. cond (clause_is a c tag i).is_default (1 + defaults_are cs i) (defaults_are cs i)
 
   bodies_are : (clauses : List TypedClause) (w : Within) → bodies_fit (seen_at clauses) w ≡ fall_in_turn a clauses w
   bodies_are [] w = refl
@@ -60,7 +73,7 @@ module _ (a : Around) (tag : Option TypeId) where
 
   pub switches_are : (clauses : List TypedClause) (w : Within) → switches a (seen_at clauses) w ≡ list_all (has_cases a tag) clauses && (nat_le (count_by (λ (it : TypedClause). it.is_default) clauses) 1 && fall_in_turn a clauses w)
   switches_are clauses w = λ i.
-      cases_are clauses i && ((one_is (seen_at clauses) ∙ ap (λ (n : ℕ). nat_le n 1) (defaults_are clauses)) i && bodies_are clauses w i)
+      cases_are clauses i && (same_number (seen_at clauses) _ _ (defaults_are clauses) (counts (λ (it : TypedClause). it.is_default) clauses) i && bodies_are clauses w i)
 
 -- ---- clauses of a switch over types
 
@@ -72,9 +85,9 @@ module _ (a : Around) (operand : TypeId) where
   type_cases_are [] = refl
   type_cases_are (c ∷ cs) = λ i. (type_clause_is a c operand i).cases && type_cases_are cs i
 
-  type_defaults_are : (clauses : List TypeClause) → count_by (λ (it : Clause). it.is_default) (typed_at clauses) ≡ count_by (λ (it : TypeClause). it.is_default) clauses
+  type_defaults_are : (clauses : List TypeClause) → number (λ (it : Clause). it.is_default) (typed_at clauses) ≡ number (λ (it : TypeClause). it.is_default) clauses
   type_defaults_are [] = refl
-  type_defaults_are (c ∷ cs) = λ i. cond (type_clause_is a c operand i).is_default 1 0 + type_defaults_are cs i
+  type_defaults_are (c ∷ cs) = λ i. cond (type_clause_is a c operand i).is_default (1 + type_defaults_are cs i) (type_defaults_are cs i)
 
   type_bodies_are : (clauses : List TypeClause) (w : Within) → list_all (λ (it : Clause). it.body (in_clause false w)) (typed_at clauses) ≡ type_bodies_fit a clauses w
   type_bodies_are [] w = refl
@@ -82,7 +95,7 @@ module _ (a : Around) (operand : TypeId) where
 
   pub chooses_types : (clauses : List TypeClause) (w : Within) → chooses a (typed_at clauses) w ≡ list_all (has_type_cases a operand) clauses && (nat_le (count_by (λ (it : TypeClause). it.is_default) clauses) 1 && type_bodies_fit a clauses w)
   chooses_types clauses w = λ i.
-      type_cases_are clauses i && ((one_is (typed_at clauses) ∙ ap (λ (n : ℕ). nat_le n 1) (type_defaults_are clauses)) i && type_bodies_are clauses w i)
+      type_cases_are clauses i && (same_number (typed_at clauses) _ _ (type_defaults_are clauses) (counts (λ (it : TypeClause). it.is_default) clauses) i && type_bodies_are clauses w i)
 
 -- ---- clauses of a select
 
@@ -91,9 +104,9 @@ module _ (a : Around) where
   comms_are [] = refl
   comms_are (c ∷ cs) = λ i. (select_clause_is a c i).cases && comms_are cs i
 
-  comm_defaults_are : (clauses : List SelectClause) → count_by (λ (it : Clause). it.is_default) (map (seen_select_clause a) clauses) ≡ count_by (λ (it : SelectClause). is_default_comm a it.comm) clauses
+  comm_defaults_are : (clauses : List SelectClause) → number (λ (it : Clause). it.is_default) (map (seen_select_clause a) clauses) ≡ number (λ (it : SelectClause). is_default_comm a it.comm) clauses
   comm_defaults_are [] = refl
-  comm_defaults_are (c ∷ cs) = λ i. cond (select_clause_is a c i).is_default 1 0 + comm_defaults_are cs i
+  comm_defaults_are (c ∷ cs) = λ i. cond (select_clause_is a c i).is_default (1 + comm_defaults_are cs i) (comm_defaults_are cs i)
 
   select_bodies_are : (clauses : List SelectClause) (w : Within) → list_all (λ (it : Clause). it.body (in_clause false w)) (map (seen_select_clause a) clauses) ≡ select_bodies_fit a clauses w
   select_bodies_are [] w = refl
@@ -101,7 +114,7 @@ module _ (a : Around) where
 
   pub chooses_comms : (clauses : List SelectClause) (w : Within) → chooses a (map (seen_select_clause a) clauses) w ≡ list_all (λ (it : SelectClause). communicates a it.comm) clauses && (nat_le (count_by (λ (it : SelectClause). is_default_comm a it.comm) clauses) 1 && select_bodies_fit a clauses w)
   chooses_comms clauses w = λ i.
-      comms_are clauses i && ((one_is (map (seen_select_clause a) clauses) ∙ ap (λ (n : ℕ). nat_le n 1) (comm_defaults_are clauses)) i && select_bodies_are clauses w i)
+      comms_are clauses i && (same_number (map (seen_select_clause a) clauses) _ _ (comm_defaults_are clauses) (counts (λ (it : SelectClause). is_default_comm a it.comm) clauses) i && select_bodies_are clauses w i)
 
   -- ---- the statements
 

@@ -1,0 +1,12 @@
+use Rattle.std.specs.Prelude.{◌&&◌}
+use Rattle.std.proofs.Common.{◌∙◌, ap, sym, List, Option, Bool}
+use Rattle.go_base.specs.declared.ids.TypeId.{TypeId}
+use Rattle.go_type.specs.Assignable.{underlying_term_of}
+use Rattle.expr_typing.specs.Telling.{at_tests}
+use Rattle.std.specs.Prelude.{◌||◌}
+use Rattle.type_shapes.specs.Shapes.{is_id}
+use Rattle.typed_trees.specs.Nodes.{is_nothing}
+use Rattle.program_typing.proofs.clauses.is_compared.Goals as goal
+
+pub returns : goal.returns
+returns c = λ told. λ i. (c.in_ok-seen.ensures.fits told.tests told.told i && ((c.comparable.ensures told.tests told.told ∙ ap told.tests.answers.comparable (c.in_ok-seen.ensures.of told.tests told.told)) i || (c.is_nothing.ensures ∙ ap is_nothing (c.in_ok-seen.ensures.form told.tests told.told)) i)) && (c.is_id.ensures ∙ λ j. is_id (c.tag_type-tag.ensures told j) (c.in_ok-seen.ensures.of told.tests told.told j)) i
