@@ -3,7 +3,7 @@ use Rattle.std.proofs.Common.{◌≡◌, refl, sym, ap, ◌∙◌, ℕ, zero, su
 use Rattle.std.proofs.lemmas.List.Recursion.{is_count_by}
 use Rattle.std.proofs.lemmas.Bool.Decides.{nat_tests}
 use Rattle.std.specs.List.{list_all, list_any}
-use Rattle.std.specs.Prelude.{Bool, true, false, ◌&&◌, ◌||◌, not, nat_lt, nat_le, count_by, cond, Option}
+use Rattle.std.specs.Prelude.{Bool, true, false, ◌&&◌, ◌||◌, not, nat_lt, nat_le, count_by, cond, Option, Some, None}
 use Rattle.go_base.specs.declared.ids.TypeId.{TypeId}
 use Rattle.go_tree.specs.declared.stmts.SelectClause.{SelectClause}
 use Rattle.go_tree.specs.declared.stmts.TypeClause.{TypeClause}

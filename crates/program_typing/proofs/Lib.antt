@@ -4,3 +4,4 @@ pub mod ClauseForms
 pub mod StmtForms
 pub mod Both
 pub mod Numbered
+pub mod GetsAt

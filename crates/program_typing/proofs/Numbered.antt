@@ -1,13 +1,19 @@
 -- Functions, one after another by their numbers.
 use Rattle.std.proofs.Common.{◌≡◌, ◌≢◌, refl, sym, ap, ◌∙◌, ℕ, suc, ◌+◌, ◌<◌, ◌≤◌, List, [], ◌∷◌, drop, length, get_or, add-one}
 use Rattle.std.proofs.lemmas.List.{at_drop_more, at_drop_all}
-use Rattle.std.specs.Prelude.{Bool, true, false, ◌&&◌, Option, Some, None, if◌then◌else◌, nat_eq}
+use Rattle.std.specs.Prelude.{Bool, true, false, ◌&&◌, Option, Some, None, if◌then◌else◌, slice_get}
 use Rattle.go_base.specs.declared.ids.FuncId.{FuncId}
 use Rattle.go_tree.specs.declared.functions.FunctionDecl.{FunctionDecl}
 use Rattle.go_tree.specs.declared.program.Body.{Body}
 use Rattle.go_tree.specs.declared.program.Program.{Program}
 use Rattle.typed_trees.specs.Programs.{fit_bodies, fits_body, initialises, initialiser_from}
+use Rattle.go_type.specs.Table.{term_at}
+use Rattle.go_type.specs.declared.term.Signature.{Signature}
+use Rattle.std.specs.Option.{option_map_or}
+use Rattle.typed_trees.specs.Around.{is_plain, signature_in}
+use Rattle.typed_trees.specs.Programs as programs
 use Rattle.typed_trees.specs.Tests.{Tests}
+use Rattle.program_typing.specs.Walk.{is_bare}
 use Rattle.program_typing.specs.Initialisers.{function_or, noted}
 
 and_false : (a b : Bool) → b ≡ false → a && b ≡ false
@@ -69,3 +75,18 @@ module _ (p : Program) (tests : Tests) where
   pub noted-done : (functions : List FunctionDecl) (i of : ℕ) (found : Option ℕ) (whole : Option FuncId) → length functions ≤ i → function_or found (initialiser_from p tests i of (drop i functions)) ≡ whole → function_or found None ≡ whole
   noted-done functions i of found whole h before =
       sym (at_drop_all (λ (fs : List FunctionDecl). function_or found (initialiser_from p tests i of fs)) functions i h) ∙ before
+
+  -- ---- `main`
+
+  bare_is : (o : Option Signature) → is_bare o ≡ programs.is_bare p tests o
+  bare_is (Some signature) = refl
+  bare_is None = refl
+
+  pub main_is : (id : FuncId) (decl : FunctionDecl) (plain bare : Bool) → slice_get p.functions id.number ≡ Some decl → plain ≡ is_plain decl.form → bare ≡ is_bare (signature_in (term_at p.types decl.signature)) → plain && bare ≡ programs.fits_main p tests (Some id)
+  main_is id decl plain bare at q r =
+      (λ i. q i && (r ∙ bare_is (signature_in (term_at p.types decl.signature))) i)
+      ∙ ap (λ (o : Option FunctionDecl). option_map_or (λ (it : FunctionDecl). is_plain it.form && programs.is_bare p tests (signature_in (term_at p.types it.signature))) o false) (sym at)
+
+  pub main_none : (id : FuncId) → slice_get p.functions id.number ≡ None → false ≡ programs.fits_main p tests (Some id)
+  main_none id at = ap (λ (o : Option FunctionDecl). option_map_or (λ (it : FunctionDecl). is_plain it.form && programs.is_bare p tests (signature_in (term_at p.types it.signature))) o false) (sym at)
+

@@ -26,10 +26,15 @@ use Rattle.typed_trees.specs.Expressions.{seen, seen_values}
 use Rattle.typed_trees.specs.Statements.{Within, Fits, Clause, in_block, in_clause, fits_block}
 use Rattle.typed_trees.specs.Statements.{stmt_layer, select_clause_layer, type_clause_layer, arm_layer, block_layer}
 use Rattle.typed_trees.specs.Statements.{clause_layer, is_case_of, is_type_case, binds}
-use Rattle.typed_trees.specs.Programs.{are_variables, is_of_another, is_of_package}
+use Rattle.go_type.specs.declared.term.Signature.{Signature}
+use Rattle.typed_trees.specs.Programs.{are_none, are_variables, is_of_another, is_of_package}
 use Rattle.typed_trees.specs.Statements.{fits_expr, values_are, variable_types}
 use Rattle.typed_trees.specs.Targets.{Turns, take_values, define_all, are_part_of, part_types, receives, sets_turn}
 use Rattle.typed_trees.specs.Targets.{defines_one, all_types, listed_targets}
+
+abbrev pub is_bare : Option Signature → Bool
+is_bare (Some signature) = are_none signature.params && are_none signature.results
+is_bare None = false
 
 abbrev pub is_no_place : Option Target → Bool
 is_no_place (Some (target.Place place)) = false

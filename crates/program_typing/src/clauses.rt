@@ -101,7 +101,16 @@ fn is_condition_of(around: Around<'_>, case: &TypedCase) -> Result<bool, NoMemor
     ensures { Tells around.entry result (λ a. is_none case.now.tag_to && statement.is_condition a case.now.value) }
 {
     let holds = is_condition(around, &case.value)?;
-    Ok(case.tag_to.is_none() & holds)
+    Ok(lacks(case.tag_to) & holds)
+}
+
+fn lacks(to: Option<TypeId>) -> bool
+    ensures { result ≡ is_none to }
+{
+    match to {
+        Some(_) => false,
+        None => true,
+    }
 }
 
 fn is_compared(around: Around<'_>, case: &TypedCase, tag: TypeId) -> Result<bool, NoMemory>

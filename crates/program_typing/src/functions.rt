@@ -113,7 +113,7 @@ fn fits_signature(
         body.params.as_slice(),
         receiver,
         signature.params.as_slice(),
-    );
+    )?;
     let results = are_own(around, body.results.as_slice(), signature.results.as_slice());
     let captured = are_of_others(around, body.captured.as_slice());
     let block = fits_block(around, &body.block, inside(signature.results.as_slice()))?;
@@ -126,29 +126,38 @@ fn has_params(
     ids: &[VarId],
     receiver: Option<TypeId>,
     params: &[TypeId],
-) -> bool
-    ensures { Gives around.entry result (λ a. walk.are_own a ids.now (programs.with_receiver receiver params.now)) }
+) -> Result<bool, NoMemory>
+    ensures { Tells around.entry result (λ a. walk.are_own a ids.now (programs.with_receiver receiver params.now)) }
+{
+    let types = with_receiver(around.alloc, receiver, params)?;
+    Ok(are_own(around, ids, types.as_slice()))
+}
+
+/// The types of parameters, that of the receiver first.
+fn with_receiver(
+    alloc: Global,
+    receiver: Option<TypeId>,
+    params: &[TypeId],
+) -> Result<Vec<TypeId>, NoMemory>
+    ensures { IfOk result (λ types. types.items ≡ programs.with_receiver receiver params.now) }
 {
     match receiver {
-        Some(receiver) => has_receiver(around, ids, receiver, params),
-        None => are_own(around, ids, params),
+        Some(receiver) => with_first(alloc, receiver, params),
+        None => Ok(Vec::from_slice(alloc, params)?),
     }
 }
 
-fn has_receiver(
-    around: Around<'_>,
-    ids: &[VarId],
-    receiver: TypeId,
-    params: &[TypeId],
-) -> bool
-    ensures { Gives around.entry result (λ a. walk.are_own a ids.now (receiver ∷ params.now)) }
+fn with_first(
+    alloc: Global,
+    first: TypeId,
+    others: &[TypeId],
+) -> Result<Vec<TypeId>, NoMemory>
+    ensures { IfOk result (λ types. types.items ≡ first ∷ others.now) }
 {
-    match ids {
-        [first, others @ ..] => {
-            is_own_variable(around, *first, receiver) & are_own(around, others, params)
-        }
-        [] => false,
-    }
+    let mut types = Vec::new(alloc);
+    types.push(first)?;
+    types.extend_from_slice(others)?;
+    Ok(types)
 }
 
 /// Whether variables are of the function itself and have these types, one each.

@@ -1,8 +1,8 @@
 //! The test of whole programs.
 
 ghost use Rattle.std.specs.Prelude.{◌≡◌, Some, IfOk, IsTrue};
-ghost use Rattle.go_tree.specs.declared.program.Program.{Program};
 ghost use Rattle.go_type.specs.Table.{term_at};
+ghost use Rattle.program_typing.specs.Walk.{is_bare};
 ghost use Rattle.typed_trees.specs.Around.{is_plain, signature_in};
 ghost use Rattle.typed_trees.specs.Programs as programs;
 ghost use Rattle.typed_trees.specs.Tests.{Tests, AreTold};
@@ -59,7 +59,7 @@ fn is_plain(form: FunctionForm) -> bool
 
 /// Whether a type is one of functions without parameters and results.
 fn is_bare(types: &Types, of: TypeId) -> bool
-    ensures { (p : Program) (tests : Tests) → result ≡ programs.is_bare p tests (signature_in (term_at types.now of)) }
+    ensures { result ≡ is_bare (signature_in (term_at types.now of)) }
 {
     match types.get(of) {
         Some(TypeTerm::Func(signature)) => lacks_all(signature),
@@ -68,7 +68,7 @@ fn is_bare(types: &Types, of: TypeId) -> bool
 }
 
 fn lacks_all(signature: &Signature) -> bool
-    ensures { (p : Program) (tests : Tests) → result ≡ programs.is_bare p tests (Some signature.now) }
+    ensures { result ≡ is_bare (Some signature.now) }
 {
     signature.params.as_slice().is_empty() & signature.results.as_slice().is_empty()
 }

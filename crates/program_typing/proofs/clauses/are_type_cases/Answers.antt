@@ -1,6 +1,7 @@
 use Rattle.typed_trees.specs.Statements.{is_type_case}
 use Rattle.expr_typing.specs.Telling.{at_tests}
 use Rattle.program_typing.proofs.Lists.{all-kept, all-ended, all-done}
+use Rattle.std.proofs.Common.{refl}
 use Rattle.program_typing.proofs.clauses.are_type_cases.Goals as goal
 
 pub returns-then-not-is_type_case : goal.returns-then-not-is_type_case

@@ -6,4 +6,4 @@ use Rattle.expr_typing.specs.Telling.{at_tests}
 use Rattle.program_typing.proofs.clauses.is_condition_of.Goals as goal
 
 pub returns : goal.returns
-returns c = λ told. λ i. c.is_none.ensures i && c.in_ok-holds.ensures told i
+returns c = λ told. λ i. c.lacks.ensures i && c.in_ok-holds.ensures told i

@@ -1,6 +1,7 @@
 use Rattle.program_typing.specs.Walk.{is_one_of_own}
 use Rattle.expr_typing.specs.Telling.{at_tests}
 use Rattle.program_typing.proofs.Lists.{all-kept, all-ended, all-done}
+use Rattle.std.proofs.Common.{refl}
 use Rattle.program_typing.proofs.expressions.own_variables.Goals as goal
 
 pub returns-then-not-is_one_of_own : goal.returns-then-not-is_one_of_own

@@ -1,6 +1,7 @@
 use Rattle.program_typing.specs.Walk.{is_of_other}
 use Rattle.expr_typing.specs.Telling.{at_tests}
 use Rattle.program_typing.proofs.Lists.{all-kept, all-ended, all-done}
+use Rattle.std.proofs.Common.{refl}
 use Rattle.program_typing.proofs.functions.are_of_others.Goals as goal
 
 pub returns-then-not-is_of_other : goal.returns-then-not-is_of_other

@@ -11,7 +11,7 @@ use Rattle.program_typing.proofs.functions.fits_signature.Goals as goal
 
 pub returns : goal.returns
 returns c = λ told. λ i.
-    (c.has_params-params.ensures told ∙ λ j. are_own (at_tests c.args.around told.tests) (c.as_slice.ensures j) (with_receiver c.args.receiver (c.as_slice-2.ensures j))) i
+    (c.in_ok-params.ensures told ∙ λ j. are_own (at_tests c.args.around told.tests) (c.as_slice.ensures j) (with_receiver c.args.receiver (c.as_slice-2.ensures j))) i
     && ((c.are_own-results.ensures told ∙ λ j. are_own (at_tests c.args.around told.tests) (c.as_slice-3.ensures j) (c.as_slice-4.ensures j)) i
     && ((c.are_of_others-captured.ensures told ∙ ap (λ (ids : List VarId). list_all (is_of_other (at_tests c.args.around told.tests)) ids) c.as_slice-5.ensures) i
     && (c.in_ok-block.ensures told ∙ (ap (λ (v : Within). fits_block (at_tests c.args.around told.tests) c.args.body.now.block v) c.inside.ensures ∙ ap (λ (rs : List TypeId). fits_block (at_tests c.args.around told.tests) c.args.body.now.block (inside rs)) c.as_slice-6.ensures)) i))

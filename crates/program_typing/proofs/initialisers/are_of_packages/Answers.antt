@@ -1,6 +1,7 @@
 use Rattle.program_typing.specs.Walk.{is_of_a_package}
 use Rattle.expr_typing.specs.Telling.{at_tests}
 use Rattle.program_typing.proofs.Lists.{all-kept, all-ended, all-done}
+use Rattle.std.proofs.Common.{refl}
 use Rattle.program_typing.proofs.initialisers.are_of_packages.Goals as goal
 
 pub returns-then-not-is_of_a_package : goal.returns-then-not-is_of_a_package

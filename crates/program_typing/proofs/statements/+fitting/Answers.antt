@@ -123,7 +123,7 @@ pub fits_statement-returns-in-Block : goal.fits_statement-returns-in-Block
 fits_statement-returns-in-Block t c = λ told.
     let A = at_tests c.args.around told.tests in
     let w = within_of c.args.within in
-    told_as _ _ _ (c.fits_block.ensures told) (ap (λ (v : Within). fits_block A c.in-Block.block v) c.in_block.ensures ∙ sym (ap (λ (s : TypedStmt). walk.fits_stmt A s w) c.in-Block.is ∙ forms.block_fits A c.in-Block.field-0 w))
+    told_as _ _ _ (c.fits_block.ensures told) (ap (λ (v : Within). fits_block A c.in-Block.block v) c.in_block.ensures ∙ sym (ap (λ (s : TypedStmt). walk.fits_stmt A s w) c.in-Block.is ∙ forms.block_fits A c.in-Block.block w))
 
 pub fits_statement-returns-in_ok-otherwise-in-If : goal.fits_statement-returns-in_ok-otherwise-in-If
 fits_statement-returns-in_ok-otherwise-in-If t c = λ told.
