@@ -1,10 +1,12 @@
 -- Two lists, compared pair by pair.
-use Rattle.std.proofs.Common.{◌≡◌, ℕ, ◌+◌, ◌<◌, ◌≤◌, Bool, true, false, ◌&&◌, List, [], ◌∷◌, length, drop, get_or, refl, sym, ◌∙◌, ap}
-use Rattle.std.proofs.lemmas.List.{at_drop_more, at_drop_all}
+use Rattle.std.proofs.Common.{◌≡◌, ℕ, ◌+◌, ◌-◌, ◌<◌, ◌≤◌, Bool, true, false, ◌&&◌, List, [], ◌∷◌, length, take, drop, get_or, refl, sym, ◌∙◌, ap, arith, Option, Some, None}
+use Rattle.std.proofs.lemmas.List.{at_drop_more, at_drop_all, take_all}
 use Rattle.std.specs.Cmp.Lexicographic.{pointwise}
 use Rattle.go_base.specs.declared.ids.TypeId.{TypeId}
 use Rattle.go_base.specs.declared.ids.VarId.{VarId}
+use Rattle.go_tree.specs.declared.stmts.Target.{Target}
 use Rattle.typed_trees.specs.Around.{Around, is_own_variable}
+use Rattle.typed_trees.specs.Targets.{listed_targets}
 use Rattle.program_typing.specs.Walk.{are_own}
 
 module _ {A B : Type 0} (R : A → B → Bool) where
@@ -38,3 +40,12 @@ own_pairs a [] [] = refl
 own_pairs a [] (of ∷ types) = refl
 own_pairs a (id ∷ ids) [] = refl
 own_pairs a (id ∷ ids) (of ∷ types) = ap (λ (b : Bool). is_own_variable a id of && b) (own_pairs a ids types)
+
+-- the first pair, and the others
+pub first_pair : {A B : Type 0} (R : A → B → Bool) (x : A) (xs : List A) (ys : List B) (e : B) → 1 ≤ length ys → R x (get_or ys 0 e) && pointwise R xs (take (length ys - 1) (drop 1 ys)) ≡ pointwise R (x ∷ xs) ys
+first_pair R x xs [] e h = absurd (omega arith)
+first_pair {B = B} R x xs (y ∷ ys) e h = ap (λ (zs : List B). R x y && pointwise R xs zs) (take_all (length (y ∷ ys) - 1) ys (omega arith))
+
+pub listed_is : (a : Around) (key : Target) (value : Option Target) → key ∷ listed_targets a None value ≡ listed_targets a (Some key) value
+listed_is a key None = refl
+listed_is a key (Some value) = refl
