@@ -1,5 +1,5 @@
 -- Tests that are joined.
-use Rattle.std.proofs.Common.{◌≡◌, refl, sym, ap, ◌∙◌}
+use Rattle.std.proofs.Common.{◌≡◌, refl, ◌∙◌}
 use Rattle.std.specs.Prelude.{Bool, true, false, ◌&&◌, Result, IfOk}
 use Rattle.std.proofs.lemmas.Result.{IfOk-weaker}
 

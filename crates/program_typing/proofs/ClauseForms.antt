@@ -1,5 +1,5 @@
 -- Clauses of switches and selects, by their parts.
-use Rattle.std.proofs.Common.{◌≡◌, refl, sym, ap, ◌∙◌, ℕ, zero, suc, ◌+◌, List, [], ◌∷◌, map, arith}
+use Rattle.std.proofs.Common.{◌≡◌, refl, sym, ap, ◌∙◌, ℕ, ◌+◌, List, [], ◌∷◌, map, arith}
 use Rattle.std.proofs.lemmas.List.Recursion.{is_count_by}
 use Rattle.std.proofs.lemmas.Bool.Decides.{nat_tests}
 use Rattle.std.specs.List.{list_all, list_any}
@@ -14,7 +14,7 @@ use Rattle.go_tree.specs.declared.stmts.TypedStmt.TheVariants as stmts
 use Rattle.type_shapes.specs.Shapes.{is_interface}
 use Rattle.typed_trees.specs.Around.{Around, under}
 use Rattle.typed_trees.specs.Expressions.{seen}
-use Rattle.typed_trees.specs.Statements.{Within, Fits, Clause, in_clause, one_default, cases_fit, bodies_fit}
+use Rattle.typed_trees.specs.Statements.{Within, Clause, in_clause, one_default, cases_fit, bodies_fit}
 use Rattle.typed_trees.specs.Statements.{switches, chooses, is_default_comm, communicates, in_block, fits_optional, fits_expr, tag_of}
 use Rattle.program_typing.specs.Walk.{seen_clause, seen_type_clause, seen_select_clause, has_cases, has_type_cases}
 use Rattle.program_typing.specs.Walk.{fall_in_turn, type_bodies_fit, select_bodies_fit, fits_stmt, optional_fits}

@@ -89,4 +89,3 @@ module _ (p : Program) (tests : Tests) where
 
   pub main_none : (id : FuncId) → slice_get p.functions id.number ≡ None → false ≡ programs.fits_main p tests (Some id)
   main_none id at = ap (λ (o : Option FunctionDecl). option_map_or (λ (it : FunctionDecl). is_plain it.form && programs.is_bare p tests (signature_in (term_at p.types it.signature))) o false) (sym at)
-

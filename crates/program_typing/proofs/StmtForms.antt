@@ -2,10 +2,8 @@
 use Rattle.std.proofs.Common.{◌≡◌, refl, sym, ap, ◌∙◌, List, [], ◌∷◌, map, Option, Some, None}
 use Rattle.std.specs.Prelude.{Bool, true, ◌&&◌, nat_lt}
 use Rattle.std.specs.Global.{Box}
-use Rattle.std.specs.List.{list_all}
 use Rattle.std.proofs.lemmas.List.Folds.{list_all-map}
 use Rattle.go_base.specs.declared.ids.TypeId.{TypeId}
-use Rattle.go_tree.specs.declared.exprs.TypedExpr.{TypedExpr}
 use Rattle.go_tree.specs.declared.stmts.TypedStmt.{TypedStmt}
 use Rattle.go_tree.specs.declared.stmts.SelectClause.{SelectClause}
 use Rattle.go_tree.specs.declared.stmts.TypeClause.{TypeClause}
@@ -22,7 +20,7 @@ use Rattle.go_tree.specs.declared.stmts.TypedStmt.TheFolds.{map-TypedStmt}
 use Rattle.typed_trees.specs.Around.{Around}
 use Rattle.typed_trees.specs.Expressions.{seen}
 use Rattle.typed_trees.specs.Statements.{Within, Fits, Clause, in_loop, in_block, all_of, fits_expr, is_condition, is_condition_if}
-use Rattle.typed_trees.specs.Statements.{sends, declares, operates_on, is_call_of, returns, is_case_of, is_type_case, binds}
+use Rattle.typed_trees.specs.Statements.{sends, declares, operates_on, is_call_of, returns}
 use Rattle.typed_trees.specs.Statements.{communicates, is_default_comm, arm_layer, block_layer, clause_layer}
 use Rattle.typed_trees.specs.Statements.{type_clause_layer, select_clause_layer, stmt_layer, fits_block}
 use Rattle.typed_trees.specs.Targets.{ranges}

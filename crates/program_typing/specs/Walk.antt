@@ -23,7 +23,7 @@ use Rattle.go_tree.specs.declared.stmts.TypedStmt.TheFolds.{fold-TypedStmt, fold
 use Rattle.go_tree.specs.declared.stmts.TypedStmt.TheFolds.{fold-TypedArm, fold-TypedClause}
 use Rattle.typed_trees.specs.Around.{Around, variable_at, is_own, is_own_variable}
 use Rattle.typed_trees.specs.Expressions.{seen, seen_values}
-use Rattle.typed_trees.specs.Statements.{Within, Fits, Clause, in_block, in_clause, fits_block}
+use Rattle.typed_trees.specs.Statements.{Fits, Clause, in_block, in_clause, fits_block}
 use Rattle.typed_trees.specs.Statements.{stmt_layer, select_clause_layer, type_clause_layer, arm_layer, block_layer}
 use Rattle.typed_trees.specs.Statements.{clause_layer, is_case_of, is_type_case, binds}
 use Rattle.go_type.specs.declared.term.Signature.{Signature}

@@ -84,11 +84,7 @@ fn are_cases_of(
 }
 
 /// Whether a case is compared with the tag, or is a condition where there is none.
-fn is_case_of(
-    around: Around<'_>,
-    case: &TypedCase,
-    tag: Option<TypeId>,
-) -> Result<bool, NoMemory>
+fn is_case_of(around: Around<'_>, case: &TypedCase, tag: Option<TypeId>) -> Result<bool, NoMemory>
     ensures { Tells around.entry result (λ a. statement.is_case_of a tag case.now) }
 {
     match tag {
@@ -183,12 +179,7 @@ fn is_type_case(around: Around<'_>, case: TypeCase, operand: TypeId) -> bool
 }
 
 /// Whether the variable of a clause has the type of its one case, and else that of the operand.
-fn binds(
-    around: Around<'_>,
-    cases: &[TypeCase],
-    operand: TypeId,
-    variable: Option<VarId>,
-) -> bool
+fn binds(around: Around<'_>, cases: &[TypeCase], operand: TypeId, variable: Option<VarId>) -> bool
     ensures { Gives around.entry result (λ a. statement.binds a operand cases.now variable) }
 {
     match variable {

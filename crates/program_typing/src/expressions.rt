@@ -46,11 +46,7 @@ pub fn is_condition_if(around: Around<'_>, expr: &Option<TypedExpr>) -> Result<b
 }
 
 /// Whether a value may be sent on a channel. Go specification, "Send statements".
-pub fn sends(
-    around: Around<'_>,
-    channel: &TypedExpr,
-    value: &TypedExpr,
-) -> Result<bool, NoMemory>
+pub fn sends(around: Around<'_>, channel: &TypedExpr, value: &TypedExpr) -> Result<bool, NoMemory>
     ensures { Tells around.entry result (λ a. statement.sends a channel.now value.now) }
 {
     let channel = see(around, channel)?;
@@ -146,11 +142,7 @@ fn push_type(around: Around<'_>, id: VarId, types: &mut Vec<TypeId>) -> Result<(
 }
 
 /// Whether values have these types.
-pub fn values_are(
-    around: Around<'_>,
-    values: &Values,
-    types: &[TypeId],
-) -> Result<bool, NoMemory>
+pub fn values_are(around: Around<'_>, values: &Values, types: &[TypeId]) -> Result<bool, NoMemory>
     ensures { Tells around.entry result (λ a. statement.values_are a (tree.seen_values a values.now) types.now) }
 {
     let seen = see_values(around, values)?;

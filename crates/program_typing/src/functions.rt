@@ -85,11 +85,7 @@ fn has_fit_body(
 }
 
 /// Whether a body fits the type of its function.
-fn fits_declared(
-    around: Around<'_>,
-    body: &Body,
-    decl: &FunctionDecl,
-) -> Result<bool, NoMemory>
+fn fits_declared(around: Around<'_>, body: &Body, decl: &FunctionDecl) -> Result<bool, NoMemory>
     ensures { Tells around.entry result (λ a. programs.fits_declared a body.now decl.now) }
 {
     match around.program.types.get(decl.signature) {
@@ -114,7 +110,11 @@ fn fits_signature(
         receiver,
         signature.params.as_slice(),
     )?;
-    let results = are_own(around, body.results.as_slice(), signature.results.as_slice());
+    let results = are_own(
+        around,
+        body.results.as_slice(),
+        signature.results.as_slice(),
+    );
     let captured = are_of_others(around, body.captured.as_slice());
     let block = fits_block(around, &body.block, inside(signature.results.as_slice()))?;
     Ok(params & (results & (captured & block)))
@@ -147,11 +147,7 @@ fn with_receiver(
     }
 }
 
-fn with_first(
-    alloc: Global,
-    first: TypeId,
-    others: &[TypeId],
-) -> Result<Vec<TypeId>, NoMemory>
+fn with_first(alloc: Global, first: TypeId, others: &[TypeId]) -> Result<Vec<TypeId>, NoMemory>
     ensures { IfOk result (λ types. types.items ≡ first ∷ others.now) }
 {
     let mut types = Vec::new(alloc);

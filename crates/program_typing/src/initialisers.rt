@@ -27,10 +27,7 @@ pub fn fit_steps(alloc: Global, program: &Program) -> Result<bool, NoMemory>
 }
 
 /// The number of the function that initialises each package that has one.
-fn numbers_of(
-    alloc: Global,
-    functions: &[FunctionDecl],
-) -> Result<HashMap<u32, u64>, NoMemory>
+fn numbers_of(alloc: Global, functions: &[FunctionDecl]) -> Result<HashMap<u32, u64>, NoMemory>
     ensures { (p : Program) → p.functions ≡ functions.now → (tests : Tests) → IfOk result (Initialise p tests) }
 {
     let mut numbers = HashMap::new(alloc);
@@ -41,11 +38,7 @@ fn numbers_of(
 }
 
 /// The first function that initialises a package stays.
-fn note(
-    numbers: &mut HashMap<u32, u64>,
-    number: u64,
-    decl: &FunctionDecl,
-) -> Result<(), NoMemory>
+fn note(numbers: &mut HashMap<u32, u64>, number: u64, decl: &FunctionDecl) -> Result<(), NoMemory>
     ensures { (p : Program) (tests : Tests) (of : ℕ) → OnOk result (get nat_eq numbers.new of ≡ noted p tests number decl.now of (get nat_eq numbers.old of)) }
 {
     if !is_initialiser(decl.form) {

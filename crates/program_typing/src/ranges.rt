@@ -70,11 +70,7 @@ fn sets_turns(
     }
 }
 
-fn sets_turn(
-    around: Around<'_>,
-    turns: Turns,
-    targets: &RangeTargets,
-) -> Result<bool, NoMemory>
+fn sets_turn(around: Around<'_>, turns: Turns, targets: &RangeTargets) -> Result<bool, NoMemory>
     ensures { Tells around.entry result (λ a. aims.sets_turn a targets.now (turns_as turns)) }
 {
     match targets {
@@ -86,12 +82,7 @@ fn sets_turn(
     }
 }
 
-fn define_turn(
-    around: Around<'_>,
-    turns: Turns,
-    key: Option<VarId>,
-    value: Option<VarId>,
-) -> bool
+fn define_turn(around: Around<'_>, turns: Turns, key: Option<VarId>, value: Option<VarId>) -> bool
     ensures { Gives around.entry result (λ a. walk.defines_turn a (turns_as turns) key value) }
 {
     defines_one(around, key, Some(turns.key)) & defines_one(around, value, turns.value)
@@ -132,11 +123,7 @@ fn assign_turn(
 }
 
 /// Whether each expression fits where it is made of a key, and of a value where there is one.
-fn are_given(
-    around: Around<'_>,
-    turns: Turns,
-    parts: &[TypedExpr],
-) -> Result<bool, NoMemory>
+fn are_given(around: Around<'_>, turns: Turns, parts: &[TypedExpr]) -> Result<bool, NoMemory>
     ensures { Tells around.entry result (λ a. aims.are_part_of a (aims.all_types a (turns_as turns)) parts.now) }
 {
     match turns.value {
@@ -178,11 +165,7 @@ fn take_key(
     }
 }
 
-fn take_last(
-    around: Around<'_>,
-    value: &Option<Target>,
-    types: &[TypeId],
-) -> Result<bool, NoMemory>
+fn take_last(around: Around<'_>, value: &Option<Target>, types: &[TypeId]) -> Result<bool, NoMemory>
     ensures { Tells around.entry result (λ a. aims.take_values a (aims.listed_targets a None value.now) types.now) }
 {
     match value {

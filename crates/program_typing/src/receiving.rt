@@ -37,11 +37,7 @@ fn receives_from(
     Ok(channel.fits & received)
 }
 
-fn receives(
-    around: Around<'_>,
-    channel: TypeId,
-    into: &ReceiveInto,
-) -> Result<bool, NoMemory>
+fn receives(around: Around<'_>, channel: TypeId, into: &ReceiveInto) -> Result<bool, NoMemory>
     ensures { Tells around.entry result (λ a. aims.receives a channel into.now) }
 {
     match received_elem(&around.program.types, channel) {
@@ -50,11 +46,7 @@ fn receives(
     }
 }
 
-fn receives_into(
-    around: Around<'_>,
-    elem: TypeId,
-    into: &ReceiveInto,
-) -> Result<bool, NoMemory>
+fn receives_into(around: Around<'_>, elem: TypeId, into: &ReceiveInto) -> Result<bool, NoMemory>
     ensures { Tells around.entry result (λ a. aims.receives_into a elem into.now) }
 {
     match into {

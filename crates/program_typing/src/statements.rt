@@ -7,8 +7,8 @@ ghost use Rattle.program_typing.specs.Walk as walk;
 ghost use Rattle.typed_trees.specs.Statements as statement;
 
 use crate::clauses::{
-    communicate, have_cases, have_type_cases, has_one_default, has_one_default_comm,
-    has_one_type_default, see_tag,
+    communicate, has_one_default, has_one_default_comm, has_one_type_default, have_cases,
+    have_type_cases, see_tag,
 };
 use crate::expressions::{
     declares, fits_expr, is_call_of, is_condition, is_condition_if, operates_on, returns, sends,
@@ -180,11 +180,7 @@ fn fits_statement(
 
 /// Whether the body of a loop fits.
 #[cycle(fitting)]
-fn fits_loop(
-    around: Around<'_>,
-    body: &TypedBlock,
-    within: Within<'_>,
-) -> Result<bool, NoMemory>
+fn fits_loop(around: Around<'_>, body: &TypedBlock, within: Within<'_>) -> Result<bool, NoMemory>
     ensures { Tells around.entry result (λ a. statement.fits_block a body.now (statement.in_loop (within_of within.entry))) }
 {
     let inner = in_loop(within)?;
@@ -207,11 +203,7 @@ fn fits_otherwise(
 }
 
 #[cycle(fitting)]
-fn arms_fit(
-    around: Around<'_>,
-    arms: &[TypedArm],
-    within: Within<'_>,
-) -> Result<bool, NoMemory>
+fn arms_fit(around: Around<'_>, arms: &[TypedArm], within: Within<'_>) -> Result<bool, NoMemory>
     ensures { Tells around.entry result (λ a. walk.arms_fit a arms.now (within_of within.entry)) }
 {
     for arm in arms {

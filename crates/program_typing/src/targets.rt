@@ -8,9 +8,7 @@ ghost use Rattle.program_typing.specs.Walk as walk;
 ghost use Rattle.typed_trees.specs.Expressions as tree;
 ghost use Rattle.typed_trees.specs.Targets as aims;
 
-use expr_typing::{
-    Around, can_be_set, fits_part, is_own_variable, is_variable, see, see_values,
-};
+use expr_typing::{Around, can_be_set, fits_part, is_own_variable, is_variable, see, see_values};
 use go_base::{NoMemory, TypeId};
 use go_tree::{DefineTarget, Target, TypedExpr, Values};
 
@@ -43,11 +41,7 @@ pub fn take_values(
 }
 
 /// Whether a target takes a value of a type.
-pub fn takes_value(
-    around: Around<'_>,
-    target: &Target,
-    of: TypeId,
-) -> Result<bool, NoMemory>
+pub fn takes_value(around: Around<'_>, target: &Target, of: TypeId) -> Result<bool, NoMemory>
     ensures { Tells around.entry result (λ a. aims.takes_value a target.now of) }
 {
     match target {

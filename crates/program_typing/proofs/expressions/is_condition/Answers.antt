@@ -1,8 +1,7 @@
 use Rattle.std.specs.Prelude.{◌&&◌}
-use Rattle.std.proofs.Common.{◌∙◌, ap, sym, List, Option, Bool}
+use Rattle.std.proofs.Common.{◌∙◌, ap}
 use Rattle.go_base.specs.declared.ids.TypeId.{TypeId}
 use Rattle.go_type.specs.Assignable.{underlying_term_of}
-use Rattle.expr_typing.specs.Telling.{at_tests}
 use Rattle.type_shapes.specs.Shapes.{is_truth}
 use Rattle.program_typing.proofs.expressions.is_condition.Goals as goal
 

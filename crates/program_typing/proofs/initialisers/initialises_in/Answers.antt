@@ -1,7 +1,6 @@
 use Rattle.std.specs.Prelude.{◌&&◌}
-use Rattle.std.proofs.Common.{◌∙◌, ap, sym, List, Option, Bool}
+use Rattle.std.proofs.Common.{◌∙◌, ap, List}
 use Rattle.go_base.specs.declared.ids.TypeId.{TypeId}
-use Rattle.go_type.specs.Assignable.{underlying_term_of}
 use Rattle.expr_typing.specs.Telling.{at_tests}
 use Rattle.typed_trees.specs.Statements.{values_are, variable_types}
 use Rattle.program_typing.specs.Walk.{is_of_a_package}

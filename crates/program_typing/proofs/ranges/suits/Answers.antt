@@ -1,4 +1,4 @@
-use Rattle.std.proofs.Common.{◌∙◌, ap, sym, List, Option, Some, None, Bool}
+use Rattle.std.proofs.Common.{◌∙◌, ap, sym}
 use Rattle.expr_typing.specs.Telling.{at_tests}
 use Rattle.go_tree.specs.declared.stmts.RangeOver.{RangeOver}
 use Rattle.typed_trees.specs.Targets.{suits}

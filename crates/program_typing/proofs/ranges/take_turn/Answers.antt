@@ -1,4 +1,4 @@
-use Rattle.std.proofs.Common.{◌∙◌, ap, sym, List, Option, Some, None, Bool}
+use Rattle.std.proofs.Common.{ap, sym, Option}
 use Rattle.expr_typing.specs.Telling.{at_tests}
 use Rattle.go_tree.specs.declared.stmts.Target.{Target}
 use Rattle.program_typing.proofs.Both.{told_as}

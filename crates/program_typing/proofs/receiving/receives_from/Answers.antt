@@ -1,7 +1,6 @@
 use Rattle.std.specs.Prelude.{◌&&◌}
-use Rattle.std.proofs.Common.{◌∙◌, ap, sym, List, Option, Bool}
+use Rattle.std.proofs.Common.{◌∙◌, ap}
 use Rattle.go_base.specs.declared.ids.TypeId.{TypeId}
-use Rattle.go_type.specs.Assignable.{underlying_term_of}
 use Rattle.expr_typing.specs.Telling.{at_tests}
 use Rattle.typed_trees.specs.Targets.{receives}
 use Rattle.program_typing.proofs.receiving.receives_from.Goals as goal

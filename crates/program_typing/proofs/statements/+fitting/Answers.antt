@@ -1,4 +1,4 @@
-use Rattle.std.proofs.Common.{◌≡◌, refl, sym, ap, ◌∙◌, List, Bool, Option, nat_lt}
+use Rattle.std.proofs.Common.{refl, sym, ap, ◌∙◌, List, Bool, Option}
 use Rattle.std.specs.Prelude.{◌&&◌, false, if◌then◌else◌, nat_le, count_by}
 use Rattle.std.specs.List.{list_all}
 use Rattle.go_base.specs.declared.ids.TypeId.{TypeId}

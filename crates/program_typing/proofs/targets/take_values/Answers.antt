@@ -2,7 +2,7 @@ use Rattle.typed_trees.specs.Targets.{takes_value}
 use Rattle.expr_typing.specs.Telling.{at_tests}
 use Rattle.program_typing.proofs.Pairs.{pairs-kept, pairs-ended, pairs-done}
 use Rattle.std.specs.Cmp.Lexicographic.{unequal}
-use Rattle.std.proofs.Common.{arith, sym, refl, ◌∙◌}
+use Rattle.std.proofs.Common.{arith, sym, refl}
 use Rattle.program_typing.proofs.targets.take_values.Goals as goal
 
 pub returns-then-targets-types : goal.returns-then-targets-types

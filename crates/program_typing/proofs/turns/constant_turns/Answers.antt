@@ -1,4 +1,4 @@
-use Rattle.std.proofs.Common.{◌∙◌, ap, sym, List, Option, Some, None, Bool}
+use Rattle.std.proofs.Common.{◌∙◌, ap, sym, Option, Bool}
 use Rattle.go_base.specs.declared.ids.TypeId.{TypeId}
 use Rattle.expr_typing.specs.Telling.{at_tests}
 use Rattle.go_type.specs.Assignable.{underlying_term_of}

@@ -1,4 +1,4 @@
-use Rattle.std.proofs.Common.{◌∙◌, ap, sym, List, Option, Some, None, Bool}
+use Rattle.std.proofs.Common.{◌∙◌, ap, sym, Option, Some}
 use Rattle.expr_typing.specs.Telling.{at_tests}
 use Rattle.go_type.specs.declared.term.TypeTerm.{TypeTerm}
 use Rattle.typed_trees.specs.Targets.{pointed_elements}
