@@ -1,0 +1,9 @@
+pub mod Layers
+pub mod Arguments
+pub mod Lists
+pub mod Takes
+pub mod Told
+pub mod Turns
+pub mod GivenOnce
+pub mod SameTypes
+pub mod Pairwise
