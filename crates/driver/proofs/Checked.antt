@@ -11,6 +11,7 @@ use Rattle.program_work.specs.declared.outcome.Outcome.{Outcome}
 use Rattle.program_work.specs.declared.outcome.Outcome.TheVariants as outcomes
 use Rattle.program_work.specs.declared.stop.Stop.TheVariants as stops
 use Rattle.program_work.proofs.Written.{finishes_as, unfinished_as}
+use Rattle.typed_trees.specs.Programs.{IsTypedProgram}
 
 -- a refusal
 pub refusal_comes : (command : LoadCommand) (files : List SourceFile) (outcome : Outcome) (told : Option (List ℕ)) → IsRefusal files outcome → Comes (IsResult command files) outcome told told
@@ -19,15 +20,19 @@ refusal_comes command files outcome told (inr (inl e)) = inr ((stops.OutOfMemory
 refusal_comes command files outcome told (inr (inr e)) = inr ((stops.Internal, e), inl (Appends-nil told))
 
 -- what the work on a program comes to
-pub served_comes : (command : LoadCommand) (files : List SourceFile) (program : Program) (outcome : Outcome) (old new : Option (List ℕ)) → Comes (IsServed command files program) outcome old new → Comes (IsResult command files) outcome old new
-served_comes command files program outcome old new (inl f) = inl (finishes_as (IsServed command files program) (IsResult command files) outcome outcome old new (λ output is. served program is) f)
-served_comes command files program outcome old new (inr p) = inr (p.0, unfinished_as (IsServed command files program) (IsResult command files) (λ (o : Outcome). o) old new (λ value output is. served program is) p.1)
+pub served_comes : (command : LoadCommand) (files : List SourceFile) (program : Program) (outcome : Outcome) (old new : Option (List ℕ)) → IsTypedProgram program → Comes (IsServed command files program) outcome old new → Comes (IsResult command files) outcome old new
+served_comes command files program outcome old new typed (inl f) = inl (finishes_as (IsServed command files program) (IsResult command files) outcome outcome old new (λ output is. served program typed is) f)
+served_comes command files program outcome old new typed (inr p) = inr (p.0, unfinished_as (IsServed command files program) (IsResult command files) (λ (o : Outcome). o) old new (λ value output is. served program typed is) p.1)
 
 -- a refusal is no fault
 pub refusal_faultless : (files : List SourceFile) (outcome : Outcome) → IsRefusal files outcome → outcome ≡ outcomes.WriteFault → ⊥
 refusal_faultless files outcome (inl is) e = let f = is.outcome_is in cc
 refusal_faultless files outcome (inr (inl f)) e = cc
 refusal_faultless files outcome (inr (inr f)) e = cc
+
+-- what was made of a program is not what it has to be
+pub lost_comes : (right : Outcome → List ℕ → Type 0) (outcome : Outcome) (told : Option (List ℕ)) → outcome ≡ outcomes.InternalError → Comes right outcome told told
+lost_comes right outcome told e = inr ((stops.Internal, e), inl (Appends-nil told))
 
 -- memory is wanted before anything is written
 pub wants_comes : (right : Outcome → List ℕ → Type 0) (told : Option (List ℕ)) → Comes right outcomes.OutOfMemory told told

@@ -8,6 +8,7 @@ ghost use Rattle.program_work.specs.Asked.{needs_main};
 ghost use Rattle.program_work.specs.Checking.{IsCheckedRow, IsRefusal};
 ghost use Rattle.program_work.specs.Outputs.{Comes};
 ghost use Rattle.program_work.specs.Working.{IsResult};
+ghost use Rattle.typed_trees.specs.Programs.{IsTypedProgram};
 
 use command_line::LoadCommand;
 use go_base::{Pos, Rule, Sink};
@@ -15,6 +16,7 @@ use go_declared::CheckError;
 use go_sources::Sources;
 use go_stmt::check;
 use go_tree::Program;
+use program_typing::is_program;
 use program_work::{Outcome, work_on};
 use std::alloc::Global;
 
@@ -32,11 +34,32 @@ pub fn check_and_work<O: Sink>(
     match check(alloc, sources) {
         Err(CheckError::Refused { pos, rule }) => refused(alloc, sources, pos, rule),
         Err(CheckError::OutOfMemory) => Outcome::OutOfMemory,
-        Ok(program) => work_checked(alloc, command, sources, &program, out),
+        Ok(program) => test_and_work(alloc, command, sources, &program, out),
     }
 }
 
-// Does what is asked with a program that breaks no rule.
+// Tests that a program that breaks no rule is typed, and does what is asked with it.
+fn test_and_work<O: Sink>(
+    alloc: Global,
+    command: &LoadCommand,
+    sources: &Sources,
+    program: &Program,
+    out: &mut O,
+) -> Outcome
+    ensures comes { Comes (IsResult command.now (files_of sources.now)) result (O.written out.old) (O.written out.new) }
+    ensures fault { result ≡ Outcome.WriteFault → HasFaulted (O.faults out.old) (O.faults out.new) }
+    ensures later { O.faults out.old ≤ O.faults out.new }
+{
+    let Ok(typed) = is_program(alloc, program) else {
+        return Outcome::OutOfMemory;
+    };
+    if !typed {
+        return lost();
+    }
+    work_checked(alloc, command, sources, program, out)
+}
+
+// Does what is asked with a program that breaks no rule and is typed.
 fn work_checked<O: Sink>(
     alloc: Global,
     command: &LoadCommand,
@@ -44,6 +67,7 @@ fn work_checked<O: Sink>(
     program: &Program,
     out: &mut O,
 ) -> Outcome
+    requires { IsTypedProgram program.now }
     ensures comes { Comes (IsResult command.now (files_of sources.now)) result (O.written out.old) (O.written out.new) }
     ensures fault { result ≡ Outcome.WriteFault → HasFaulted (O.faults out.old) (O.faults out.new) }
     ensures later { O.faults out.old ≤ O.faults out.new }
@@ -103,7 +127,8 @@ fn lies_in(sources: &Sources, pos: Pos) -> bool
     }
 }
 
-// The answer where a rule of loading, or a place outside of the program, would be named: none is.
+// The answer where a rule of loading, or a place outside of the program, would be named, or a program that breaks no rule
+// is not typed: none is.
 fn lost() -> Outcome
     ensures { result ≡ Outcome.InternalError }
 {

@@ -5,6 +5,7 @@ ghost use Rattle.go_base.specs.Devices.{HasFaulted};
 ghost use Rattle.driver.specs.Generating.{count_line, Counts, IsGenerated, IsGeneratedRun, IsRunBehind};
 ghost use Rattle.program_work.specs.Outputs.{Comes, Does};
 ghost use Rattle.program_work.specs.declared.stop.Stop.TheVariants.{WriteFault};
+ghost use Rattle.typed_trees.specs.Programs.{IsTypedProgram};
 
 use command_line::Graph;
 use go_base::{Ending, NoMemory, Sink};
@@ -16,6 +17,7 @@ use go_sources::Sources;
 use go_stmt::check;
 use go_text::push_number;
 use go_tree::Program;
+use program_typing::is_program;
 use program_work::{Outcome, Stop, edges_of, sound_code};
 use ssa_ir::Code;
 use std::alloc::Global;
@@ -79,15 +81,27 @@ fn sources_of(alloc: Global, bytes: &[u8]) -> Result<Sources, Stop>
     }
 }
 
-// Nor another one.
+// Nor another one, and it is typed.
 fn checked(alloc: Global, sources: &Sources) -> Result<Program, Stop>
-    ensures { IsErrOf result WriteFault → ⊥ }
+    ensures typed { IfOk result IsTypedProgram }
+    ensures fault { IsErrOf result WriteFault → ⊥ }
 {
     match check(alloc, sources) {
-        Ok(program) => Ok(program),
+        Ok(program) => tested(alloc, program),
         Err(CheckError::OutOfMemory) => Err(Stop::OutOfMemory),
         Err(CheckError::Refused { .. }) => Err(Stop::Internal),
     }
+}
+
+// A program that is typed.
+fn tested(alloc: Global, program: Program) -> Result<Program, Stop>
+    ensures typed { IfOk result IsTypedProgram }
+    ensures fault { IsErrOf result WriteFault → ⊥ }
+{
+    if !is_program(alloc, &program)? {
+        return Err(Stop::Internal);
+    }
+    Ok(program)
 }
 
 // The lines that say how many types the program has, and how many edges its graphs.

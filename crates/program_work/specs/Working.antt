@@ -19,6 +19,7 @@ use Rattle.ssa_print.specs.Codes as shown
 use Rattle.ssa_print.specs.Operands.{setting_of}
 use Rattle.ssa_sane.specs.Sane.{IsSane}
 use Rattle.ssa_typed.specs.Typed.{IsTyped}
+use Rattle.typed_trees.specs.Programs.{IsTypedProgram}
 use Rattle.program_work.specs.declared.outcome.Outcome.{Outcome}
 use Rattle.program_work.specs.declared.outcome.Outcome.TheVariants as outcomes
 use Rattle.program_work.specs.Asked.{wants_registers}
@@ -89,11 +90,12 @@ pub data IsServed (command : LoadCommand) (files : List SourceFile) (program : P
       → output ≡ [] → IsServed command files program outcome output
   worked : IsWork command files program outcome output → IsServed command files program outcome output
 
--- the right outcome for files that were loaded: they break a rule; or they make a program, of which nothing is said
--- yet, and what is asked of it comes to this
+-- the right outcome for files that were loaded: they break a rule; or they make a typed program, of which nothing else
+-- is said yet, and what is asked of it comes to this
 pub data IsResult (command : LoadCommand) (files : List SourceFile) (outcome : Outcome) (output : List ℕ) : Type 0 where
   broken : IsBroken files outcome → output ≡ [] → IsResult command files outcome output
-  served : (program : Program) → IsServed command files program outcome output → IsResult command files outcome output
+  served : (program : Program) → IsTypedProgram program → IsServed command files program outcome output
+      → IsResult command files outcome output
 
 -- ---- what the parts of the code come to
 

@@ -36,6 +36,14 @@ abbrev pub with_receiver : Option TypeId → List TypeId → List TypeId
 with_receiver None params = params
 with_receiver (Some receiver) params = receiver ∷ params
 
+abbrev pub is_initialiser : FunctionForm → Bool
+is_initialiser form.PackageInit = true
+is_initialiser _ = false
+
+abbrev pub are_none : List TypeId → Bool
+are_none [] = true
+are_none _ = false
+
 abbrev pub inside : List TypeId → Within
 inside results = record { results = results; breaks = 0; continues = 0; falls = false }
 
@@ -84,10 +92,6 @@ module _ (p : Program) (tests : Tests) where
 
   abbrev pub initialises : ℕ → FunctionDecl → Bool
   initialises number decl = is_initialiser decl.form && (decl.«package» == number)
-    where
-      is_initialiser : FunctionForm → Bool
-      is_initialiser form.PackageInit = true
-      is_initialiser _ = false
 
   -- the function that initialises a package, the first having a number
   abbrev pub initialiser_from : ℕ → ℕ → List FunctionDecl → Option FuncId
@@ -110,10 +114,6 @@ module _ (p : Program) (tests : Tests) where
 
   abbrev pub is_bare : Option Signature → Bool
   is_bare (Some signature) = are_none signature.params && are_none signature.results
-    where
-      are_none : List TypeId → Bool
-      are_none [] = true
-      are_none _ = false
   is_bare None = false
 
   abbrev pub fits_main : Option FuncId → Bool
@@ -127,7 +127,12 @@ module _ (p : Program) (tests : Tests) where
   fits_program =
       fit_bodies 0 p.functions p.bodies && (list_all fits_step p.initialisers && fits_main p.main)
 
--- each node has parts of the types that it needs, and each name, field and method that a node selects exists
+-- whichever tests tell what is true of the types, by them each node has parts of the types that it needs, and each name,
+-- field and method that a node selects exists
+abbrev pub IsTypedProgram : Program → Type 0
+IsTypedProgram p = (tests : Tests) → AreTold p.types tests → IsTrue (fits_program p tests)
+
+-- there are such tests
 abbrev pub IsProgram : Program → Type 0
 IsProgram p = (tests : Tests) × (AreTold p.types tests × IsTrue (fits_program p tests))
 

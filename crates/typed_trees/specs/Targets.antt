@@ -1,6 +1,7 @@
 -- What is assigned to, declared and received. Go specification, "Assignment statements", "Short variable declarations",
 -- "For statements with range clause" and "Select statements".
 use Rattle.std.specs.Prelude.{ℕ, zero, suc, ◌==◌, Bool, true, false, ◌&&◌, List, [], ◌∷◌, length, Option, Some, None}
+use Rattle.std.specs.Prelude.{is_none}
 use Rattle.std.specs.Cmp.Lexicographic.{pointwise}
 use Rattle.std.specs.List.{list_all}
 use Rattle.std.specs.Option.{option_map_or}
@@ -26,6 +27,11 @@ use Rattle.type_shapes.specs.Shapes.{received_elem}
 use Rattle.typed_trees.specs.Around.{Around, under, has_texts, is_variable, is_own_variable}
 use Rattle.typed_trees.specs.Expressions.{seen}
 use Rattle.typed_trees.specs.Nodes.{Seen, can_be_set}
+
+-- what a range gives in each turn
+pub record Turns : Type 0 where
+  pub key : TypeId
+  pub value : Option TypeId
 
 module _ (around : Around) where
   -- ---- assignments
@@ -75,10 +81,6 @@ module _ (around : Around) where
 
   -- ---- what a range gives: keys and values
 
-  pub record Turns : Type 0 where
-    pub key : TypeId
-    pub value : Option TypeId
-
   abbrev pub int_type : TypeId
   int_type = basic_id basic.Int
 
@@ -115,9 +117,15 @@ module _ (around : Around) where
   is_array_of len (Some (Pointer base)) = has_length len (under around base)
   is_array_of len it = has_length len it
 
-  abbrev pub index_turns : Bool → Option Turns
-  index_turns true = Some (record { key = int_type; value = None })
-  index_turns false = None
+  -- the operand is not evaluated
+  abbrev pub constant_turns : Bool → Option TypeId → Option Turns
+  constant_turns true elem = with_elements elem
+  constant_turns false elem = None
+
+  -- the elements of an array, or of one that is pointed to
+  abbrev pub elements_below : Option TypeTerm → Option TypeId
+  elements_below (Some (Pointer base)) = array_elements (under around base)
+  elements_below it = array_elements it
 
   abbrev pub text_turns : Bool → Option Turns
   text_turns true = Some (record { key = int_type; value = Some (basic_id basic.Int32) })
@@ -130,7 +138,8 @@ module _ (around : Around) where
   turns_of over.Text of = text_turns (has_texts around of)
   turns_of over.Map of = map_turns (under around of)
   turns_of over.Channel of = channel_turns (received_elem (under around of))
-  turns_of (over.Constant len) of = index_turns (is_array_of len (under around of))
+  turns_of (over.Constant len) of =
+      constant_turns (is_array_of len (under around of)) (elements_below (under around of))
   turns_of over.Integer of = None
 
   abbrev pub defines_one : Option VarId → Option TypeId → Bool
@@ -155,6 +164,19 @@ module _ (around : Around) where
   sets_turn (ranging.Assign key value parts) turns =
       are_part_of (all_types turns) parts.items && take_values (listed_targets key value) (part_types parts.items)
 
+  -- no value is asked for; the blank identifier takes none
+  abbrev pub lacks_value : RangeTargets → Bool
+  lacks_value ranging.None = true
+  lacks_value (ranging.Define key value) = is_none value
+  lacks_value (ranging.Assign key (Some (target.Place place)) parts) = false
+  lacks_value (ranging.Assign key value parts) = true
+
+  -- an operand that is not evaluated has no values
+  abbrev pub suits : RangeOver → RangeTargets → Bool
+  suits (over.Constant len) targets = lacks_value targets
+  suits _ targets = true
+
   abbrev pub ranges : RangeOver → Seen → RangeTargets → Bool
   ranges over operand targets =
-      operand.fits && option_map_or (λ turns. sets_turn targets turns) (turns_of over operand.of) false
+      operand.fits
+      && (suits over targets && option_map_or (λ turns. sets_turn targets turns) (turns_of over operand.of) false)

@@ -8,4 +8,4 @@ returns-then-lacks_main-clause-comes g c =
 
 pub returns-clause-comes : goal.returns-clause-comes
 returns-clause-comes g c =
-    served_comes c.args.command.now (files_of c.args.sources.now) c.args.program.now c.work_on.result _ _ c.work_on.ensures.comes
+    served_comes c.args.command.now (files_of c.args.sources.now) c.args.program.now c.work_on.result _ _ c.requires c.work_on.ensures.comes
