@@ -1,5 +1,5 @@
 -- What a built-in function asks of arguments is asked of their types alone.
-use Rattle.std.proofs.Common.{◌≡◌, refl, sym, ap, ◌∙◌, List, [], ◌∷◌, map, length, suc, Option, Some, None, Bool, true, false, ◌&&◌, ◌||◌}
+use Rattle.std.proofs.Common.{◌≡◌, refl, ap, List, [], ◌∷◌, map, length, suc, Option, Some, None, Bool, true, false, ◌&&◌, ◌||◌}
 use Rattle.std.specs.Prelude.{is_none}
 use Rattle.std.specs.List.{list_all}
 use Rattle.go_base.specs.declared.ids.TypeId.{TypeId}

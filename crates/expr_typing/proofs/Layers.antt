@@ -1,11 +1,10 @@
 -- What the forms of expressions are seen as.
 use Rattle.std.proofs.Common.{◌≡◌, refl, sym, ap, ◌∙◌, List, [], ◌∷◌, map, Option, Some, None, ℕ, Bool, true, false, ◌&&◌, ◌||◌}
-use Rattle.std.specs.Prelude.{◌==◌, not, nat_lt, length, is_none, is_some, slice_get}
+use Rattle.std.specs.Prelude.{◌==◌, not, nat_lt, length, is_some, slice_get}
 use Rattle.std.specs.Global.{Box}
 use Rattle.std.specs.List.{list_all}
-use Rattle.std.specs.Option.{option_and_then, option_map_or}
+use Rattle.std.specs.Option.{option_map_or}
 use Rattle.go_base.specs.declared.ids.TypeId.{TypeId}
-use Rattle.go_base.specs.declared.place.Pos.{Pos}
 use Rattle.go_tree.specs.declared.exprs.Callee.{Callee}
 use Rattle.go_tree.specs.declared.exprs.Elements.{Elements}
 use Rattle.go_tree.specs.declared.exprs.EntryInit.{EntryInit}
@@ -26,14 +25,13 @@ use Rattle.go_tree.specs.declared.exprs.ExprKind.TheVariants as kinds
 use Rattle.go_tree.specs.declared.exprs.Values.TheVariants as values
 use Rattle.go_tree.specs.declared.exprs.Callee.TheViews.{roll-Callee, roll-Elements, roll-ExprKind, roll-Values, out-Values, out-ExprKind}
 use Rattle.go_tree.specs.declared.exprs.Callee.TheFolds.{fold-roll-Callee, fold-roll-Elements, fold-roll-ExprKind, fold-roll-Values, fold-roll-EntryInit, fold-roll-FieldInit, fold-roll-ItemInit, fold-roll-TypedExpr, map-Callee, map-Elements, map-ExprKind, map-Values, fold_out-ExprKind, fold_out-Values}
-use Rattle.go_type.specs.declared.term.Signature.{Signature}
 use Rattle.go_type.specs.declared.term.TypeTerm.{TypeTerm}
 use Rattle.go_type.specs.declared.term.TypeTerm.TheVariants as terms
 use Rattle.type_shapes.specs.Shapes.{is_id, is_map, is_slice, is_pointer_to, parts_of}
-use Rattle.typed_trees.specs.Around.{Around, term, under, signature_in, function_type, literal_type, method_type_of, is_variable, has_integers}
+use Rattle.typed_trees.specs.Around.{Around, term, under, signature_in, function_type, literal_type, method_type_of, is_variable}
 use Rattle.typed_trees.specs.BuiltIns.{fits_built_in}
 use Rattle.typed_trees.specs.Conversions.{fits_conversion}
-use Rattle.typed_trees.specs.Expressions.{SeenCallee, SeenValues, SeenElements, seen, seen_values, callee_layer, values_layer, elements_layer, kind_layer, entry_layer, field_layer, item_layer, expr_layer, type_signature, both, types_of, all_fit, are_parts}
+use Rattle.typed_trees.specs.Expressions.{SeenCallee, SeenValues, SeenElements, seen, seen_values, callee_layer, values_layer, elements_layer, kind_layer, entry_layer, field_layer, item_layer, expr_layer, type_signature, types_of, all_fit}
 use Rattle.typed_trees.specs.Nodes.{Seen, SeenField, SeenItem, SeenEntry, is_place, place_if, has_address, index_form, entry_form, fits_constant, fits_nil, fits_method, interface_method, fits_method_expression, fits_field, fits_element, fits_map_index, fits_sliced, is_text_base, fits_deref, fits_unary, fits_binary, fits_comparison, fits_logic, fits_receive, fits_call_of, fits_boxing, fits_assertion, fits_fields, fits_items, fits_entries, fits_set_field, are_distinct}
 use Rattle.typed_trees.specs.declared.forms.Form.{Form}
 use Rattle.typed_trees.specs.declared.forms.Form.TheVariants as forms

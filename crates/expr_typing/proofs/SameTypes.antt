@@ -2,11 +2,10 @@
 use Rattle.std.proofs.Common.{◌≡◌, ℕ, zero, suc, ◌<◌, ◌≤◌, ◌==◌, Bool, true, false, true≢false, ◌&&◌, ◌||◌, List, [], ◌∷◌, map, length, Option, Some, None, option_map, IsTrue, refl, sym, ap, ◌∙◌, arith, ◌↔◌}
 use Rattle.std.specs.Bool.{beq}
 use Rattle.std.specs.Cmp.Lexicographic.{pointwise}
-use Rattle.std.specs.List.{list_all}
 use Rattle.go_base.specs.declared.ids.TypeId.{TypeId}
 use Rattle.go_type.specs.declared.term.Field.{Field}
 use Rattle.go_type.specs.declared.term.TypeTerm.{TypeTerm}
-use Rattle.go_type.specs.Held.{IsHeld, term_parts}
+use Rattle.go_type.specs.Held.{IsHeld}
 use Rattle.go_type.specs.Identity.{like_field, like_term, alike}
 use Rattle.go_type.specs.Same.{same_id}
 use Rattle.go_type.specs.Table.{Table, term_at}

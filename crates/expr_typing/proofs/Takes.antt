@@ -1,5 +1,5 @@
 -- What single built-in functions ask of arguments.
-use Rattle.std.proofs.Common.{◌≡◌, ℕ, ◌<◌, ◌≤◌, refl, sym, ap, ◌∙◌, List, [], ◌∷◌, map, length, get_or, Bool, false, ◌&&◌, arith}
+use Rattle.std.proofs.Common.{◌≡◌, ◌<◌, ◌≤◌, sym, ap, List, [], ◌∷◌, map, length, get_or, Bool, false, ◌&&◌, arith}
 use Rattle.std.specs.List.{list_all}
 use Rattle.go_base.specs.declared.ids.TypeId.{TypeId}
 use Rattle.go_tree.specs.declared.exprs.TypedExpr.{TypedExpr}

@@ -5,7 +5,6 @@ use Rattle.std.specs.List.{All, Contains}
 use Rattle.std.proofs.lemmas.List.Elements.{All-head, All-tail}
 use Rattle.go_base.specs.declared.ids.NameId.{NameId}
 use Rattle.go_base.specs.declared.ids.TypeId.{TypeId}
-use Rattle.go_type.specs.declared.members.Member.{Member}
 use Rattle.go_type.specs.declared.members.Wanted.{Wanted}
 use Rattle.go_type.specs.declared.methods.MethodEntry.{MethodEntry}
 use Rattle.go_type.specs.MethodSets.{HasMember, IsMethod, HasEach, name_of, entry_of}

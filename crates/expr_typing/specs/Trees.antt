@@ -1,7 +1,6 @@
 -- The trees below an expression, as they are seen there.
-use Rattle.std.specs.Prelude.{ℕ, Bool, true, false, ◌&&◌, List, [], length, nat_lt, Option, Some, None}
+use Rattle.std.specs.Prelude.{Bool, true, false, ◌&&◌, List, [], length, nat_lt, Option, Some, None}
 use Rattle.std.specs.Global.{Box}
-use Rattle.std.specs.List.{list_all}
 use Rattle.go_base.specs.declared.ids.TypeId.{TypeId}
 use Rattle.go_tree.specs.declared.exprs.Callee.{Callee}
 use Rattle.go_tree.specs.declared.exprs.Elements.{Elements}

@@ -42,7 +42,8 @@ fn takes_unary(around: Around<'_>, op: UnaryOp, of: TypeId) -> bool
     }
 }
 
-/// Whether an operator has operands of two types, and gives a value of a third. Go specification, "Arithmetic operators".
+/// Whether an operator has operands of two types, and gives a value of a third. Go specification, "Arithmetic
+/// operators".
 #[tactic(auto, using(crate::proofs::Lists::join_rules))]
 pub fn fits_binary(
     around: Around<'_>,

@@ -1,4 +1,4 @@
-use Rattle.std.proofs.Common.{◌≡◌, ◌≢◌, ◌&&◌, ◌∙◌, List, Bool, Option, map, refl, sym, rules}
+use Rattle.std.proofs.Common.{◌≡◌, ◌&&◌, ◌∙◌, List, Bool, Option, map, refl, sym, rules}
 use Rattle.std.specs.Prelude.{is_none}
 use Rattle.go_base.specs.declared.ids.TypeId.{TypeId}
 use Rattle.go_type.specs.declared.operators.Builtin.{Builtin}

@@ -1,6 +1,4 @@
-use Rattle.std.proofs.Common.{◌≡◌, ◌↔◌, ◌∙◌, IsTrue, ap, sym, subst}
-use Rattle.go_type.specs.Table.{underlying_of}
-use Rattle.type_bare.specs.Same.{SameButTags}
+use Rattle.std.proofs.Common.{◌∙◌}
 use Rattle.expr_typing.proofs.Told.{same_answer}
 use Rattle.expr_typing.proofs.conversions.is_alike_below.Goals as goal
 
