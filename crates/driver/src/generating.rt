@@ -98,10 +98,14 @@ fn tested(alloc: Global, program: Program) -> Result<Program, Stop>
     ensures typed { IfOk result IsTypedProgram }
     ensures fault { IsErrOf result WriteFault → ⊥ }
 {
-    if !is_program(alloc, &program)? {
-        return Err(Stop::Internal);
+    let Ok(typed) = is_program(alloc, &program) else {
+        return Err(Stop::OutOfMemory);
+    };
+    if typed {
+        Ok(program)
+    } else {
+        Err(Stop::Internal)
     }
-    Ok(program)
 }
 
 // The lines that say how many types the program has, and how many edges its graphs.
