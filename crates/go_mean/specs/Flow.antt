@@ -22,7 +22,7 @@ use Rattle.go_tree.specs.declared.stmts.TypedCase.{TypedCase}
 use Rattle.go_tree.specs.declared.stmts.TypedClause.{TypedClause}
 use Rattle.go_tree.specs.declared.stmts.TypedStmt.{TypedStmt}
 use Rattle.go_type.specs.declared.operators.CompareOp.TheVariants as comparison
-use Rattle.go_value.specs.Interfaces.{converted}
+use Rattle.go_value.specs.Interfaces.{converted, is_interface_type}
 use Rattle.go_value.specs.Values.{Val, Typed, truth, nil_interface}
 use Rattle.ssa_mean.specs.Arithmetic.{comparison_of}
 use Rattle.ssa_mean.specs.Comes.{Comes, to, faults, nowhere, and_then, then_to, where_some, of_result}
@@ -87,16 +87,21 @@ abbrev pub takes_default : Site → List TypedClause → List Later → Next
 takes_default s [] later = goes_later s later
 takes_default s clauses later = takes_clause s clauses later
 
-abbrev pub compares : Option Typed → Option TypeId → List Piece → List Piece
-compares None tag_to value = value ++ match_truth ∷ []
-compares (Some tag) None value = value ++ match_tag ∷ []
-compares (Some tag) (Some interface) value = widen ∷ value ++ match_widened ∷ []
+-- a channel of one direction is the channel itself, so that only interfaces are made
+abbrev pub compares_as : Bool → List Piece → List Piece
+compares_as true value = widen ∷ value ++ match_widened ∷ []
+compares_as false value = value ++ match_tag ∷ []
+
+abbrev pub compares : Site → Option Typed → Option TypeId → List Piece → List Piece
+compares s None tag_to value = value ++ match_truth ∷ []
+compares s (Some tag) None value = value ++ match_tag ∷ []
+compares s (Some tag) (Some to) value = compares_as (is_interface_type (types_of s) to) value
 
 -- the next test, or the default
 abbrev pub tests_next : Site → Choosing TypedCase TypedClause → List (Test TypedCase) → List Later → Next
 tests_next s c [] later = takes_default s (from_default c.clauses) later
 tests_next s c (test ∷ tests) later =
-    goes_both s (compares c.tag test.case.tag_to (evaluate test.case.value ∷ []))
+    goes_both s (compares s c.tag test.case.tag_to (evaluate test.case.value ∷ []))
     (cases (record c { tests = test ∷ tests }) ∷ later)
 
 -- a switch without any test goes to its default

@@ -5,7 +5,9 @@ ghost use Rattle.std.specs.List.{list_all};
 ghost use Rattle.expr_typing.specs.Telling.{Told, at_tests};
 ghost use Rattle.program_typing.specs.Telling.{Gives, Tells};
 ghost use Rattle.program_typing.specs.Walk as walk;
+ghost use Rattle.go_type.specs.Assignable.{underlying_term_of};
 ghost use Rattle.typed_trees.specs.Around.{Around as Near};
+ghost use Rattle.typed_trees.specs.Conversions.{loses_direction};
 ghost use Rattle.typed_trees.specs.Statements as statement;
 
 use crate::expressions::is_condition;
@@ -13,6 +15,7 @@ use crate::receiving::communicates;
 use expr_typing::{Around, comparable, implements, is_nothing, is_own_variable, see};
 use go_base::{NoMemory, TypeId, VarId};
 use go_tree::{Comm, SelectClause, TypeCase, TypeClause, TypedCase, TypedClause, TypedExpr};
+use go_type::{Dir, TypeTerm, Types};
 use type_shapes::{is_id, is_interface};
 
 /// What is seen of the tag of a switch: its type where there is one, and whether the types in it fit.
@@ -118,23 +121,48 @@ fn is_compared(around: Around<'_>, case: &TypedCase, tag: TypeId) -> Result<bool
     Ok((seen.fits & compares) & is_id(tag, seen.of))
 }
 
-/// The type of the tag, made one of an interface where that is told.
+/// The type of the tag, made one of an interface, or a channel of one direction, where that is told.
 fn tag_type(around: Around<'_>, tag: TypeId, to: Option<TypeId>) -> Option<TypeId>
     ensures { Gives around.entry result (λ a. statement.tag_type a tag to) }
 {
     match to {
-        Some(to) => interface_of(around, tag, to),
+        Some(to) => widened(around, tag, to),
         None => Some(tag),
     }
 }
 
-fn interface_of(around: Around<'_>, tag: TypeId, to: TypeId) -> Option<TypeId>
+fn widened(around: Around<'_>, tag: TypeId, to: TypeId) -> Option<TypeId>
     ensures { Gives around.entry result (λ a. statement.tag_type a tag (Some to)) }
 {
-    if is_interface(&around.program.types, to) & implements(around, tag, to) {
+    if becomes(around, tag, to) {
         return Some(to);
     }
     None
+}
+
+fn becomes(around: Around<'_>, tag: TypeId, to: TypeId) -> bool
+    ensures { Gives around.entry result (λ a. statement.becomes a tag to) }
+{
+    let types = &around.program.types;
+    (is_interface(types, to) & implements(around, tag, to)) | loses_direction(types, tag, to)
+}
+
+/// Whether a channel of both directions becomes one of the same elements.
+fn loses_direction(types: &Types, from: TypeId, to: TypeId) -> bool
+    ensures { result ≡ loses_direction (underlying_term_of types.now from) (underlying_term_of types.now to) }
+{
+    match (types.underlying_term(from), types.underlying_term(to)) {
+        (
+            Some(
+                TypeTerm::Chan {
+                    dir: Dir::Both,
+                    elem,
+                },
+            ),
+            Some(TypeTerm::Chan { elem: other, .. }),
+        ) => elem == other,
+        _ => false,
+    }
 }
 
 /// Whether the cases of the clauses of a switch over types fit an operand of a type.

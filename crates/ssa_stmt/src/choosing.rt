@@ -271,7 +271,7 @@ fn lower_case(
         .value(Op::Binary { op, left, right }, bool_type(), case.at)
 }
 
-/// The tag as it is compared with a case.
+/// The tag as it is compared with a case: made one of an interface, or a channel of one direction.
 fn widened(
     flow: &mut Flow<'_>,
     tag: &Operand,
@@ -282,12 +282,19 @@ fn widened(
     let Some(to) = case.tag_to else {
         return Ok(operand);
     };
-    let op = if matches!(flow.builder.under(of)?, TypeTerm::Interface(_)) {
-        Op::ChangeInterface { to, operand }
-    } else {
-        Op::MakeInterface { to, operand }
-    };
+    let becomes_interface = matches!(flow.builder.under(to)?, TypeTerm::Interface(_));
+    let is_interface = matches!(flow.builder.under(of)?, TypeTerm::Interface(_));
+    let op = widening(becomes_interface, is_interface, to, operand);
     flow.builder.value(op, to, case.at)
+}
+
+/// What makes an operand one of another type.
+fn widening(becomes_interface: bool, is_interface: bool, to: TypeId, operand: Operand) -> Op {
+    match (becomes_interface, is_interface) {
+        (false, _) => Op::ChangeType { to, operand },
+        (true, true) => Op::ChangeInterface { to, operand },
+        (true, false) => Op::MakeInterface { to, operand },
+    }
 }
 
 #[cycle(statements)]

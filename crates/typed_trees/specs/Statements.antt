@@ -21,6 +21,7 @@ use Rattle.go_type.specs.Same.{same_id, same_ids}
 use Rattle.go_type.specs.declared.operators.BinaryOp.{BinaryOp}
 use Rattle.type_shapes.specs.Shapes.{is_interface, sent_elem, is_id}
 use Rattle.typed_trees.specs.Around.{Around, under, has_truths, only_if, variable_at, is_own_variable}
+use Rattle.typed_trees.specs.Conversions.{loses_direction}
 use Rattle.typed_trees.specs.Expressions.{seen, seen_values, SeenValues}
 use Rattle.typed_trees.specs.Nodes.{Seen, fits_binary, can_be_set, is_call, is_nothing}
 use Rattle.typed_trees.specs.Targets.{take_values, define_all, receives, ranges}
@@ -133,10 +134,15 @@ module _ (around : Around) where
 
   -- ---- "Expression switches": a case is compared with the tag, and is true or false where there is none
 
-  -- the tag, made one of an interface where that is told
+  -- the tag, made one of an interface, or a channel of one direction, where that is told
+  abbrev pub becomes : TypeId → TypeId → Bool
+  becomes tag to =
+      (is_interface (under around to) && around.tests.answers.implements tag to)
+      || loses_direction (under around tag) (under around to)
+
   abbrev pub tag_type : TypeId → Option TypeId → Option TypeId
   tag_type tag None = Some tag
-  tag_type tag (Some to) = only_if (is_interface (under around to) && around.tests.answers.implements tag to) to
+  tag_type tag (Some to) = only_if (becomes tag to) to
 
   -- what is not comparable is compared with `nil`
   abbrev pub can_be_case : Seen → Bool
