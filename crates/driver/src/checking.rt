@@ -19,6 +19,7 @@ use go_tree::Program;
 use program_typing::is_program;
 use program_work::{Outcome, work_on};
 use std::alloc::Global;
+use std::mem::forget;
 
 /// Checks a program that was loaded, and does what is asked with it where it breaks no rule.
 pub fn check_and_work<O: Sink>(
@@ -34,8 +35,26 @@ pub fn check_and_work<O: Sink>(
     match check(alloc, sources) {
         Err(CheckError::Refused { pos, rule }) => refused(alloc, sources, pos, rule),
         Err(CheckError::OutOfMemory) => Outcome::OutOfMemory,
-        Ok(program) => test_and_work(alloc, command, sources, &program, out),
+        Ok(program) => work_and_leave(alloc, command, sources, program, out),
     }
+}
+
+// Does what is asked with a program that breaks no rule, and leaves it to the end of the process: a tree may be deep, and
+// would be taken apart level by level.
+fn work_and_leave<O: Sink>(
+    alloc: Global,
+    command: &LoadCommand,
+    sources: &Sources,
+    program: Program,
+    out: &mut O,
+) -> Outcome
+    ensures comes { Comes (IsResult command.now (files_of sources.now)) result (O.written out.old) (O.written out.new) }
+    ensures fault { result ≡ Outcome.WriteFault → HasFaulted (O.faults out.old) (O.faults out.new) }
+    ensures later { O.faults out.old ≤ O.faults out.new }
+{
+    let outcome = test_and_work(alloc, command, sources, &program, out);
+    forget(program);
+    outcome
 }
 
 // Tests that a program that breaks no rule is typed, and does what is asked with it.
