@@ -1,6 +1,12 @@
 //! Operators of arithmetic and logic on two operands. Go specification, "Operators", "Arithmetic operators", "String
 //! concatenation" and "Logical operators".
 
+ghost use Rattle.std.specs.Prelude.{◌≡◌};
+ghost use Rattle.go_base.specs.declared.rule.Rule.TheVariants.{BadOperand, DivisionByZero};
+ghost use Rattle.typed_operators.specs.Binary.{binary_op, broken_of, divisor_given, holds_of, operands_break, operands_hold, takes_given, truth_given, truths_break, truths_hold, is_zero};
+ghost use Rattle.typed_parts.specs.Judged.{reported};
+ghost use Rattle.typed_parts.specs.Numbers.{integer_of};
+
 use crate::pairs::{Pair, paired};
 use crate::shifting::shift;
 use go_base::{NoMemory, Pos, Rule, TypeId};
@@ -10,7 +16,9 @@ use go_rules::{
 };
 use go_tree::{ExprKind, TypedExpr};
 use go_type::{BinaryOp, Const, ConstOp, Types, identical};
-use typed_parts::{Given, Ground, Seen, and_also, binary_of, node, one_value, only, or_else};
+use typed_parts::{
+    Given, Ground, Seen, and_also, binary_of, integer_of, node, one_value, only, or_else,
+};
 
 /// An operator whose result has the type of the left operand: `arithmetic`, or `shift`.
 pub fn binary_expression(
@@ -87,7 +95,11 @@ pub fn arithmetic(
 }
 
 /// Whether each operand that is sound is one that the operator takes.
-fn ask_operands(ground: &mut Ground, op: ConstOp, x: &Option<Given>, y: &Option<Given>) -> bool {
+#[tactic(auto, using(typed_parts::proofs::Reports::reported_after))]
+fn ask_operands(ground: &mut Ground, op: ConstOp, x: &Option<Given>, y: &Option<Given>) -> bool
+    ensures holds { result ≡ operands_hold ground.old.types op x.now y.now }
+    ensures broken { ground.new ≡ reported ground.old (operands_break ground.old.types op x.now y.now) }
+{
     let first = ask_arithmetic(ground, op, x);
     let second = ask_arithmetic(ground, op, y);
     let divisor = ask_divisor(ground, op, y);
@@ -95,7 +107,10 @@ fn ask_operands(ground: &mut Ground, op: ConstOp, x: &Option<Given>, y: &Option<
 }
 
 /// Whether an operand, where it is sound, is one that the operator takes. `BadOperand` at it where not.
-fn ask_arithmetic(ground: &mut Ground, op: ConstOp, x: &Option<Given>) -> bool {
+fn ask_arithmetic(ground: &mut Ground, op: ConstOp, x: &Option<Given>) -> bool
+    ensures holds { result ≡ holds_of (takes_given ground.old.types op) x.now }
+    ensures broken { ground.new ≡ reported ground.old (broken_of (takes_given ground.old.types op) BadOperand x.now) }
+{
     let Some(x) = x else {
         return true;
     };
@@ -107,7 +122,10 @@ fn ask_arithmetic(ground: &mut Ground, op: ConstOp, x: &Option<Given>) -> bool {
 }
 
 /// Whether an operand is no constant 0 by which is divided. `DivisionByZero` at it where it is.
-fn ask_divisor(ground: &mut Ground, op: ConstOp, y: &Option<Given>) -> bool {
+fn ask_divisor(ground: &mut Ground, op: ConstOp, y: &Option<Given>) -> bool
+    ensures holds { result ≡ holds_of (divisor_given op) y.now }
+    ensures broken { ground.new ≡ reported ground.old (broken_of (divisor_given op) DivisionByZero y.now) }
+{
     let Some(y) = y else {
         return true;
     };
@@ -118,11 +136,13 @@ fn ask_divisor(ground: &mut Ground, op: ConstOp, y: &Option<Given>) -> bool {
     false
 }
 
-fn is_zero(expr: &TypedExpr) -> bool {
-    matches!(
-        &expr.kind,
-        ExprKind::ConstOf(Const::Int(0) | Const::Rune(0))
-    )
+fn is_zero(expr: &TypedExpr) -> bool
+    ensures { result ≡ is_zero (integer_of expr.now) }
+{
+    match integer_of(expr) {
+        Some(number) => number == 0,
+        None => false,
+    }
 }
 
 /// An operation on two operands of one type: a constant where both are.
@@ -171,7 +191,9 @@ fn fold(
     }
 }
 
-const fn binary_op(op: ConstOp) -> BinaryOp {
+const fn binary_op(op: ConstOp) -> BinaryOp
+    ensures { result ≡ binary_op op }
+{
     match op {
         ConstOp::Add => BinaryOp::Add,
         ConstOp::Sub => BinaryOp::Sub,
@@ -206,13 +228,20 @@ pub fn logical(
     }
 }
 
-fn ask_truths(ground: &mut Ground, x: &Option<Given>, y: &Option<Given>) -> bool {
+#[tactic(auto, using(typed_parts::proofs::Reports::reported_after))]
+fn ask_truths(ground: &mut Ground, x: &Option<Given>, y: &Option<Given>) -> bool
+    ensures holds { result ≡ truths_hold ground.old.types x.now y.now }
+    ensures broken { ground.new ≡ reported ground.old (truths_break ground.old.types x.now y.now) }
+{
     let first = ask_logic(ground, x);
     let second = ask_logic(ground, y);
     first && second
 }
 
-fn ask_logic(ground: &mut Ground, x: &Option<Given>) -> bool {
+fn ask_logic(ground: &mut Ground, x: &Option<Given>) -> bool
+    ensures holds { result ≡ holds_of (truth_given ground.old.types) x.now }
+    ensures broken { ground.new ≡ reported ground.old (broken_of (truth_given ground.old.types) BadOperand x.now) }
+{
     let Some(x) = x else {
         return true;
     };

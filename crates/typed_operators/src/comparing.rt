@@ -1,5 +1,8 @@
 //! Comparisons. Go specification, "Comparison operators" and "Expression switches".
 
+ghost use Rattle.std.specs.Prelude.{◌≡◌};
+ghost use Rattle.typed_operators.specs.Comparing.{tests_equality};
+
 use crate::pairs::{Pair, pair_of, paired};
 use go_base::{NoMemory, Pos, Rule, TypeId};
 use go_rules::{Matched, Untyped, fold_compare, match_compared, takes_comparison};
@@ -100,7 +103,9 @@ fn matched_for(types: &Types, op: CompareOp, first: TypeId, second: TypeId) -> O
     }
 }
 
-const fn tests_equality(op: CompareOp) -> bool {
+const fn tests_equality(op: CompareOp) -> bool
+    ensures { result ≡ tests_equality op }
+{
     matches!(op, CompareOp::Equal | CompareOp::NotEqual)
 }
 

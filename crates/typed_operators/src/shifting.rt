@@ -1,5 +1,10 @@
 //! Shifts. Go specification, "Operators".
 
+ghost use Rattle.std.specs.Prelude.{◌≡◌};
+ghost use Rattle.typed_operators.specs.Shifting.{is_negative, shift_op, shift_operand, shifted};
+ghost use Rattle.typed_parts.specs.Judged.{judged, reported};
+ghost use Rattle.typed_parts.specs.Numbers.{integer_of};
+
 use go_base::{NoMemory, Pos, Rule, TypeId};
 use go_rules::{fold_shift, takes_shift};
 use go_tree::{ExprKind, TypedExpr};
@@ -28,7 +33,10 @@ pub fn shift(
 }
 
 /// An operand of a shift. `BadShift` at one that is no integer.
-fn shifted_operand(ground: &mut Ground, x: Option<Given>) -> Option<Given> {
+fn shifted_operand(ground: &mut Ground, x: Option<Given>) -> Option<Given>
+    ensures answer { result ≡ (judged x (shift_operand ground.old.types)).sound }
+    ensures broken { ground.new ≡ reported ground.old (judged x (shift_operand ground.old.types)).broken }
+{
     let x = x?;
     let takes = takes_shift(&ground.types, x.expr.of);
     asked(ground, x, takes, Rule::BadShift)
@@ -47,7 +55,9 @@ fn shift_count(ground: &mut Ground, y: Option<Given>) -> Result<Option<TypedExpr
 }
 
 /// Whether an expression is a constant integer below 0.
-fn is_negative(expr: &TypedExpr) -> bool {
+fn is_negative(expr: &TypedExpr) -> bool
+    ensures { result ≡ is_negative (integer_of expr.now) }
+{
     match integer_of(expr) {
         Some(number) => number < 0,
         None => false,
@@ -78,7 +88,9 @@ fn shifted(
     )
 }
 
-const fn shift_op(left: bool) -> BinaryOp {
+const fn shift_op(left: bool) -> BinaryOp
+    ensures { result ≡ shift_op left }
+{
     if left {
         BinaryOp::ShiftLeft
     } else {
@@ -93,7 +105,10 @@ fn folded(
     a: i128,
     count: i128,
     of: TypeId,
-) -> Option<TypedExpr> {
+) -> Option<TypedExpr>
+    ensures answer { result ≡ (shifted ground.old.types left at a count of).sound }
+    ensures broken { ground.new ≡ reported ground.old (shifted ground.old.types left at a count of).broken }
+{
     match fold_shift(&ground.types, left, a, count, of) {
         Ok(value) => Some(node(at, of, ExprKind::ConstOf(value))),
         Err(breach) => {

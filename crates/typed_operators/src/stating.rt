@@ -1,7 +1,15 @@
 //! What statements and declarations ask of expressions. Go specification, "Statements" and "Constant declarations".
 
+ghost use Rattle.std.specs.Prelude.{◌≡◌, None, Some};
+ghost use Rattle.std.specs.Option.{option_map};
+ghost use Rattle.go_type.specs.declared.term.Basic.TheVariants.{Int as TheInt};
+ghost use Rattle.go_type.specs.Table.{basic_id};
+ghost use Rattle.typed_operators.specs.Stating.{elem_sent, has_constants, is_target, one_constant, one_more, range_over, range_parts, ranged, rounds, sent_elem, sent_to, stepped, target, target_given};
+ghost use Rattle.typed_parts.specs.Judged.{judged, reported};
+
+use crate::unary::signed;
 use go_base::{NoMemory, Rule, TypeId};
-use go_rules::{is_ordered, takes_logic, takes_sign};
+use go_rules::{is_ordered, takes_logic};
 use go_tree::{ExprKind, RangeOver, TypedExpr};
 use go_type::{Basic, Const, Dir, TypeTerm, Types, basic};
 use typed_parts::{
@@ -74,14 +82,20 @@ fn typed_constant(
 }
 
 /// A constant. `NotAConstant` at what is none.
-fn one_constant(ground: &mut Ground, x: Seen) -> Option<Given> {
+#[tactic(auto, using(typed_parts::proofs::Reports::reported_after))]
+fn one_constant(ground: &mut Ground, x: Seen) -> Option<Given>
+    ensures answer { result ≡ (one_constant ground.old.types x).sound }
+    ensures broken { ground.new ≡ reported ground.old (one_constant ground.old.types x).broken }
+{
     let x = one_value(ground, x)?;
     let is_one = is_constant(&x.expr);
     asked(ground, x, is_one, Rule::NotAConstant)
 }
 
 /// Whether a type has constants: of booleans, integers or strings.
-fn has_constants(types: &Types, of: TypeId) -> bool {
+fn has_constants(types: &Types, of: TypeId) -> bool
+    ensures { result ≡ has_constants types.now of }
+{
     is_ordered(types, of) || takes_logic(types, of)
 }
 
@@ -113,31 +127,64 @@ fn length_from(number: i128) -> Option<u64> {
 }
 
 /// A value that is assigned to: a place, or an element of a map. `CannotAssign` at any other.
-pub fn target(ground: &mut Ground, x: Seen) -> Option<TypedExpr> {
-    let x = one_value(ground, x)?;
-    let x = asked_target(ground, x)?;
-    Some(x.expr)
+pub fn target(ground: &mut Ground, x: Seen) -> Option<TypedExpr>
+    ensures answer { result ≡ option_map (λ given. given.expr) (target ground.old.types x).sound }
+    ensures broken { ground.new ≡ reported ground.old (target ground.old.types x).broken }
+{
+    match target_value(ground, x) {
+        Some(x) => Some(x.expr),
+        None => None,
+    }
 }
 
-fn asked_target(ground: &mut Ground, x: Given) -> Option<Given> {
+/// A value that may be assigned to.
+#[tactic(auto, using(typed_parts::proofs::Reports::reported_after))]
+fn target_value(ground: &mut Ground, x: Seen) -> Option<Given>
+    ensures answer { result ≡ (target ground.old.types x).sound }
+    ensures broken { ground.new ≡ reported ground.old (target ground.old.types x).broken }
+{
+    let x = one_value(ground, x)?;
+    asked_target(ground, x)
+}
+
+fn asked_target(ground: &mut Ground, x: Given) -> Option<Given>
+    ensures answer { result ≡ (target_given x).sound }
+    ensures broken { ground.new ≡ reported ground.old (target_given x).broken }
+{
     let may = is_target(&x.expr);
     asked(ground, x, may, Rule::CannotAssign)
 }
 
-fn is_target(expr: &TypedExpr) -> bool {
+fn is_target(expr: &TypedExpr) -> bool
+    ensures { result ≡ is_target expr.now }
+{
     matches!(&expr.kind, ExprKind::MapIndex { .. }) || is_place(expr)
 }
 
 /// `x++` or `x--`. `BadOperand` at what is no integer, and `CannotAssign` as `target`.
-pub fn step(ground: &mut Ground, x: Seen) -> Option<Stepped> {
-    let x = one_value(ground, x)?;
-    let is_integer = takes_sign(&ground.types, x.expr.of);
-    let x = asked(ground, x, is_integer, Rule::BadOperand)?;
-    let x = asked_target(ground, x)?;
-    Some(by_one(x.expr))
+pub fn step(ground: &mut Ground, x: Seen) -> Option<Stepped>
+    ensures answer { result ≡ option_map (λ given. one_more given.expr) (stepped ground.old.types x).sound }
+    ensures broken { ground.new ≡ reported ground.old (stepped ground.old.types x).broken }
+{
+    match stepped_value(ground, x) {
+        Some(x) => Some(by_one(x.expr)),
+        None => None,
+    }
 }
 
-fn by_one(target: TypedExpr) -> Stepped {
+/// An integer that may be assigned to.
+#[tactic(auto, using(typed_parts::proofs::Reports::reported_after))]
+fn stepped_value(ground: &mut Ground, x: Seen) -> Option<Given>
+    ensures answer { result ≡ (stepped ground.old.types x).sound }
+    ensures broken { ground.new ≡ reported ground.old (stepped ground.old.types x).broken }
+{
+    let x = signed(ground, x)?;
+    asked_target(ground, x)
+}
+
+fn by_one(target: TypedExpr) -> Stepped
+    ensures { result ≡ one_more target }
+{
     let one = node(target.at, target.of, ExprKind::ConstOf(Const::Int(1)));
     Stepped { target, one }
 }
@@ -159,13 +206,18 @@ pub fn send(ground: &mut Ground, channel: Seen, value: Seen) -> Result<Option<Se
 }
 
 /// A channel that may be sent to. `BadChannelOperation` at any other value.
-fn sent_to(ground: &mut Ground, channel: Option<Given>) -> Option<Given> {
+fn sent_to(ground: &mut Ground, channel: Option<Given>) -> Option<Given>
+    ensures answer { result ≡ (judged channel (sent_to ground.old.types)).sound }
+    ensures broken { ground.new ≡ reported ground.old (judged channel (sent_to ground.old.types)).broken }
+{
     let channel = channel?;
     let may = sent_elem(ground, channel.expr.of).is_some();
     asked(ground, channel, may, Rule::BadChannelOperation)
 }
 
-fn elem_sent(ground: &Ground, channel: &Option<Given>) -> Option<TypeId> {
+fn elem_sent(ground: &Ground, channel: &Option<Given>) -> Option<TypeId>
+    ensures { result ≡ elem_sent ground.now.types channel.now }
+{
     match channel {
         Some(channel) => sent_elem(ground, channel.expr.of),
         None => None,
@@ -173,7 +225,9 @@ fn elem_sent(ground: &Ground, channel: &Option<Given>) -> Option<TypeId> {
 }
 
 /// What is sent to a channel type that is not only for receiving.
-fn sent_elem(ground: &Ground, of: TypeId) -> Option<TypeId> {
+fn sent_elem(ground: &Ground, of: TypeId) -> Option<TypeId>
+    ensures { result ≡ sent_elem ground.now.types of }
+{
     match ground.types.underlying_term(of) {
         Some(
             TypeTerm::Chan {
@@ -206,11 +260,10 @@ pub fn range_operand(ground: &mut Ground, x: Seen) -> Result<Option<Ranged>, NoM
     }
 }
 
-fn range_over(parts: RangeParts, operand: TypedExpr) -> Ranged {
-    let constant = match parts.len {
-        Some(len) if !holds_call(&operand) => Some(len),
-        _ => None,
-    };
+fn range_over(parts: RangeParts, operand: TypedExpr) -> Ranged
+    ensures { result ≡ range_over parts operand }
+{
+    let constant = rounds(parts.len, holds_call(&operand));
     Ranged {
         over: parts.over,
         operand,
@@ -218,6 +271,13 @@ fn range_over(parts: RangeParts, operand: TypedExpr) -> Ranged {
         value: parts.value,
         constant,
     }
+}
+
+/// The rounds of a range over an array, where no call stands in its operand.
+const fn rounds(len: Option<u64>, calls: bool) -> Option<u64>
+    ensures { result ≡ rounds len calls }
+{
+    if calls { None } else { len }
 }
 
 /// What a range over values of a type gives.
@@ -230,7 +290,9 @@ struct RangeParts {
     len: Option<u64>,
 }
 
-fn range_parts(shape: Option<Shape>) -> Option<RangeParts> {
+fn range_parts(shape: Option<Shape>) -> Option<RangeParts>
+    ensures { result ≡ range_parts shape }
+{
     let int = basic(Basic::Int);
     match shape? {
         Shape::Text => Some(parts_of(RangeOver::Text, int, Some(basic(Basic::Int32)))),
@@ -247,7 +309,9 @@ fn range_parts(shape: Option<Shape>) -> Option<RangeParts> {
     }
 }
 
-const fn parts_of(over: RangeOver, key: TypeId, value: Option<TypeId>) -> RangeParts {
+const fn parts_of(over: RangeOver, key: TypeId, value: Option<TypeId>) -> RangeParts
+    ensures { result ≡ ranged over key value None }
+{
     RangeParts {
         over,
         key,
@@ -256,7 +320,9 @@ const fn parts_of(over: RangeOver, key: TypeId, value: Option<TypeId>) -> RangeP
     }
 }
 
-fn array_parts(over: RangeOver, len: u64, elem: TypeId) -> RangeParts {
+fn array_parts(over: RangeOver, len: u64, elem: TypeId) -> RangeParts
+    ensures { result ≡ ranged over (basic_id TheInt) (Some elem) (Some len) }
+{
     RangeParts {
         over,
         key: basic(Basic::Int),

@@ -1,5 +1,5 @@
 -- What a rule comes to: what it makes of sound parts, and the rules that are broken, each at its place.
-use Rattle.std.specs.Prelude.{List, [], ◌∷◌, ◌++◌, map, Option, Some, None}
+use Rattle.std.specs.Prelude.{◌≡◌, List, [], ◌∷◌, ◌++◌, map, Option, Some, None, Result, Ok, Err}
 use Rattle.go_base.specs.declared.place.Pos.{Pos}
 use Rattle.go_base.specs.declared.rule.Rule.{Rule}
 use Rattle.go_faults.specs.declared.fault.Fault.{Fault}
@@ -44,3 +44,15 @@ fault_in base b = record { phase = base.phase; «package» = base.«package»; p
 abbrev pub reported : Ground → List Broken → Ground
 reported base broken =
     record base { least = record { fault = least_with base.least.fault (map (fault_in base) broken) } }
+
+-- the answer is what a rule makes, and what it breaks was reported
+pub record Outcome {A : Type 0} (old new : Ground) (answer : Option A) (Is : Judged A → Type 0) : Type 0 where
+  pub judged : Judged A
+  pub is : Is judged
+  pub answers : answer ≡ judged.sound
+  pub reports : new ≡ reported old judged.broken
+
+-- the same, unless memory ran out
+abbrev pub Comes : {A E : Type 0} → Ground → Ground → Result (Option A) E → (Judged A → Type 0) → Type 0
+Comes old new (Ok answer) Is = Outcome old new answer Is
+Comes old new (Err error) Is = Unit {0}

@@ -1,0 +1,12 @@
+use Rattle.typed_operators.proofs.unary.operation.Goals as goal
+use Rattle.typed_operators.proofs.Opening.{opens_folded, opens_operated}
+
+pub returns-then-is_constant : goal.returns-then-is_constant
+returns-then-is_constant c =
+    opens_folded c.args.ground.now c.folded-value.new.ground c.args.at c.args.op c.args.x c.folded-value.result (cc)
+    c.folded-value.ensures.answer c.folded-value.ensures.broken
+
+pub returns-else-is_constant : goal.returns-else-is_constant
+returns-else-is_constant c =
+    opens_operated c.args.ground.now c.args.at c.args.op c.args.x c.operated.result c.sound.result (cc)
+    c.sound.ensures c.operated.ensures
