@@ -19,10 +19,10 @@ use Rattle.go_type.specs.Kinds.{kind_of}
 use Rattle.go_type.specs.Operators.{shift_of}
 use Rattle.go_type.specs.Table.{Table}
 use Rattle.typed_parts.specs.declared.ground.Ground.{Ground}
-use Rattle.typed_parts.specs.Joining.{both, items_of, listed, with_last}
+use Rattle.typed_parts.specs.Joining.{both, listed, with_last}
 use Rattle.typed_parts.specs.Judged.{Comes, Judged, Outcome, breaks, fine, reported}
 use Rattle.typed_parts.specs.Nodes.{node}
-use Rattle.typed_parts.specs.Retyping.{AreRetyped, IsGiven, IsOfEach, IsOfOne, IsOfTwo, IsRetyped, IsShifted, Makes}
+use Rattle.typed_parts.specs.Retyping.{AreRetyped, IsGiven, IsOfEach, IsOfList, IsOfOne, IsOfTwo, IsRetyped, IsShifted, Makes}
 use Rattle.typed_parts.specs.Retyping.{constant_as}
 use Rattle.typed_parts.proofs.Reports.{reported_after}
 use Rattle.typed_parts.proofs.Retypes.{came, of_one, of_two}
@@ -133,7 +133,7 @@ pub built_in_comes : (old new : Ground) (to : TypeId) (at : Pos) (builtin : Buil
     (xs : Vec TypedExpr) (spread : Bool)
     (arguments : Result (Option (Vec TypedExpr)) NoMemory) (result : Result (Option TypedExpr) NoMemory)
     → Comes old new (listed arguments) (AreRetyped old.types to xs.items)
-    → Makes (λ each. IsOfEach at to builtin (items_of each)) arguments result
+    → Makes (IsOfList at to builtin) arguments result
     → Comes old new result (IsRetyped old.types to at (kinds.BuiltinOf builtin form xs spread))
 built_in_comes old new to at builtin form xs spread arguments (Err error) h m = tt
 built_in_comes old new to at builtin form xs spread (Err error) (Ok result) h m = absurd m

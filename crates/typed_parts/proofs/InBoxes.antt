@@ -9,9 +9,9 @@ use Rattle.go_tree.specs.declared.exprs.ExprKind.TheVariants as kinds
 use Rattle.go_tree.specs.declared.exprs.TypedExpr.{TypedExpr}
 use Rattle.go_type.specs.declared.operators.BinaryOp.{BinaryOp}
 use Rattle.go_type.specs.declared.operators.Builtin.{Builtin}
-use Rattle.typed_parts.specs.Joining.{both, items_of}
+use Rattle.typed_parts.specs.Joining.{both}
 use Rattle.typed_parts.specs.Nodes.{AreBoxed, IsBoxed, node}
-use Rattle.typed_parts.specs.Retyping.{IsOfEach, IsOfOne, IsOfTwo, Makes}
+use Rattle.typed_parts.specs.Retyping.{IsOfList, IsOfOne, IsOfTwo, Makes}
 
 abbrev CameBox : Type 0
 CameBox = Result (Option (Box TypedExpr)) NoMemory
@@ -81,8 +81,9 @@ shift_of : (at : Pos) (of : TypeId) (op : BinaryOp) (operand : Result (Option Ty
 shift_of at of op operand (Err error) count b c made h e m = cc
 shift_of at of op operand (Ok None) count b c made h e m = cc
 shift_of at of op operand (Ok (Some d)) count b c made h e m =
-    let first : d ≡ b = cc in
-    let second : count ≡ c = cc in
+    let pairs : (d, count) ≡ (b, c) = cc in
+    let first : d ≡ b = ap (λ (p : Box TypedExpr × Box TypedExpr). p.0) pairs in
+    let second : count ≡ c = ap (λ (p : Box TypedExpr × Box TypedExpr). p.1) pairs in
     one_of at of (λ x. kinds.BinaryOf op x count) operand d made h
     (m ∙ (ap (λ (x : Box TypedExpr). node at of (kinds.BinaryOf op x c)) (sym first)
     ∙ ap (λ (y : Box TypedExpr). node at of (kinds.BinaryOf op d y)) (sym second)))
@@ -115,12 +116,12 @@ CameList = Result (Option (Vec TypedExpr)) NoMemory
 pub each_made : (at : Pos) (of : TypeId) (builtin : Builtin) (arguments : CameList) (o : Option (Vec TypedExpr))
     (v : Vec TypedExpr) (made : TypedExpr) → arguments ≡ Ok o → o ≡ Some v
     → made ≡ node at of (kinds.BuiltinOf builtin None v false)
-    → Makes (λ each. IsOfEach at of builtin (items_of each)) arguments (Ok (Some made))
+    → Makes (IsOfList at of builtin) arguments (Ok (Some made))
 each_made at of builtin arguments o v made was is m =
-    subst (λ (r : CameList). Makes (λ each. IsOfEach at of builtin (items_of each)) r (Ok (Some made)))
+    subst (λ (r : CameList). Makes (IsOfList at of builtin) r (Ok (Some made)))
     (sym (was ∙ ap Ok is)) (v, (refl, ap Some m))
 
 pub each_not_made : (at : Pos) (of : TypeId) (builtin : Builtin) (arguments : CameList) (o : Option (Vec TypedExpr))
-    → arguments ≡ Ok o → o ≡ None → Makes (λ each. IsOfEach at of builtin (items_of each)) arguments (Ok None)
+    → arguments ≡ Ok o → o ≡ None → Makes (IsOfList at of builtin) arguments (Ok None)
 each_not_made at of builtin arguments o was is =
-    subst (λ (r : CameList). Makes (λ each. IsOfEach at of builtin (items_of each)) r (Ok None)) (sym (was ∙ ap Ok is)) refl
+    subst (λ (r : CameList). Makes (IsOfList at of builtin) r (Ok None)) (sym (was ∙ ap Ok is)) refl

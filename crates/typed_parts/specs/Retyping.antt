@@ -23,7 +23,7 @@ use Rattle.go_type.specs.declared.term.Basic.{Basic}
 use Rattle.go_type.specs.Kinds.{kind_of}
 use Rattle.go_type.specs.Operators.{shift_of}
 use Rattle.go_type.specs.Table.{Table, basic_id}
-use Rattle.typed_parts.specs.Joining.{with_last}
+use Rattle.typed_parts.specs.Joining.{items_of, with_last}
 use Rattle.typed_parts.specs.Judged.{Judged, fine, breaks}
 use Rattle.typed_parts.specs.Nodes.{node, untyped}
 
@@ -45,6 +45,9 @@ abbrev pub IsOfEach : Pos → TypeId → Builtin → Option (List TypedExpr) →
 IsOfEach at of builtin None result = result ≡ None
 IsOfEach at of builtin (Some xs) result =
     (v : Vec TypedExpr) × ((v.items ≡ xs) × (result ≡ Some (node at of (BuiltinOf builtin None v false))))
+
+abbrev pub IsOfList : Pos → TypeId → Builtin → Option (Vec TypedExpr) → Option TypedExpr → Type 0
+IsOfList at of builtin list result = IsOfEach at of builtin (items_of list) result
 
 -- the same of operands that came, unless memory ran out
 abbrev pub Makes : {A E : Type 0} → (A → Option TypedExpr → Type 0) → Result A E → Result (Option TypedExpr) E → Type 0

@@ -3,9 +3,9 @@
 ghost use Rattle.std.specs.Prelude.{◌≡◌, is_some};
 ghost use Rattle.go_tree.specs.declared.exprs.ExprKind.TheVariants as kinds;
 ghost use Rattle.go_type.specs.Operators.{shift_of};
-ghost use Rattle.typed_parts.specs.Joining.{both, items_of, listed};
+ghost use Rattle.typed_parts.specs.Joining.{both, listed};
 ghost use Rattle.typed_parts.specs.Judged.{Comes, reported};
-ghost use Rattle.typed_parts.specs.Retyping.{AreRetyped, IsDefaulted, IsGiven, IsOfEach, IsOfOne, IsOfTwo, IsShifted, Makes, constant_as, rekinded};
+ghost use Rattle.typed_parts.specs.Retyping.{AreRetyped, IsDefaulted, IsGiven, IsOfList, IsOfOne, IsOfTwo, IsShifted, Makes, constant_as, rekinded};
 
 use crate::ground::{Ground, lost};
 use crate::joining::{both, with_last};
@@ -210,7 +210,7 @@ fn built_in_of(
     builtin: Builtin,
     arguments: Result<Option<Vec<TypedExpr>>, NoMemory>,
 ) -> Result<Option<TypedExpr>, NoMemory>
-    ensures { Makes (λ each. IsOfEach at of builtin (items_of each)) arguments result }
+    ensures { Makes (IsOfList at of builtin) arguments result }
 {
     match arguments? {
         Some(arguments) => Ok(Some(node(
