@@ -1,6 +1,6 @@
 //! Parameters put together with their names, and fields without names of their own.
 
-ghost use Rattle.std.specs.Prelude.{◌≡◌, Some, None};
+ghost use Rattle.std.specs.Prelude.{◌≡◌, Some, None, IfErr};
 ghost use Rattle.go_grammar.specs.Forests.{empty};
 ghost use Rattle.go_grammar.specs.TypeReading.{begins_embedded, embedded_behind, begins_named_param, param_name_in, has_names, param_of, is_none, name_of_type, groups_of, types_of, params_of};
 ghost use Rattle.go_grammar.specs.View.{view_field_line, view_param, view_listed_name, view_type_expr, view_named, each};
@@ -52,7 +52,8 @@ fn ends_embedded_field(tokens: &[Token]) -> bool
 /// `T` or `*T` as a field, and the semicolon behind it.
 #[tactic(auto, using(go_grammar::proofs::Views::view_field_line_embedded, crate::proofs::Lines::braces_end))]
 pub fn embedded_field(tokens: &[Token]) -> Result<(FieldLine, &[Token]), Stop>
-    ensures { Gives (λ x. (view_field_line x.0, x.1.now)) result (embedded_line_in (parsers 0) tokens.now) }
+    ensures read { Gives (λ x. (view_field_line x.0, x.1.now)) result (embedded_line_in (parsers 0) tokens.now) }
+    ensures unexpected { IfErr result (λ stop. stop ≡ Stop.Unexpected) }
 {
     let (star, rest) = optional(tokens, Kind::Star);
     let (name, rest) = type_name(rest)?;
@@ -178,7 +179,8 @@ fn name_of_this_package(name: NamedType) -> Option<Token>
 /// A name that was read as a type, and the comma behind it.
 #[tactic(auto, using(crate::proofs::Grouping::name_by_parts))]
 fn name_read_as_type(entry: &Entry) -> Result<ListedName, Stop>
-    ensures { Gives view_listed_name result (name_of_type entry.now.ellipsis (view_type_expr entry.now.form.value) entry.now.comma) }
+    ensures read { Gives view_listed_name result (name_of_type entry.now.ellipsis (view_type_expr entry.now.form.value) entry.now.comma) }
+    ensures unexpected { IfErr result (λ stop. stop ≡ Stop.Unexpected) }
 {
     match (entry.ellipsis, local_name(&entry.form), entry.comma) {
         (None, Some(name), Some(comma)) => Ok(ListedName {
@@ -239,7 +241,8 @@ fn with_param(
 
 /// The parameters, where no name is left.
 fn closed(groups: Groups) -> Result<Vec<Param>, Stop>
-    ensures { Gives (λ x. each view_param x.items) result (closed_groups (each view_param groups.params.items) (each view_listed_name groups.names.items)) }
+    ensures read { Gives (λ x. each view_param x.items) result (closed_groups (each view_param groups.params.items) (each view_listed_name groups.names.items)) }
+    ensures unexpected { IfErr result (λ stop. stop ≡ Stop.Unexpected) }
 {
     if has_no_name(&groups.names) {
         return Ok(groups.params);
@@ -268,7 +271,8 @@ fn with_names(alloc: Global, variadic: bool, list: Vec<Entry>) -> Result<Vec<Par
 
 /// A parameter without a name.
 fn without_name(alloc: Global, allowed: bool, entry: Entry) -> Result<Param, Stop>
-    ensures { Gives view_param result (type_turn allowed (view_entry entry)) }
+    ensures read { Gives view_param result (type_turn allowed (view_entry entry)) }
+    ensures unexpected { IfErr result (λ stop. stop ≡ Stop.Unexpected) }
 {
     if is_ellipsis_allowed(entry.ellipsis, allowed) {
         return Ok(param_of(Vec::new(alloc), entry));

@@ -1,6 +1,6 @@
 //! What an expression that was read may be used as, and where it stands.
 
-ghost use Rattle.std.specs.Prelude.{◌≡◌, Some};
+ghost use Rattle.std.specs.Prelude.{◌≡◌, Some, IfErr};
 ghost use Rattle.go_ast.specs.declared.token.Kind.TheVariants.{OpenBrace, OpenBracket, Ellipsis};
 ghost use Rattle.go_grammar.specs.ExprReading as exprs;
 ghost use Rattle.go_grammar.specs.ExprReading.{begins_suffix};
@@ -145,7 +145,8 @@ pub fn literal_type(alloc: Global, left: Box<Expr>) -> Result<Box<TypeExpr>, Sto
 /// The name of a type, of what was read as an expression.
 #[tactic(auto, using(go_grammar::proofs::Views::view_expr_name, go_grammar::proofs::Views::view_expr_selector, crate::proofs::Variants::imported_none, crate::proofs::Variants::imported_some))]
 fn type_name_of(expr: &Expr) -> Result<NamedType, Stop>
-    ensures { Gives view_named result (type_named (view_expr expr.now)) }
+    ensures read { Gives view_named result (type_named (view_expr expr.now)) }
+    ensures unexpected { IfErr result (λ stop. stop ≡ Stop.Unexpected) }
 {
     match expr {
         Expr::Name(name) => Ok(NamedType::Local(*name)),
@@ -188,7 +189,8 @@ fn with_sign(alloc: Global, operator: Token, operand: Box<Expr>) -> Result<Box<E
 
 /// The expression of a list of one, which no comma follows.
 pub fn single(list: Vec<ListedExpr>) -> Result<Box<Expr>, Stop>
-    ensures { Gives (λ x. view_expr x.value) result (single_of (each view_listed_expr list.items)) }
+    ensures read { Gives (λ x. view_expr x.value) result (single_of (each view_listed_expr list.items)) }
+    ensures unexpected { IfErr result (λ stop. stop ≡ Stop.Unexpected) }
 {
     let mut list = list;
     let Some(last) = list.pop() else {
@@ -206,7 +208,8 @@ pub fn single(list: Vec<ListedExpr>) -> Result<Box<Expr>, Stop>
 
 /// The token of a name.
 pub fn name_of(expr: Box<Expr>) -> Result<Token, Stop>
-    ensures { Gives one result (name_token (view_expr expr.value)) }
+    ensures read { Gives one result (name_token (view_expr expr.value)) }
+    ensures unexpected { IfErr result (λ stop. stop ≡ Stop.Unexpected) }
 {
     token_of_name(&expr)
 }
@@ -214,7 +217,8 @@ pub fn name_of(expr: Box<Expr>) -> Result<Token, Stop>
 /// The token of a name.
 #[tactic(auto, using(go_grammar::proofs::Views::view_expr_name))]
 fn token_of_name(expr: &Expr) -> Result<Token, Stop>
-    ensures { Gives one result (name_token (view_expr expr.now)) }
+    ensures read { Gives one result (name_token (view_expr expr.now)) }
+    ensures unexpected { IfErr result (λ stop. stop ≡ Stop.Unexpected) }
 {
     match expr {
         Expr::Name(name) => Ok(*name),
@@ -224,7 +228,8 @@ fn token_of_name(expr: &Expr) -> Result<Token, Stop>
 
 /// An operand and what follows it, as against one with operators.
 pub fn primary_of(expr: Box<Expr>) -> Result<Box<Expr>, Stop>
-    ensures { Gives (λ x. view_expr x.value) result (stmts.primary_of (view_expr expr.value)) }
+    ensures read { Gives (λ x. view_expr x.value) result (stmts.primary_of (view_expr expr.value)) }
+    ensures unexpected { IfErr result (λ stop. stop ≡ Stop.Unexpected) }
 {
     if is_primary(&expr) {
         return Ok(expr);

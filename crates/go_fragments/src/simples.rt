@@ -1,6 +1,6 @@
 //! What statements are made of once their expressions were read.
 
-ghost use Rattle.std.specs.Prelude.{◌≡◌, Some, not};
+ghost use Rattle.std.specs.Prelude.{◌≡◌, Some, IfErr, not};
 ghost use Rattle.go_grammar.specs.Forests.{node, empty};
 ghost use Rattle.go_grammar.specs.Forests.{IfForm, SwitchForm, TypeSwitchForm};
 ghost use Rattle.go_grammar.specs.StmtReading as readings;
@@ -92,7 +92,8 @@ pub fn ends_statements(tokens: &[Token]) -> bool
 
 /// One label. Go specification, "Labeled statements".
 fn label(tokens: &[Token]) -> Result<(Label, &[Token]), Stop>
-    ensures { Gives (λ x. (view_label x.0, x.1.now)) result (label_in tokens.now) }
+    ensures read { Gives (λ x. (view_label x.0, x.1.now)) result (label_in tokens.now) }
+    ensures unexpected { IfErr result (λ stop. stop ≡ Stop.Unexpected) }
 {
     let (name, rest) = skip(tokens, Kind::Name)?;
     let (colon, rest) = skip(rest, Kind::Colon)?;
@@ -209,7 +210,8 @@ pub fn optional_stmt_of(alloc: Global, simple: Option<Simple>) -> Result<Option<
 
 /// A condition that was read as a statement.
 pub fn condition_of(simple: Option<Simple>) -> Result<Box<Expr>, Stop>
-    ensures { Gives boxed_expr result (readings.expr_of (if_some view_simple simple)) }
+    ensures read { Gives boxed_expr result (readings.expr_of (if_some view_simple simple)) }
+    ensures unexpected { IfErr result (λ stop. stop ≡ Stop.Unexpected) }
 {
     match simple {
         Some(Simple::Expr(expr)) => Ok(expr),
@@ -219,7 +221,8 @@ pub fn condition_of(simple: Option<Simple>) -> Result<Box<Expr>, Stop>
 
 /// A tag that was read as a statement, where there is one.
 pub fn tag_of(simple: Option<Simple>) -> Result<Option<Box<Expr>>, Stop>
-    ensures { Gives (λ x. if_some boxed_expr x) result (readings.tag_of (if_some view_simple simple)) }
+    ensures read { Gives (λ x. if_some boxed_expr x) result (readings.tag_of (if_some view_simple simple)) }
+    ensures unexpected { IfErr result (λ stop. stop ≡ Stop.Unexpected) }
 {
     match simple {
         Some(Simple::Expr(expr)) => Ok(Some(expr)),
@@ -230,7 +233,8 @@ pub fn tag_of(simple: Option<Simple>) -> Result<Option<Box<Expr>>, Stop>
 
 /// `.(type)`
 pub fn guard_suffix(tokens: &[Token]) -> Result<(GuardSuffix, &[Token]), Stop>
-    ensures { Gives (λ x. (view_suffix x.0, x.1.now)) result (suffix_in tokens.now) }
+    ensures read { Gives (λ x. (view_suffix x.0, x.1.now)) result (suffix_in tokens.now) }
+    ensures unexpected { IfErr result (λ stop. stop ≡ Stop.Unexpected) }
 {
     let (dot, rest) = skip(tokens, Kind::Dot)?;
     let (open_paren, rest) = skip(rest, Kind::OpenParen)?;
@@ -247,7 +251,8 @@ pub fn guard_suffix(tokens: &[Token]) -> Result<(GuardSuffix, &[Token]), Stop>
 
 /// The front of a guard that was read as a statement.
 pub fn guard_of(simple: Option<Simple>) -> Result<Guard, Stop>
-    ensures { Gives view_guard result (readings.guard_of (if_some view_simple simple)) }
+    ensures read { Gives view_guard result (readings.guard_of (if_some view_simple simple)) }
+    ensures unexpected { IfErr result (λ stop. stop ≡ Stop.Unexpected) }
 {
     match simple {
         Some(Simple::Expr(expr)) => {
@@ -269,7 +274,8 @@ pub fn guard_of(simple: Option<Simple>) -> Result<Guard, Stop>
 /// The front of a guard with a name that is bound.
 #[tactic(auto, using(crate::proofs::Guards::bounds))]
 fn bound_of(targets: Vec<ListedExpr>, define: Token, values: Vec<ListedExpr>) -> Result<Guard, Stop>
-    ensures { Gives view_guard result (readings.bound_of (each view_listed_expr targets.items ⊕ one define ⊕ each view_listed_expr values.items)) }
+    ensures read { Gives view_guard result (readings.bound_of (each view_listed_expr targets.items ⊕ one define ⊕ each view_listed_expr values.items)) }
+    ensures unexpected { IfErr result (λ stop. stop ≡ Stop.Unexpected) }
 {
     let name = name_of(single(targets)?)?;
     let operand = primary_of(single(values)?)?;

@@ -1,6 +1,6 @@
 //! Readers of what holds no tree: each gives what it read, and the tokens behind.
 
-ghost use Rattle.std.specs.Prelude.{◌≡◌, ◌+◌, ◌≤◌, ◌||◌, IfSome, Some};
+ghost use Rattle.std.specs.Prelude.{◌≡◌, ◌+◌, ◌≤◌, ◌||◌, IfErr, IfSome, Some};
 ghost use Rattle.std.specs.Option.{is_some};
 ghost use Rattle.go_ast.specs.declared.token.Kind.TheVariants.{Arrow, CloseBrace, Comma, Name};
 ghost use Rattle.go_grammar.specs.Forests.{append};
@@ -42,7 +42,8 @@ pub fn begins_with_both(tokens: &[Token], kind: Kind, second_kind: Kind) -> bool
 
 /// A token of this kind.
 pub fn skip(tokens: &[Token], kind: Kind) -> Result<(Token, &[Token]), Stop>
-    ensures { Gives (λ x. (one x.0, x.1.now)) result (word_in kind tokens.now) }
+    ensures read { Gives (λ x. (one x.0, x.1.now)) result (word_in kind tokens.now) }
+    ensures unexpected { IfErr result (λ stop. stop ≡ Stop.Unexpected) }
 {
     match tokens {
         [first, rest @ ..] if first.kind == kind => Ok((*first, rest)),
@@ -90,7 +91,8 @@ pub fn begins_with_semicolon(tokens: &[Token]) -> bool
 
 /// A semicolon, written or put in at the end of a line.
 pub fn semicolon(tokens: &[Token]) -> Result<(Token, &[Token]), Stop>
-    ensures { Gives (λ x. (one x.0, x.1.now)) result (sign_in is_semicolon tokens.now) }
+    ensures read { Gives (λ x. (one x.0, x.1.now)) result (sign_in is_semicolon tokens.now) }
+    ensures unexpected { IfErr result (λ stop. stop ≡ Stop.Unexpected) }
 {
     match tokens {
         [first, rest @ ..] if is_semicolon(first.kind) => Ok((*first, rest)),
@@ -107,7 +109,8 @@ pub fn ends_statement(tokens: &[Token]) -> bool
 
 /// The semicolon behind a line, which may be left out before the end.
 pub fn line_end(tokens: &[Token], end: Kind) -> Result<(Option<Token>, &[Token]), Stop>
-    ensures { Gives (λ x. (token_if x.0, x.1.now)) result (line_end_in end tokens.now) }
+    ensures read { Gives (λ x. (token_if x.0, x.1.now)) result (line_end_in end tokens.now) }
+    ensures unexpected { IfErr result (λ stop. stop ≡ Stop.Unexpected) }
 {
     match tokens {
         [] => Ok((None, tokens)),
@@ -127,6 +130,7 @@ pub fn line_end(tokens: &[Token], end: Kind) -> Result<(Option<Token>, &[Token])
 pub fn separator(tokens: &[Token], end: Kind) -> Result<(Option<Token>, &[Token]), Stop>
     ensures same { Gives (λ x. (x.0, x.1.now)) result (separator_in end tokens.now) }
     ensures read { Gives (λ x. (token_if x.0, x.1.now)) result (comma_in end tokens.now) }
+    ensures unexpected { IfErr result (λ stop. stop ≡ Stop.Unexpected) }
 {
     match tokens {
         [] => Err(Stop::Unexpected),
@@ -173,7 +177,8 @@ pub fn names(alloc: Global, tokens: &[Token]) -> Result<(Vec<ListedName>, &[Toke
 
 /// A comma, and a name behind it.
 fn next_name(tokens: &[Token]) -> Result<(Token, Token, &[Token]), Stop>
-    ensures { Gives (λ x. (append (one x.0) (one x.1), x.2.now)) result (then_in (word_in Comma) (word_in Name) tokens.now) }
+    ensures read { Gives (λ x. (append (one x.0) (one x.1), x.2.now)) result (then_in (word_in Comma) (word_in Name) tokens.now) }
+    ensures unexpected { IfErr result (λ stop. stop ≡ Stop.Unexpected) }
 {
     let (comma, rest) = skip(tokens, Kind::Comma)?;
     let (name, rest) = skip(rest, Kind::Name)?;
@@ -182,7 +187,8 @@ fn next_name(tokens: &[Token]) -> Result<(Token, Token, &[Token]), Stop>
 
 /// The name of a type. Go specification, "Qualified identifiers".
 pub fn type_name(tokens: &[Token]) -> Result<(NamedType, &[Token]), Stop>
-    ensures { Gives (λ x. (view_named x.0, x.1.now)) result (type_name_in tokens.now) }
+    ensures read { Gives (λ x. (view_named x.0, x.1.now)) result (type_name_in tokens.now) }
+    ensures unexpected { IfErr result (λ stop. stop ≡ Stop.Unexpected) }
 {
     let (package, rest) = skip(tokens, Kind::Name)?;
     if !begins_with(rest, Kind::Dot) {

@@ -1,6 +1,6 @@
 //! Files, part after part: the package clause, imports and declarations. Go specification, "Source file organization".
 
-ghost use Rattle.std.specs.Prelude.{◌≡◌, ◌-◌, length, true, IfOk, Ok, Err, if◌then◌else◌};
+ghost use Rattle.std.specs.Prelude.{◌≡◌, ◌-◌, length, true, IfErr, IfOk, Ok, Err, if◌then◌else◌};
 ghost use Rattle.go_grammar.specs.FileReading.{parsers};
 ghost use Rattle.go_grammar.specs.PartReading.{file_by_parts};
 ghost use Rattle.go_grammar.specs.View.{view_file, view_import, view_import_spec, view_line, one, token_if, each, ◌⊕◌};
@@ -30,7 +30,8 @@ struct PackageClause {
 
 /// Go specification, "Package clause".
 fn package_clause(tokens: &[Token]) -> Result<(PackageClause, &[Token]), Stop>
-    ensures { Gives (λ x. (view_clause x.0, x.1.now)) result (clause_in tokens.now) }
+    ensures read { Gives (λ x. (view_clause x.0, x.1.now)) result (clause_in tokens.now) }
+    ensures unexpected { IfErr result (λ stop. stop ≡ Stop.Unexpected) }
 {
     let (word, rest) = skip(tokens, Kind::PackageWord)?;
     let (name, rest) = skip(rest, Kind::Name)?;
@@ -45,7 +46,8 @@ fn package_clause(tokens: &[Token]) -> Result<(PackageClause, &[Token]), Stop>
 
 /// The path of an import, with a name where it has one.
 fn import_path(tokens: &[Token]) -> Result<(Option<Token>, Token, &[Token]), Stop>
-    ensures { Gives (λ x. (token_if x.0 ⊕ one x.1, x.2.now)) result (path_in tokens.now) }
+    ensures read { Gives (λ x. (token_if x.0 ⊕ one x.1, x.2.now)) result (path_in tokens.now) }
+    ensures unexpected { IfErr result (λ stop. stop ≡ Stop.Unexpected) }
 {
     let (name, rest) = optional(tokens, Kind::Name);
     let (path, rest) = skip(rest, Kind::Text)?;
@@ -54,7 +56,8 @@ fn import_path(tokens: &[Token]) -> Result<(Option<Token>, Token, &[Token]), Sto
 
 /// An import in parentheses, and the semicolon behind it.
 fn import_line(tokens: &[Token]) -> Result<(ImportSpec, &[Token]), Stop>
-    ensures { Gives (λ x. (view_import_spec x.0, x.1.now)) result (import_line_in tokens.now) }
+    ensures read { Gives (λ x. (view_import_spec x.0, x.1.now)) result (import_line_in tokens.now) }
+    ensures unexpected { IfErr result (λ stop. stop ≡ Stop.Unexpected) }
 {
     let (name, path, rest) = import_path(tokens)?;
     let (semicolon, rest) = line_end(rest, Kind::CloseParen)?;

@@ -151,7 +151,7 @@ pub exprs::element-returns-then-begins_with : goal.exprs::element-returns-then-b
 exprs::element-returns-then-begins_with t c =
     element_with_key (parsers c.args.depth) c.args.tokens.now c.in_ok-first.rest.now c.in_ok-colon.rest.now c.in_ok-value.rest.now c.in_ok-comma.rest.now
     (view_expr c.in_ok-first.first.value) (one c.in_ok-colon.colon) (view_expr c.in_ok-value.value.value) (token_if c.in_ok-comma.comma) _
-    c.in_ok-first.ensures (sym c.begins_with.ensures ∙ c.if-begins_with.true) c.in_ok-colon.ensures c.in_ok-value.ensures c.in_ok-comma.ensures.read (view_element_made _)
+    c.in_ok-first.ensures (sym c.begins_with.ensures ∙ c.if-begins_with.true) c.in_ok-colon.ensures.read c.in_ok-value.ensures c.in_ok-comma.ensures.read (view_element_made _)
 
 pub exprs::elements-loop-preserved : goal.exprs::elements-loop-preserved
 exprs::elements-loop-preserved t c =
@@ -368,35 +368,35 @@ stmts::for_rest-returns-in_err-init t c =
 pub stmts::for_rest-returns-in_err-condition : goal.stmts::for_rest-returns-in_err-condition
 stmts::for_rest-returns-in_err-condition t c =
     let fails : Fails c.in_err-condition.field-0.0 (for_rest_in (parsers c.args.depth) (one c.args.word) (each view_listed_expr c.args.targets.items) c.args.tokens.now) =
-    rest_no_condition (parsers c.args.depth) (one c.args.word) (each view_listed_expr c.args.targets.items) c.args.tokens.now (c.range_assignment.ensures.found ∙ ap is_some c.in_default.is) (view_simple c.in_ok-simple.simple) c.in_ok-simple.rest.now c.in_ok-simple.ensures.read c.in_err-condition.field-0.0 (sym c.begins_with_semicolon.ensures ∙ c.if-begins_with_semicolon.false) c.in_err-condition.ensures in
+    rest_no_condition (parsers c.args.depth) (one c.args.word) (each view_listed_expr c.args.targets.items) c.args.tokens.now (c.range_assignment.ensures.found ∙ ap is_some c.in_default.is) (view_simple c.in_ok-simple.simple) c.in_ok-simple.rest.now c.in_ok-simple.ensures.read c.in_err-condition.field-0.0 (sym c.begins_with_semicolon.ensures ∙ c.if-begins_with_semicolon.false) c.in_err-condition.ensures.read in
     search rules
 
 pub stmts::for_rest-returns : goal.stmts::for_rest-returns
-stmts::for_rest-returns t c = rw (rest_while (parsers c.args.depth) (one c.args.word) (each view_listed_expr c.args.targets.items) c.args.tokens.now (c.range_assignment.ensures.found ∙ ap is_some c.in_default.is) (view_simple c.in_ok-simple.simple) c.in_ok-simple.rest.now c.in_ok-simple.ensures.read (boxed_expr c.in_ok-condition.condition) (sym c.begins_with_semicolon.ensures ∙ c.if-begins_with_semicolon.false) c.in_ok-condition.ensures) c.while_stmt.ensures
+stmts::for_rest-returns t c = rw (rest_while (parsers c.args.depth) (one c.args.word) (each view_listed_expr c.args.targets.items) c.args.tokens.now (c.range_assignment.ensures.found ∙ ap is_some c.in_default.is) (view_simple c.in_ok-simple.simple) c.in_ok-simple.rest.now c.in_ok-simple.ensures.read (boxed_expr c.in_ok-condition.condition) (sym c.begins_with_semicolon.ensures ∙ c.if-begins_with_semicolon.false) c.in_ok-condition.ensures.read) c.while_stmt.ensures
 
 pub stmts::for_stmt-returns-in_err-word : goal.stmts::for_stmt-returns-in_err-word
 stmts::for_stmt-returns-in_err-word t c =
     let fails : Fails c.in_err-word.field-0.0 (for_in (parsers c.args.depth) c.args.tokens.now) =
-    for_no_word (parsers c.args.depth) c.args.tokens.now c.in_err-word.field-0.0 c.in_err-word.ensures in
+    for_no_word (parsers c.args.depth) c.args.tokens.now c.in_err-word.field-0.0 c.in_err-word.ensures.read in
     search rules
 
 pub stmts::for_stmt-returns-then-is_range : goal.stmts::for_stmt-returns-then-is_range
-stmts::for_stmt-returns-then-is_range t c = rw (for_range (parsers c.args.depth) c.args.tokens.now c.in_ok-word.rest.now (one c.in_ok-word.word) c.in_ok-word.ensures c.new.result.items c.new.ensures.items (sym c.begins_with-is_range.ensures ∙ c.if-is_range.true)) c.range_stmt.ensures
+stmts::for_stmt-returns-then-is_range t c = rw (for_range (parsers c.args.depth) c.args.tokens.now c.in_ok-word.rest.now (one c.in_ok-word.word) c.in_ok-word.ensures.read c.new.result.items c.new.ensures.items (sym c.begins_with-is_range.ensures ∙ c.if-is_range.true)) c.range_stmt.ensures
 
 pub stmts::for_stmt-returns-then-begins_with_semicolon : goal.stmts::for_stmt-returns-then-begins_with_semicolon
-stmts::for_stmt-returns-then-begins_with_semicolon t c = rw (for_empty (parsers c.args.depth) c.args.tokens.now c.in_ok-word.rest.now (one c.in_ok-word.word) c.in_ok-word.ensures (sym c.begins_with-is_range.ensures ∙ c.if-is_range.false) (sym c.begins_with_semicolon.ensures ∙ c.if-begins_with_semicolon.true)) c.for_clauses.ensures
+stmts::for_stmt-returns-then-begins_with_semicolon t c = rw (for_empty (parsers c.args.depth) c.args.tokens.now c.in_ok-word.rest.now (one c.in_ok-word.word) c.in_ok-word.ensures.read (sym c.begins_with-is_range.ensures ∙ c.if-is_range.false) (sym c.begins_with_semicolon.ensures ∙ c.if-begins_with_semicolon.true)) c.for_clauses.ensures
 
 pub stmts::for_stmt-returns-then-begins_with_braces : goal.stmts::for_stmt-returns-then-begins_with_braces
-stmts::for_stmt-returns-then-begins_with_braces t c = rw (for_ever (parsers c.args.depth) c.args.tokens.now c.in_ok-word.rest.now (one c.in_ok-word.word) c.in_ok-word.ensures (sym c.begins_with-is_range.ensures ∙ c.if-is_range.false) (sym c.begins_with_semicolon.ensures ∙ c.if-begins_with_semicolon.false) (sym c.begins_with_braces.ensures ∙ c.if-begins_with_braces.true)) c.while_stmt.ensures
+stmts::for_stmt-returns-then-begins_with_braces t c = rw (for_ever (parsers c.args.depth) c.args.tokens.now c.in_ok-word.rest.now (one c.in_ok-word.word) c.in_ok-word.ensures.read (sym c.begins_with-is_range.ensures ∙ c.if-is_range.false) (sym c.begins_with_semicolon.ensures ∙ c.if-begins_with_semicolon.false) (sym c.begins_with_braces.ensures ∙ c.if-begins_with_braces.true)) c.while_stmt.ensures
 
 pub stmts::for_stmt-returns-in_err-targets : goal.stmts::for_stmt-returns-in_err-targets
 stmts::for_stmt-returns-in_err-targets t c =
     let fails : Fails c.in_err-targets.field-0.0 (for_in (parsers c.args.depth) c.args.tokens.now) =
-    for_no_targets (parsers c.args.depth) c.args.tokens.now c.in_ok-word.rest.now (one c.in_ok-word.word) c.in_ok-word.ensures (sym c.begins_with-is_range.ensures ∙ c.if-is_range.false) (sym c.begins_with_semicolon.ensures ∙ c.if-begins_with_semicolon.false) (sym c.begins_with_braces.ensures ∙ c.if-begins_with_braces.false) c.in_err-targets.field-0.0 c.in_err-targets.ensures in
+    for_no_targets (parsers c.args.depth) c.args.tokens.now c.in_ok-word.rest.now (one c.in_ok-word.word) c.in_ok-word.ensures.read (sym c.begins_with-is_range.ensures ∙ c.if-is_range.false) (sym c.begins_with_semicolon.ensures ∙ c.if-begins_with_semicolon.false) (sym c.begins_with_braces.ensures ∙ c.if-begins_with_braces.false) c.in_err-targets.field-0.0 c.in_err-targets.ensures in
     search rules
 
 pub stmts::for_stmt-returns : goal.stmts::for_stmt-returns
-stmts::for_stmt-returns t c = rw (for_targets (parsers c.args.depth) c.args.tokens.now c.in_ok-word.rest.now (one c.in_ok-word.word) c.in_ok-word.ensures (sym c.begins_with-is_range.ensures ∙ c.if-is_range.false) (sym c.begins_with_semicolon.ensures ∙ c.if-begins_with_semicolon.false) (sym c.begins_with_braces.ensures ∙ c.if-begins_with_braces.false) (each view_listed_expr c.in_ok-targets.targets.items) c.in_ok-targets.rest.now c.in_ok-targets.ensures) c.for_rest.ensures
+stmts::for_stmt-returns t c = rw (for_targets (parsers c.args.depth) c.args.tokens.now c.in_ok-word.rest.now (one c.in_ok-word.word) c.in_ok-word.ensures.read (sym c.begins_with-is_range.ensures ∙ c.if-is_range.false) (sym c.begins_with_semicolon.ensures ∙ c.if-begins_with_semicolon.false) (sym c.begins_with_braces.ensures ∙ c.if-begins_with_braces.false) (each view_listed_expr c.in_ok-targets.targets.items) c.in_ok-targets.rest.now c.in_ok-targets.ensures) c.for_rest.ensures
 
 pub stmts::if_arms-loop-init : goal.stmts::if_arms-loop-init
 stmts::if_arms-loop-init t c = first_start (begins_both ElseWord IfWord) (arm_in (parsers c.args.depth) empty) (else_arm_in (parsers c.args.depth)) (each view_if_arm c.push.new.self.items) (view_if_arm c.in_ok-first.first) c.args.tokens.now c.in_ok-first.rest.now (length c.in_ok-first.rest.now) 0 c.in_ok-first.ensures (first_push view_if_arm c.new-arms.result.items c.push.new.self.items c.in_ok-first.first c.in_ok-push.ensures.items c.new-arms.ensures.items) refl refl
@@ -439,14 +439,14 @@ stmts::simple_rest-returns-in-Some-clause-split t c = λ list. split_assign c.ar
 pub stmts::simple_rest-returns-in_err-values-2-clause-read : goal.stmts::simple_rest-returns-in_err-values-2-clause-read
 stmts::simple_rest-returns-in_err-values-2-clause-read t c =
     let fails : Fails c.in_err-values-2.field-0.0 (simple_rest_in (parsers c.args.depth) (context_of (view_context c.args.context)) (each view_listed_expr c.args.targets.items) c.args.tokens.now) =
-    defines_nothing (parsers c.args.depth) (view_context c.args.context) (each view_listed_expr c.args.targets.items) c.args.tokens.now c.in_err-values-2.field-0.0 c.in_ok-operator.operator c.in_ok-operator.rest.now c.requires c.in_default.ensures.found (sym c.begins_with.ensures ∙ c.if-begins_with.true) c.in_ok-operator.ensures c.in_err-values-2.ensures in
+    defines_nothing (parsers c.args.depth) (view_context c.args.context) (each view_listed_expr c.args.targets.items) c.args.tokens.now c.in_err-values-2.field-0.0 c.in_ok-operator.operator c.in_ok-operator.rest.now c.requires c.in_default.ensures.found (sym c.begins_with.ensures ∙ c.if-begins_with.true) c.in_ok-operator.ensures.read c.in_err-values-2.ensures in
     search rules
 
 pub stmts::simple_rest-returns-then-begins_with-clause-read : goal.stmts::simple_rest-returns-then-begins_with-clause-read
-stmts::simple_rest-returns-then-begins_with-clause-read t c = defined (parsers c.args.depth) (view_context c.args.context) (each view_listed_expr c.args.targets.items) c.args.tokens.now c.in_ok-operator.operator c.in_ok-operator.rest.now c.in_ok-values-2.rest.now (each view_listed_expr c.in_ok-values-2.values.items) c.requires c.in_default.ensures.found (sym c.begins_with.ensures ∙ c.if-begins_with.true) c.in_ok-operator.ensures c.in_ok-values-2.ensures
+stmts::simple_rest-returns-then-begins_with-clause-read t c = defined (parsers c.args.depth) (view_context c.args.context) (each view_listed_expr c.args.targets.items) c.args.tokens.now c.in_ok-operator.operator c.in_ok-operator.rest.now c.in_ok-values-2.rest.now (each view_listed_expr c.in_ok-values-2.values.items) c.requires c.in_default.ensures.found (sym c.begins_with.ensures ∙ c.if-begins_with.true) c.in_ok-operator.ensures.read c.in_ok-values-2.ensures
 
 pub stmts::simple_rest-returns-then-begins_with-clause-split : goal.stmts::simple_rest-returns-then-begins_with-clause-split
-stmts::simple_rest-returns-then-begins_with-clause-split t c = λ list. split_define c.args.targets c.in_ok-operator.operator c.in_ok-values-2.values c.args.tokens.now c.in_ok-operator.rest.now c.in_ok-operator.ensures list
+stmts::simple_rest-returns-then-begins_with-clause-split t c = λ list. split_define c.args.targets c.in_ok-operator.operator c.in_ok-values-2.values c.args.tokens.now c.in_ok-operator.rest.now c.in_ok-operator.ensures.read list
 
 pub stmts::statement-returns-then-not-begins_with_both : goal.stmts::statement-returns-then-not-begins_with_both
 stmts::statement-returns-then-not-begins_with_both t c = rw (statement_unlabeled (parsers c.args.depth) c.args.tokens.now (sym c.begins_with_both.ensures ∙ c.if-not-begins_with_both.true)) c.stmt.ensures
@@ -474,12 +474,12 @@ stmts::statement-returns t c =
 
 pub stmts::statement_line-returns-then-begins_with_semicolon : goal.stmts::statement_line-returns-then-begins_with_semicolon
 stmts::statement_line-returns-then-begins_with_semicolon t c =
-    line_empty (parsers c.args.depth) c.args.tokens.now c.in_ok-semicolon.rest.now (one c.in_ok-semicolon.semicolon) (sym c.begins_with_semicolon.ensures ∙ c.if-begins_with_semicolon.true) c.in_ok-semicolon.ensures
+    line_empty (parsers c.args.depth) c.args.tokens.now c.in_ok-semicolon.rest.now (one c.in_ok-semicolon.semicolon) (sym c.begins_with_semicolon.ensures ∙ c.if-begins_with_semicolon.true) c.in_ok-semicolon.ensures.read
     ∙ ap (λ (tree : Forest). Some (tree, c.in_ok-semicolon.rest.now)) (line_seen None (Some c.in_ok-semicolon.semicolon))
 
 pub stmts::statement_line-returns : goal.stmts::statement_line-returns
 stmts::statement_line-returns t c =
-    line_read (parsers c.args.depth) c.args.tokens.now c.in_ok-stmt.rest.now c.in_ok-semicolon-2.rest.now (boxed_stmt c.in_ok-stmt.stmt) (token_if c.in_ok-semicolon-2.semicolon) (sym c.begins_with_semicolon.ensures ∙ c.if-begins_with_semicolon.false) c.in_ok-stmt.ensures c.in_ok-semicolon-2.ensures
+    line_read (parsers c.args.depth) c.args.tokens.now c.in_ok-stmt.rest.now c.in_ok-semicolon-2.rest.now (boxed_stmt c.in_ok-stmt.stmt) (token_if c.in_ok-semicolon-2.semicolon) (sym c.begins_with_semicolon.ensures ∙ c.if-begins_with_semicolon.false) c.in_ok-stmt.ensures c.in_ok-semicolon-2.ensures.read
     ∙ ap (λ (tree : Forest). Some (tree, c.in_ok-semicolon-2.rest.now)) (line_seen (Some c.in_ok-stmt.stmt) c.in_ok-semicolon-2.semicolon)
 
 pub stmts::statement_lines-loop-init : goal.stmts::statement_lines-loop-init
@@ -523,24 +523,24 @@ stmts::stmt-returns t c = rw (compound_last (parsers c.args.depth) c.args.tokens
 pub stmts::switch_stmt-returns-in_err-guard : goal.stmts::switch_stmt-returns-in_err-guard
 stmts::switch_stmt-returns-in_err-guard t c =
     let fails : Fails c.in_err-guard.field-0.0 (switch_in (parsers c.args.depth) c.args.tokens.now) =
-    no_guard (parsers c.args.depth) c.args.tokens.now c.in_ok-word.rest.now c.in_ok-parts.rest.now c.in_ok-word.word (view_header c.in_ok-parts.parts) c.in_ok-word.ensures c.in_ok-parts.ensures c.in_err-guard.field-0.0 (sym c.begins_with.ensures ∙ c.if-begins_with.true) c.in_err-guard.ensures in
+    no_guard (parsers c.args.depth) c.args.tokens.now c.in_ok-word.rest.now c.in_ok-parts.rest.now c.in_ok-word.word (view_header c.in_ok-parts.parts) c.in_ok-word.ensures.read c.in_ok-parts.ensures c.in_err-guard.field-0.0 (sym c.begins_with.ensures ∙ c.if-begins_with.true) c.in_err-guard.ensures.read in
     search rules
 
 pub stmts::switch_stmt-returns-in_err-suffix : goal.stmts::switch_stmt-returns-in_err-suffix
 stmts::switch_stmt-returns-in_err-suffix t c =
     let fails : Fails c.in_err-suffix.field-0.0 (switch_in (parsers c.args.depth) c.args.tokens.now) =
-    no_suffix (parsers c.args.depth) c.args.tokens.now c.in_ok-word.rest.now c.in_ok-parts.rest.now c.in_ok-word.word (view_header c.in_ok-parts.parts) c.in_ok-word.ensures c.in_ok-parts.ensures c.in_err-suffix.field-0.0 (view_guard c.in_ok-guard.guard) (sym c.begins_with.ensures ∙ c.if-begins_with.true) c.in_ok-guard.ensures c.in_err-suffix.ensures in
+    no_suffix (parsers c.args.depth) c.args.tokens.now c.in_ok-word.rest.now c.in_ok-parts.rest.now c.in_ok-word.word (view_header c.in_ok-parts.parts) c.in_ok-word.ensures.read c.in_ok-parts.ensures c.in_err-suffix.field-0.0 (view_guard c.in_ok-guard.guard) (sym c.begins_with.ensures ∙ c.if-begins_with.true) c.in_ok-guard.ensures.read c.in_err-suffix.ensures.read in
     search rules
 
 pub stmts::switch_stmt-returns-in_err-body : goal.stmts::switch_stmt-returns-in_err-body
 stmts::switch_stmt-returns-in_err-body t c =
     let fails : Fails c.in_err-body.field-0.0 (switch_in (parsers c.args.depth) c.args.tokens.now) =
-    no_clauses (parsers c.args.depth) c.args.tokens.now c.in_ok-word.rest.now c.in_ok-parts.rest.now c.in_ok-word.word (view_header c.in_ok-parts.parts) c.in_ok-word.ensures c.in_ok-parts.ensures c.in_err-body.field-0.0 (view_guard c.in_ok-guard.guard) (view_suffix c.in_ok-suffix.suffix) c.in_ok-suffix.rest.now (sym c.begins_with.ensures ∙ c.if-begins_with.true) c.in_ok-guard.ensures c.in_ok-suffix.ensures c.in_err-body.ensures in
+    no_clauses (parsers c.args.depth) c.args.tokens.now c.in_ok-word.rest.now c.in_ok-parts.rest.now c.in_ok-word.word (view_header c.in_ok-parts.parts) c.in_ok-word.ensures.read c.in_ok-parts.ensures c.in_err-body.field-0.0 (view_guard c.in_ok-guard.guard) (view_suffix c.in_ok-suffix.suffix) c.in_ok-suffix.rest.now (sym c.begins_with.ensures ∙ c.if-begins_with.true) c.in_ok-guard.ensures.read c.in_ok-suffix.ensures.read c.in_err-body.ensures in
     search rules
 
 pub stmts::switch_stmt-returns-then-begins_with : goal.stmts::switch_stmt-returns-then-begins_with
 stmts::switch_stmt-returns-then-begins_with t c =
-    guarded (parsers c.args.depth) c.args.tokens.now c.in_ok-word.rest.now c.in_ok-parts.rest.now c.in_ok-word.word (view_header c.in_ok-parts.parts) c.in_ok-word.ensures c.in_ok-parts.ensures (view_guard c.in_ok-guard.guard) (view_suffix c.in_ok-suffix.suffix) (view_body c.in_ok-body.body) c.in_ok-suffix.rest.now c.in_ok-body.rest.now (sym c.begins_with.ensures ∙ c.if-begins_with.true) c.in_ok-guard.ensures c.in_ok-suffix.ensures c.in_ok-body.ensures
+    guarded (parsers c.args.depth) c.args.tokens.now c.in_ok-word.rest.now c.in_ok-parts.rest.now c.in_ok-word.word (view_header c.in_ok-parts.parts) c.in_ok-word.ensures.read c.in_ok-parts.ensures (view_guard c.in_ok-guard.guard) (view_suffix c.in_ok-suffix.suffix) (view_body c.in_ok-body.body) c.in_ok-suffix.rest.now c.in_ok-body.rest.now (sym c.begins_with.ensures ∙ c.if-begins_with.true) c.in_ok-guard.ensures.read c.in_ok-suffix.ensures.read c.in_ok-body.ensures
     ∙ ap (λ (seen : Option Forest). seen >>= λ tree. Some (tree, c.in_ok-body.rest.now)) c.in_ok-stmt.ensures
 
 pub types::element_lines-loop-init : goal.types::element_lines-loop-init

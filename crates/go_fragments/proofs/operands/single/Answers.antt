@@ -7,18 +7,18 @@ use Rattle.std.proofs.lemmas.Bool.Decides.{nat_tests}
 use Rattle.go_fragments.proofs.Singles.{single_many, single_with_comma, single_without}
 use Rattle.go_fragments.proofs.operands.single.Goals as goal
 
-pub returns-then-not-is_empty : goal.returns-then-not-is_empty
-returns-then-not-is_empty c =
+pub returns-then-not-is_empty-clause-read : goal.returns-then-not-is_empty-clause-read
+returns-then-not-is_empty-clause-read c =
     let some : 0 < length c.pop.new.self.items = grind (arith, nat_tests, c.pop.new.self.ok.0) in
     single_many c.pop.new.self.items c.args.list.items c.in-Some.last c.in-Some.ensures.items some
 
-pub returns-then-is_some : goal.returns-then-is_some
-returns-then-is_some c =
+pub returns-then-is_some-clause-read : goal.returns-then-is_some-clause-read
+returns-then-is_some-clause-read c =
     let none : length c.pop.new.self.items ≡ 0 = grind (arith, nat_tests, c.pop.new.self.ok.0) in
     single_with_comma c.pop.new.self.items c.args.list.items c.in-Some.last c.in-Some.ensures.items none (ap is_some (sym c.into_parts-expr.ensures.comma) ∙ sym c.is_some.ensures ∙ c.if-is_some.true)
 
-pub returns : goal.returns
-returns c =
+pub returns-clause-read : goal.returns-clause-read
+returns-clause-read c =
     let none : length c.pop.new.self.items ≡ 0 = grind (arith, nat_tests, c.pop.new.self.ok.0) in
     single_without c.pop.new.self.items c.args.list.items c.in-Some.last c.in-Some.ensures.items none (ap is_some (sym c.into_parts-expr.ensures.comma) ∙ sym c.is_some.ensures ∙ c.if-is_some.false)
     ∙ ap (λ (held : Box Expr). Some (view_expr held.value)) (sym c.into_parts-expr.ensures.expr)

@@ -9,12 +9,12 @@ use Rattle.go_fragments.proofs.Statements.{first_start, first_push}
 use Rattle.go_fragments.proofs.simples.labels.Goals as goal
 
 pub loop-init : goal.loop-init
-loop-init c = first_start (begins_both Name Colon) label_in label_in (each view_label c.push.new.self.items) (view_label c.in_ok-first.first) c.args.tokens.now c.in_ok-first.rest.now (length c.in_ok-first.rest.now) 0 c.in_ok-first.ensures (first_push view_label c.new-labels.result.items c.push.new.self.items c.in_ok-first.first c.in_ok-push.ensures.items c.new-labels.ensures.items) refl refl
+loop-init c = first_start (begins_both Name Colon) label_in label_in (each view_label c.push.new.self.items) (view_label c.in_ok-first.first) c.args.tokens.now c.in_ok-first.rest.now (length c.in_ok-first.rest.now) 0 c.in_ok-first.ensures.read (first_push view_label c.new-labels.result.items c.push.new.self.items c.in_ok-first.first c.in_ok-push.ensures.items c.new-labels.ensures.items) refl refl
 
 pub loop-preserved : goal.loop-preserved
 loop-preserved c =
     many_on (begins_both Name Colon) label_in (length c.in_ok-first.rest.now) c.loop.counter (each view_label c.loop.labels.items) (each view_label c.push-in-loop.new.self.items) (view_label c.in_ok-next.next) c.loop.rest.now c.in_ok-next.after.now (labels_in c.args.tokens.now)
-    c.loop-test.true (sym c.begins_with_both.ensures ∙ c.if-not-begins_with_both.false) c.in_ok-next.ensures (ap (each view_label) c.in_ok-push-2.ensures.items ∙ each_push view_label c.loop.labels.items c.in_ok-next.next) c.loop.invariant
+    c.loop-test.true (sym c.begins_with_both.ensures ∙ c.if-not-begins_with_both.false) c.in_ok-next.ensures.read (ap (each view_label) c.in_ok-push-2.ensures.items ∙ each_push view_label c.loop.labels.items c.in_ok-next.next) c.loop.invariant
 
 pub returns-then-not-begins_with_both : goal.returns-then-not-begins_with_both
 returns-then-not-begins_with_both c = many_done (begins_both Name Colon) label_in (length c.in_ok-first.rest.now - c.loop.counter) (each view_label c.loop.labels.items) c.loop.rest.now (labels_in c.args.tokens.now) (sym c.begins_with_both.ensures ∙ c.if-not-begins_with_both.true) c.loop.invariant
@@ -25,5 +25,5 @@ returns c = many_over (begins_both Name Colon) label_in (length c.in_ok-first.re
 pub returns-in_err-next : goal.returns-in_err-next
 returns-in_err-next c =
     let fails : Fails c.in_err-next.field-0.0 (labels_in c.args.tokens.now) =
-    many_fails (begins_both Name Colon) label_in c.in_err-next.field-0.0 (length c.in_ok-first.rest.now) c.loop.counter (each view_label c.loop.labels.items) c.loop.rest.now (labels_in c.args.tokens.now) c.loop-test.true (sym c.begins_with_both.ensures ∙ c.if-not-begins_with_both.false) c.in_err-next.ensures c.loop.invariant in
+    many_fails (begins_both Name Colon) label_in c.in_err-next.field-0.0 (length c.in_ok-first.rest.now) c.loop.counter (each view_label c.loop.labels.items) c.loop.rest.now (labels_in c.args.tokens.now) c.loop-test.true (sym c.begins_with_both.ensures ∙ c.if-not-begins_with_both.false) c.in_err-next.ensures.read c.loop.invariant in
     search rules

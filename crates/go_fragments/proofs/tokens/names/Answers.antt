@@ -14,7 +14,7 @@ loop-preserved c =
     many_on (begins Comma) (then_in (word_in Comma) (word_in Name)) (length c.in_ok-name.rest.now) c.loop.counter
     (append (each view_listed_name c.loop.names.items) (one c.loop.name)) (append (each view_listed_name c.push-in-loop.new.self.items) (one c.in_ok-comma.next))
     (append (one c.in_ok-comma.comma) (one c.in_ok-comma.next)) c.loop.rest.now c.in_ok-comma.after.now (names_in c.args.tokens.now)
-    c.loop-test.true (sym c.begins_with.ensures ∙ c.if-not-begins_with.false) c.in_ok-comma.ensures
+    c.loop-test.true (sym c.begins_with.ensures ∙ c.if-not-begins_with.false) c.in_ok-comma.ensures.read
     (list_on view_listed_name c.loop.names.items c.push-in-loop.new.self.items (record { name = c.loop.name; comma = Some c.in_ok-comma.comma }) _ _ (one c.loop.name) (one c.in_ok-comma.comma) (one c.in_ok-comma.next)
     c.in_ok-push-2.ensures.items refl refl refl)
     c.loop.invariant
@@ -33,5 +33,5 @@ pub returns-in_err-comma : goal.returns-in_err-comma
 returns-in_err-comma c =
     let fails : Fails c.in_err-comma.field-0.0 (names_in c.args.tokens.now) =
     many_fails (begins Comma) (then_in (word_in Comma) (word_in Name)) c.in_err-comma.field-0.0 (length c.in_ok-name.rest.now) c.loop.counter (append (each view_listed_name c.loop.names.items) (one c.loop.name)) c.loop.rest.now (names_in c.args.tokens.now)
-    c.loop-test.true (sym c.begins_with.ensures ∙ c.if-not-begins_with.false) c.in_err-comma.ensures c.loop.invariant in
+    c.loop-test.true (sym c.begins_with.ensures ∙ c.if-not-begins_with.false) c.in_err-comma.ensures.read c.loop.invariant in
     search rules

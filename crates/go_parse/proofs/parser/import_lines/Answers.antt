@@ -12,7 +12,7 @@ pub loop-preserved : goal.loop-preserved
 loop-preserved c =
     many_on (not_closed CloseParen) import_line_in (length c.args.tokens.now) c.loop.counter (each view_import_spec c.loop.specs.items) (each view_import_spec c.push.new.self.items)
     (view_import_spec c.in_ok-spec.spec) c.loop.rest.now c.in_ok-spec.after.now (import_lines_in c.args.tokens.now) c.loop-test.true (ap not (sym c.begins_with.ensures ∙ c.if-begins_with.false))
-    c.in_ok-spec.ensures (ap (each view_import_spec) c.in_ok-push.ensures.items ∙ each_push view_import_spec c.loop.specs.items c.in_ok-spec.spec) c.loop.invariant
+    c.in_ok-spec.ensures.read (ap (each view_import_spec) c.in_ok-push.ensures.items ∙ each_push view_import_spec c.loop.specs.items c.in_ok-spec.spec) c.loop.invariant
 
 pub returns-then-begins_with : goal.returns-then-begins_with
 returns-then-begins_with c =
@@ -26,5 +26,5 @@ pub returns-in_err-spec : goal.returns-in_err-spec
 returns-in_err-spec c =
     let fails : Fails c.in_err-spec.field-0.0 (import_lines_in c.args.tokens.now) =
     many_fails (not_closed CloseParen) import_line_in c.in_err-spec.field-0.0 (length c.args.tokens.now) c.loop.counter (each view_import_spec c.loop.specs.items) c.loop.rest.now (import_lines_in c.args.tokens.now)
-    c.loop-test.true (ap not (sym c.begins_with.ensures ∙ c.if-begins_with.false)) c.in_err-spec.ensures c.loop.invariant in
+    c.loop-test.true (ap not (sym c.begins_with.ensures ∙ c.if-begins_with.false)) c.in_err-spec.ensures.read c.loop.invariant in
     search rules
