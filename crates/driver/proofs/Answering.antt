@@ -45,8 +45,8 @@ works_right words files command sources outcome output asked is result = go resu
 
     go : IsResult command (files_of sources) outcome output → IsRight words files outcome output
     go (broken b n) = as_refused words files outcome b.place b.rule output b.outcome_is works
-    go (served program (outside w e n)) = as_refused words files outcome _ _ output e works
-    go (served program (worked w)) = elim w.ends [ done idle e n ↦ as_done words files outcome output e works | ran runs ending e ↦ as_ended words files outcome ending output e works ]
+    go (served program typed (outside w e n)) = as_refused words files outcome _ _ output e works
+    go (served program typed (worked w)) = elim w.ends [ done idle e n ↦ as_done words files outcome output e works | ran runs ending e ↦ as_ended words files outcome ending output e works ]
 
 generated_right : (words : List (List ℕ)) (files : Option Tree) (count : ℕ) (outcome : Outcome) (output : List ℕ) → command_of words ≡ Ok (commands.Generate count) → IsGenerated count outcome output → IsRight words files outcome output
 generated_right words files count outcome output asked is = as_ended words files outcome is.ending output is.outcome_is (on_generated count asked is)
