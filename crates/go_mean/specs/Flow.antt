@@ -95,7 +95,7 @@ compares_as false value = value ++ match_tag ∷ []
 abbrev pub compares : Site → Option Typed → Option TypeId → List Piece → List Piece
 compares s None tag_to value = value ++ match_truth ∷ []
 compares s (Some tag) None value = value ++ match_tag ∷ []
-compares s (Some tag) (Some to) value = compares_as (is_interface_type (types_of s) to) value
+compares s (Some tag) (Some wanted) value = compares_as (is_interface_type (types_of s) wanted) value
 
 -- the next test, or the default
 abbrev pub tests_next : Site → Choosing TypedCase TypedClause → List (Test TypedCase) → List Later → Next
