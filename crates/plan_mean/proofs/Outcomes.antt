@@ -1,5 +1,5 @@
 -- Two runs come to one end.
-use Rattle.std.proofs.Common.{◌≡◌, ℕ, zero, suc, List, [], refl, sym, ◌∙◌, ap, subst}
+use Rattle.std.proofs.Common.{◌≡◌, ℕ, zero, suc, List, [], sym, ◌∙◌, ap, subst}
 use Rattle.go_base.specs.declared.ending.Ending.{Ending}
 use Rattle.plan_mean.specs.Runs.{first_machine, steps, then_step, OneOutcome}
 use Rattle.plan_mean.specs.State.{World, Machine, Next, goes, ends, stuck}

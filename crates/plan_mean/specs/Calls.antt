@@ -1,15 +1,14 @@
 -- Calls. Go specification, "Calls", "Method sets", "Defer statements", "Go statements" and "Return statements".
-use Rattle.std.specs.Prelude.{ℕ, suc, ◌==◌, Bool, true, false, ◌||◌, ◌&&◌, List, [], ◌∷◌, ◌++◌, map, pos, Option, Some}
+use Rattle.std.specs.Prelude.{ℕ, suc, ◌==◌, Bool, false, ◌||◌, ◌&&◌, List, [], ◌∷◌, ◌++◌, map, pos, Option, Some}
 use Rattle.std.specs.Prelude.{None, min, nat_le, nat_lt, length, unsigned_abs, if◌then◌else◌, slice_get}
 use Rattle.std.specs.Int.{int_rem_euclid}
 use Rattle.std.specs.List.{find}
-use Rattle.std.specs.Option.{option_and_then, option_map, option_map_or}
+use Rattle.std.specs.Option.{option_and_then, option_map}
 use Rattle.code_plan.specs.declared.steps.Arg.{Arg}
 use Rattle.code_plan.specs.declared.steps.Callee.{Callee}
 use Rattle.code_plan.specs.declared.steps.Callee.TheVariants as callee
 use Rattle.code_plan.specs.declared.steps.MethodName.{MethodName}
 use Rattle.code_plan.specs.declared.steps.MethodOf.{MethodOf}
-use Rattle.code_plan.specs.declared.steps.PlannedCall.{PlannedCall}
 use Rattle.code_plan.specs.declared.steps.PlannedFunction.{PlannedFunction}
 use Rattle.code_plan.specs.declared.steps.Role.{Role}
 use Rattle.code_plan.specs.declared.steps.Role.TheVariants as role
@@ -25,9 +24,9 @@ use Rattle.plan_mean.specs.Operands.{look, look_at_all}
 use Rattle.plan_mean.specs.Slots.{with_frame, with_slots_from}
 use Rattle.plan_mean.specs.State.{World, Called, of_function, of_built_in, of_nil, Later, Frame, Goroutine, Machine}
 use Rattle.plan_mean.specs.State.{Next, goes, ends, stuck, where_there, with_current, with_result}
-use Rattle.plan_mean.specs.Unwinding.{is_source, is_wrapper_frame, meets, spends, switches, popped}
+use Rattle.plan_mean.specs.Unwinding.{is_source, is_wrapper_frame, spends, switches, popped}
 use Rattle.ssa_mean.specs.Calls.{most_frames, most_passed, results_of}
-use Rattle.ssa_mean.specs.Comes.{Comes, to, faults, nowhere, of_option, then_to, where_some}
+use Rattle.ssa_mean.specs.Comes.{Comes, to, faults, of_option, then_to, where_some}
 use Rattle.ssa_mean.specs.State.{running}
 
 -- ---- what is called, with its arguments

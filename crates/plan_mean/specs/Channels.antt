@@ -1,6 +1,6 @@
 -- Sends, receives, selects and closes. Go specification, "Send statements", "Receive operator", "Select statements" and
 -- "Close".
-use Rattle.std.specs.Prelude.{ℕ, suc, ◌==◌, Bool, true, false, List, [], ◌∷◌, Option, Some, None, Result, Ok, Err}
+use Rattle.std.specs.Prelude.{ℕ, suc, ◌==◌, Bool, false, List, [], ◌∷◌, Option, Some, None, Result, Ok, Err}
 use Rattle.std.specs.Prelude.{is_some, slice_get, slice_set, option_map}
 use Rattle.std.specs.Global.{Box}
 use Rattle.std.specs.Option.{option_and_then}
@@ -21,7 +21,7 @@ use Rattle.go_value.specs.declared.faults.Fault.{Fault}
 use Rattle.go_value.specs.declared.values.Value.{Value}
 use Rattle.plan_mean.specs.Operands.{look}
 use Rattle.plan_mean.specs.Slots.{with_slot}
-use Rattle.plan_mean.specs.State.{World, Frame, Goroutine, Machine, Next, where_there, with_frames, with_result}
+use Rattle.plan_mean.specs.State.{World, Frame, Goroutine, Machine, Next, where_there, with_frames}
 use Rattle.plan_mean.specs.State.{advanced, back, change_top}
 use Rattle.plan_mean.specs.Unwinding.{meets, switches}
 use Rattle.ssa_mean.specs.Channels.{chan_in, value_if, is_chosen, case_number, with_case, received_by, fault_of}

@@ -1,6 +1,6 @@
 -- Operands of planned code: their values.
-use Rattle.std.specs.Prelude.{ℕ, List, [], ◌∷◌, ℤ, Option, Some, None}
-use Rattle.std.specs.Option.{option_and_then, option_map}
+use Rattle.std.specs.Prelude.{List, [], ◌∷◌, ℤ, Option, Some, None}
+use Rattle.std.specs.Option.{option_and_then}
 use Rattle.code_plan.specs.declared.steps.Arg.{Arg}
 use Rattle.code_plan.specs.declared.steps.Arg.TheVariants as arg
 use Rattle.go_store.specs.Stores.{Stored, loaded}

@@ -2,11 +2,10 @@
 use Rattle.std.specs.Prelude.{◌≡◌, ℕ, zero, suc, List, [], ◌∷◌, map, false, None}
 use Rattle.go_base.specs.declared.ending.Ending.{Ending}
 use Rattle.go_sched.specs.Goroutines.{started}
-use Rattle.go_value.specs.Values.{Val, value_of}
+use Rattle.go_value.specs.Values.{value_of}
 use Rattle.plan_mean.specs.Calls.{new_goroutine}
 use Rattle.plan_mean.specs.State.{World, Machine, Next, goes, ends, stuck}
 use Rattle.plan_mean.specs.Step.{step}
-use Rattle.ssa_mean.specs.Answers.{AreAnswers}
 
 -- a cell with the zero value for each package variable, and goroutine 0 with nothing called yet
 unfoldable pub first_machine : World → List ℕ → ℕ → Machine
@@ -36,13 +35,6 @@ steps (suc n) w m = then_step (steps n w) (step w m)
 pub record IsPlannedRun (w : World) (choices : List ℕ) (bound : ℕ) (output : List ℕ) (ending : Ending) : Type 0 where
   pub count : ℕ
   pub leads : steps count w (first_machine w choices bound) ≡ ends ending output
-
--- what a run has written when it stands somewhere on its way
-pub record HasWritten (w : World) (choices : List ℕ) (bound : ℕ) (output : List ℕ) : Type 0 where
-  pub count : ℕ
-  pub machine : Machine
-  pub leads : steps count w (first_machine w choices bound) ≡ goes machine
-  pub written : machine.output ≡ output
 
 -- the definition allows one outcome
 abbrev pub OneOutcome : Type 0

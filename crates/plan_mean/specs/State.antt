@@ -1,6 +1,6 @@
 -- The state of a run of planned code: goroutines of frames with slots, what they share, and what is left of the choices
 -- and the ticks. It is that of `ssa_mean`, but that operands have become slots.
-use Rattle.std.specs.Prelude.{ℕ, suc, pred, List, [], ◌∷◌, ◌++◌, Option, Some, None, Bool, slice_get, slice_set}
+use Rattle.std.specs.Prelude.{ℕ, suc, pred, List, [], ◌∷◌, Option, Some, None, Bool, slice_get, slice_set}
 use Rattle.std.specs.Option.{option_map_or}
 use Rattle.code_plan.specs.declared.steps.BuiltinForm.{BuiltinForm}
 use Rattle.code_plan.specs.declared.steps.Plan.{Plan}

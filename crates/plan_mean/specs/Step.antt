@@ -7,14 +7,12 @@ use Rattle.std.specs.Bool.{beq}
 use Rattle.std.specs.Cmp.Lexicographic.{slice_cmp}
 use Rattle.std.specs.Global.{Box}
 use Rattle.std.specs.List.{find}
-use Rattle.std.specs.Option.{option_and_then, option_map_or}
+use Rattle.std.specs.Option.{option_and_then}
 use Rattle.std.specs.Ordering.{nat_cmp, int_cmp}
 use Rattle.code_plan.specs.declared.steps.Arg.{Arg}
 use Rattle.code_plan.specs.declared.steps.Bounds.{Bounds}
 use Rattle.code_plan.specs.declared.steps.BuiltinForm.{BuiltinForm}
 use Rattle.code_plan.specs.declared.steps.BuiltinForm.TheVariants as form
-use Rattle.code_plan.specs.declared.steps.Callee.{Callee}
-use Rattle.code_plan.specs.declared.steps.Callee.TheVariants as callee
 use Rattle.code_plan.specs.declared.steps.ConvertForm.{ConvertForm}
 use Rattle.code_plan.specs.declared.steps.ConvertForm.TheVariants as convert
 use Rattle.code_plan.specs.declared.steps.CutForm.{CutForm}
@@ -22,23 +20,18 @@ use Rattle.code_plan.specs.declared.steps.CutForm.TheVariants as cut
 use Rattle.code_plan.specs.declared.steps.PlannedBlock.{PlannedBlock}
 use Rattle.code_plan.specs.declared.steps.PlannedCall.{PlannedCall}
 use Rattle.code_plan.specs.declared.steps.PlannedCase.{PlannedCase}
-use Rattle.code_plan.specs.declared.steps.PlannedEdge.{PlannedEdge}
 use Rattle.code_plan.specs.declared.steps.PlannedPhi.{PlannedPhi}
 use Rattle.code_plan.specs.declared.steps.Step.{Step}
 use Rattle.code_plan.specs.declared.steps.Step.TheVariants as act
 use Rattle.go_base.specs.declared.ending.Ending.TheVariants as ending
-use Rattle.go_base.specs.declared.ids.ChanId.{ChanId}
 use Rattle.go_base.specs.declared.ids.FuncId.{FuncId}
-use Rattle.go_base.specs.declared.ids.MapId.{MapId}
 use Rattle.go_base.specs.declared.ids.TypeId.{TypeId}
 use Rattle.go_maps.specs.Equality.{compared}
-use Rattle.go_sched.specs.Goroutines.{State}
 use Rattle.go_sched.specs.Operations.{Outcome, sends, receives, closes, selects}
 use Rattle.go_sched.specs.declared.scheduling.Point.TheVariants as point
 use Rattle.go_store.specs.Conversions.{within_limit}
 use Rattle.go_store.specs.Slices.{elements_of}
 use Rattle.go_store.specs.Stores.{Stored, made}
-use Rattle.go_type.specs.Table.{Table}
 use Rattle.go_type.specs.declared.constants.ConstOp.{ConstOp}
 use Rattle.go_type.specs.declared.kinds.IntKind.{IntKind}
 use Rattle.go_type.specs.declared.operators.CompareOp.{CompareOp}
@@ -52,22 +45,22 @@ use Rattle.go_value.specs.declared.values.BoundTarget.{BoundTarget}
 use Rattle.go_value.specs.declared.values.Value.{Value}
 use Rattle.plan_mean.specs.BuiltIns.{built_in_call}
 use Rattle.plan_mean.specs.Calls.{readied, Entry, enters, entry_of, returned, with_new}
-use Rattle.plan_mean.specs.Channels.{Given, received, selected, cases_of, came_to, with_sched}
+use Rattle.plan_mean.specs.Channels.{received, selected, cases_of, came_to, with_sched}
 use Rattle.plan_mean.specs.Operands.{look, look_at_all, with_one, with_two, with_integer, with_bound}
 use Rattle.plan_mean.specs.Ranges.{map_turn, next_of_text}
 use Rattle.plan_mean.specs.Slots.{slot_in}
-use Rattle.plan_mean.specs.State.{World, Called, of_function, of_built_in, of_nil, Later, Frame, Goroutine, Machine}
+use Rattle.plan_mean.specs.State.{World, Called, of_function, of_built_in, of_nil, Later, Frame, Machine}
 use Rattle.plan_mean.specs.State.{Next, goes, ends, stuck, where_there, with_current, with_frames, with_value}
-use Rattle.plan_mean.specs.State.{with_result, advanced, change_top}
+use Rattle.plan_mean.specs.State.{with_result, advanced}
 use Rattle.plan_mean.specs.Unwinding.{at_block, meets, panics_with, spends, switches, unwound, recovering, recovered}
 use Rattle.plan_mean.specs.Unwinding.{may_recover}
-use Rattle.ssa_mean.specs.Arithmetic.{holds, equality}
+use Rattle.ssa_mean.specs.Arithmetic.{holds}
 use Rattle.ssa_mean.specs.BuiltIns.{Done}
 use Rattle.ssa_mean.specs.Comes.{Comes, to, faults, nowhere, of_option, of_result, then_to, where_some}
 use Rattle.ssa_mean.specs.Conversions.{Stores, kept, text_of_items, slice_of_text}
 use Rattle.ssa_mean.specs.MapCalls.{looked_up, updated, made_map}
 use Rattle.ssa_mean.specs.Making.{Channels, value_or, assertion, pointers_of, is_nil_of, made_chan, made_slice}
-use Rattle.ssa_mean.specs.Places.{Bounds as Places, load, assigned, new_pointer, field_of, field_address, index_of}
+use Rattle.ssa_mean.specs.Places.{load, assigned, new_pointer, field_of, field_address, index_of}
 use Rattle.ssa_mean.specs.Places.{index_address, part_between}
 use Rattle.ssa_mean.specs.Ranges.{Turn, range_of}
 use Rattle.ssa_mean.specs.State.{FrameState, running, returning}
@@ -220,14 +213,14 @@ with_phis before from (phi ∷ phis) m =
     option_and_then (λ it. option_map (with_value phi.to it) (with_phis before from phis m))
     (edge_value before from phi)
 
-abbrev pub enters_block : ℕ → List Frame → ℕ → PlannedBlock → Machine → Next
-enters_block from below to_block block m = where_there goes (with_phis m from block.phis.items m)
+abbrev pub enters_block : ℕ → PlannedBlock → Machine → Next
+enters_block from block m = where_there goes (with_phis m from block.phis.items m)
 
 abbrev pub jumps_from : ℕ → Machine → List Frame → Next
 jumps_from to_block m [] = stuck
 jumps_from to_block m (top ∷ below) =
-    where_there (λ block. enters_block top.block below to_block block
-    (with_frames (at_block to_block top ∷ below) m)) (slice_get top.function.blocks.items to_block)
+    where_there (λ block. enters_block top.block block (with_frames (at_block to_block top ∷ below) m))
+    (slice_get top.function.blocks.items to_block)
 
 abbrev pub jumps : ℕ → Machine → Next
 jumps to_block m = jumps_from to_block m m.current.frames

@@ -1,24 +1,22 @@
 -- Panics, switch points, and endings. Go specification, "Handling panics", "Run-time panics" and "Go statements".
-use Rattle.std.specs.Prelude.{ℕ, zero, suc, pred, ◌==◌, Bool, true, false, ◌&&◌, List, [], ◌∷◌, ◌++◌, Option, Some}
-use Rattle.std.specs.Prelude.{None, if◌then◌else◌, slice_get, codes}
+use Rattle.std.specs.Prelude.{ℕ, zero, suc, pred, ◌==◌, Bool, true, false, ◌&&◌, List, [], ◌∷◌, Option, Some}
+use Rattle.std.specs.Prelude.{None, if◌then◌else◌, slice_get}
 use Rattle.std.specs.Option.{option_map_or}
-use Rattle.code_plan.specs.declared.steps.PlannedFunction.{PlannedFunction}
 use Rattle.code_plan.specs.declared.steps.Role.{Role}
 use Rattle.code_plan.specs.declared.steps.Role.TheVariants as role
 use Rattle.go_base.specs.declared.ending.Ending.TheVariants as ending
 use Rattle.go_base.specs.declared.ids.GoId.{GoId}
-use Rattle.go_base.specs.declared.ids.TypeId.{TypeId}
 use Rattle.go_sched.specs.Choices.{next_at, switched}
 use Rattle.go_sched.specs.declared.scheduling.Point.{Point}
 use Rattle.go_value.specs.Values.{Val, nil_interface}
 use Rattle.go_value.specs.declared.faults.Fault.{Fault}
 use Rattle.go_value.specs.declared.faults.Fault.TheVariants as fault
 use Rattle.plan_mean.specs.Slots.{below_top}
-use Rattle.plan_mean.specs.State.{World, Frame, Goroutine, Machine, Next, goes, ends, stuck, where_there}
+use Rattle.plan_mean.specs.State.{World, Frame, Goroutine, Machine, Next, goes, ends, where_there}
 use Rattle.plan_mean.specs.State.{with_current, with_frames, swapped}
 use Rattle.ssa_mean.specs.Faults.{thrown_with, value_text}
 use Rattle.ssa_mean.specs.Runes.{as_characters}
-use Rattle.ssa_mean.specs.State.{FrameState, running, returning, panicking, Thrown, of_value, of_text}
+use Rattle.ssa_mean.specs.State.{FrameState, running, panicking, Thrown, of_value, of_text}
 use Rattle.ssa_mean.specs.Unwinding.{recovered_state, recovered_value}
 use Rattle.value_texts.specs.Texts.{fault_string}
 
