@@ -1,7 +1,8 @@
 // Checks of programs of one file.
 use crate::rows::{BROKEN, FIRST, KEPT};
 use driver::{ssadump, status};
-use go_base::{MemFiles, MemSink, NoMemory};
+use go_base::NoMemory;
+use go_devices::{MemFiles, MemSink};
 use std::test::Fail;
 
 // The status of a check of a file, and what is on standard error.

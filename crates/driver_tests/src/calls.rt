@@ -2,7 +2,8 @@
 ghost use Rattle.std.specs.List.Sorted.{IsStrictlyIncreasing};
 
 use driver::{Outcome, ssadump, status};
-use go_base::{MemFiles, MemSink, NoMemory};
+use go_base::NoMemory;
+use go_devices::{MemFiles, MemSink};
 use std::alloc::{AllocError, Global};
 use std::test::Fail;
 

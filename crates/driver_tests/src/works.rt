@@ -1,6 +1,7 @@
 // Printed code, call graphs and the generated program: what is on standard output.
 use driver::{ssadump, status};
-use go_base::{MemFiles, MemSink, NoMemory};
+use go_base::NoMemory;
+use go_devices::{MemFiles, MemSink};
 use std::test::Fail;
 
 // A file whose call through an interface has two classes to choose from, of which one is made.

@@ -1,8 +1,7 @@
 //! The places of a text, and the devices over memory and over the system.
 
-use go_base::{
-    FileError, Files, MemFiles, MemSink, Names, RealFiles, RealSink, Sink, SinkError, line_column,
-};
+use go_base::{FileError, Files, Names, Sink, SinkError, line_column};
+use go_devices::{MemFiles, MemSink, RealFiles, RealSink};
 use std::alloc::Global;
 use std::io::{ErrorKind, Write};
 use std::path::PathBuf;

@@ -1,5 +1,1 @@
-mod Listed
-mod Below
-mod Trees
-mod Streams
 pub mod Texts

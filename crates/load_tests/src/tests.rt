@@ -2,7 +2,8 @@
 
 ghost use Rattle.std.specs.List.Sorted.{IsStrictlyIncreasing};
 
-use go_base::{MemFiles, NoMemory, Place, Rule, Text};
+use go_base::{NoMemory, Place, Rule, Text};
+use go_devices::MemFiles;
 use go_load::{LoadError, Target, from_text, load};
 use go_sources::Sources;
 use std::alloc::Global;

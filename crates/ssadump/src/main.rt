@@ -2,7 +2,7 @@
 #![tactic(auto)]
 
 use driver::{ssadump, status};
-use go_base::{RealFiles, RealSink};
+use go_devices::{RealFiles, RealSink};
 use std::io::ErrorKind;
 use std::process::ExitCode;
 use std::{env, io};

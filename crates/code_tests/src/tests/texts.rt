@@ -3,7 +3,8 @@
 use crate::tests::kinds::{code, kept};
 use crate::tests::lists::add_lists;
 use crate::tests::typed::{RIGHT, add_four_blocks};
-use go_base::{MemSink, NoMemory};
+use go_base::NoMemory;
+use go_devices::MemSink;
 use ssa_ir::Code;
 use ssa_print::{Show, print};
 use std::alloc::Global;

@@ -3,7 +3,8 @@
 use crate::tests::codes::{Head, TESTED, add_block, add_common, empty_code, function_of, kept};
 use crate::tests::typing::print_code;
 use crate::tests::world::{World, make_world};
-use go_base::{BlockId, MemSink, NoMemory};
+use go_base::{BlockId, NoMemory};
+use go_devices::MemSink;
 use ssa_ir::FunctionKind::{External, Init, Source, Wrapper};
 use ssa_ir::{Code, Function, FunctionKind, Op};
 use ssa_typed::{TypedError, type_code};

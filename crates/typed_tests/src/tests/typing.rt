@@ -2,7 +2,8 @@
 
 use crate::tests::codes::{Subject, TESTED, code_of, kept};
 use crate::tests::rows::{CALLS, HELD, Row, SIMPLE};
-use go_base::{MemSink, NoMemory};
+use go_base::NoMemory;
+use go_devices::MemSink;
 use ssa_ir::{Code, FunctionKind};
 use ssa_print::{Show, print};
 use ssa_typed::{TypedError, type_code};

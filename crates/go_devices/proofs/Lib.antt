@@ -1,0 +1,4 @@
+mod Listed
+mod Below
+mod Trees
+mod Streams

@@ -1,0 +1,3 @@
+pub mod CallPlan
+pub mod Memory
+pub mod Streams
