@@ -10,7 +10,7 @@ use go_base::{FuncId, NoMemory, Pos};
 use std::marker::Model;
 
 /// A function calls another at a site.
-#[derive(Clone, Copy, Debug, PartialEq, Eq, PartialOrd, Ord)]
+#[derive(Clone, Copy, PartialEq, Eq, PartialOrd, Ord)]
 pub struct Edge {
     pub caller: FuncId,
     /// The `(` of the call; for a function named `init` its name.

@@ -11,7 +11,7 @@ use go_base::NoMemory;
 use std::alloc::Global;
 
 /// What has both `left` and `right` has `then`.
-#[derive(Clone, Copy, Debug)]
+#[derive(Clone, Copy)]
 pub struct Rule {
     pub left: usize,
     pub right: usize,

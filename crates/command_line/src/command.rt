@@ -8,7 +8,7 @@ use std::marker::Model;
 use thiserror::Error;
 
 /// What a command line asks for.
-#[derive(Debug, Drop)]
+#[derive(Drop)]
 pub enum Command {
     /// `-gen`: make, check, list and run the generated program of this many types.
     Generate(u32),
@@ -17,7 +17,7 @@ pub enum Command {
 }
 
 /// What is asked with a target.
-#[derive(Debug, Drop)]
+#[derive(Drop)]
 pub struct LoadCommand {
     pub target: Target,
     /// `-build`: print the code as these letters say.
@@ -33,7 +33,7 @@ pub struct LoadCommand {
 }
 
 /// The letters of `-build`.
-#[derive(Clone, Copy, Debug, PartialEq, Eq)]
+#[derive(Clone, Copy, PartialEq, Eq)]
 pub struct Letters {
     /// `C`: show the counts of the sanity check.
     pub counts: bool,
@@ -44,7 +44,7 @@ pub struct Letters {
 }
 
 /// A call graph that can be listed.
-#[derive(Clone, Copy, Debug, PartialEq, Eq)]
+#[derive(Clone, Copy, PartialEq, Eq)]
 pub enum Graph {
     Cha,
     Rta,
@@ -52,7 +52,7 @@ pub enum Graph {
 }
 
 /// The numbers of `-choices`. A contract sees them as a list.
-#[derive(Debug, Drop)]
+#[derive(Drop)]
 pub struct Choices {
     numbers: Vec<u32>,
 }

@@ -15,7 +15,7 @@ use std::alloc::Global;
 use typed_trees::Form;
 
 /// What is seen of an expression: its type, what it is, and whether the types in it fit.
-#[derive(Clone, Copy, Debug)]
+#[derive(Clone, Copy)]
 pub struct Seen {
     pub of: TypeId,
     pub form: Form,
@@ -23,7 +23,7 @@ pub struct Seen {
 }
 
 /// The types of the values of a list, and whether the types in them fit.
-#[derive(Debug, Drop)]
+#[derive(Drop)]
 pub struct SeenValues {
     pub types: Vec<TypeId>,
     pub fits: bool,

@@ -7,7 +7,7 @@ ghost use Rattle.flow_rules.specs.Surroundings.{has_label, is_meant, levels_to, 
 use go_base::{NameId, Pos};
 
 /// A `for`, `switch` or `select` around the place that is looked at.
-#[derive(Clone, Copy, Debug)]
+#[derive(Clone, Copy)]
 pub struct Around {
     /// The last of its labels.
     pub label: Option<NameId>,
@@ -17,7 +17,7 @@ pub struct Around {
 }
 
 /// A label of a statement around the place that is looked at.
-#[derive(Clone, Copy, Debug)]
+#[derive(Clone, Copy)]
 pub struct Label {
     pub name: NameId,
     pub at: Pos,

@@ -2,7 +2,7 @@
 
 /// What a token is: a keyword (named by its word), a mark, a name, a literal, or a semicolon that was put in at the
 /// end of a line.
-#[derive(Clone, Copy, Debug, PartialEq, Eq)]
+#[derive(Clone, Copy, PartialEq, Eq)]
 pub enum Kind {
     BreakWord,
     CaseWord,
@@ -136,7 +136,7 @@ pub enum Kind {
 }
 
 /// A token, and where it lies in its file.
-#[derive(Clone, Copy, Debug, PartialEq, Eq)]
+#[derive(Clone, Copy, PartialEq, Eq)]
 pub struct Token {
     pub kind: Kind,
     /// The first byte, from 0.

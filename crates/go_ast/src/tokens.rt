@@ -8,7 +8,7 @@ use std::alloc::Global;
 use std::marker::Model;
 
 /// The tokens of a file, in order. A contract sees the list.
-#[derive(Debug, Drop)]
+#[derive(Drop)]
 pub struct Tokens {
     tokens: Vec<Token>,
 }

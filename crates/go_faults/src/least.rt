@@ -6,7 +6,7 @@ ghost use Rattle.go_faults.specs.Faults.{least_with};
 use crate::fault::Fault;
 
 /// The least of the faults that were reported so far; None where there was none.
-#[derive(Clone, Copy, Debug)]
+#[derive(Clone, Copy)]
 pub struct Least {
     pub fault: Option<Fault>,
 }

@@ -6,7 +6,7 @@ ghost use Rattle.go_rules.specs.Breaches.{whole, first, second};
 use go_base::Rule;
 
 /// A part of an operation, where a rule is broken.
-#[derive(Clone, Copy, Debug, PartialEq, Eq)]
+#[derive(Clone, Copy, PartialEq, Eq)]
 pub enum Part {
     /// The whole operation, at its first byte.
     Whole,
@@ -17,7 +17,7 @@ pub enum Part {
 }
 
 /// A rule that an operation breaks at a part of it.
-#[derive(Clone, Copy, Debug, PartialEq, Eq)]
+#[derive(Clone, Copy, PartialEq, Eq)]
 pub struct Breach {
     pub rule: Rule,
     pub part: Part,
@@ -56,7 +56,7 @@ impl Breach {
 }
 
 /// Why an operation on constants has no value.
-#[derive(Clone, Copy, Debug, PartialEq, Eq)]
+#[derive(Clone, Copy, PartialEq, Eq)]
 pub enum FoldError {
     Broken(Breach),
     OutOfMemory,

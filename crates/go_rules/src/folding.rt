@@ -17,7 +17,7 @@ use go_type::{
 use std::alloc::Global;
 
 /// The logical operators on two operands.
-#[derive(Clone, Copy, Debug, PartialEq, Eq)]
+#[derive(Clone, Copy, PartialEq, Eq)]
 pub enum LogicOp {
     /// `&&`
     And,

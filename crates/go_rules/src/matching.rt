@@ -9,7 +9,7 @@ use go_base::TypeId;
 use go_type::{TypeTerm, Types};
 
 /// What two operands become.
-#[derive(Clone, Copy, Debug, PartialEq, Eq)]
+#[derive(Clone, Copy, PartialEq, Eq)]
 pub enum Matched {
     /// Both have types of their own, which stay.
     Typed,

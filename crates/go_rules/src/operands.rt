@@ -8,7 +8,7 @@ use go_base::TypeId;
 use go_type::{Basic, CompareOp, ConstOp, TypeTerm, Types, comparable};
 
 /// What the values of a basic type are, untyped ones too.
-#[derive(Clone, Copy, Debug, PartialEq, Eq)]
+#[derive(Clone, Copy, PartialEq, Eq)]
 enum Class {
     Truth,
     Integer,

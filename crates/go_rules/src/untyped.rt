@@ -10,7 +10,7 @@ use go_base::TypeId;
 use go_type::{Basic, TypeTerm, Types, basic, int_kind};
 
 /// The kinds of untyped operands: `nil`, constants, and what is made of such.
-#[derive(Clone, Copy, Debug, PartialEq, Eq)]
+#[derive(Clone, Copy, PartialEq, Eq)]
 pub enum Untyped {
     Nil,
     Bool,

@@ -11,7 +11,7 @@ use go_value::{Fault, ValueError};
 use std::alloc::{AllocError, AllocFailed, Global};
 
 /// A fault, or want of memory.
-#[derive(Clone, Copy, Debug, PartialEq, Eq)]
+#[derive(Clone, Copy, PartialEq, Eq)]
 pub enum SchedError {
     Fault(Fault),
     OutOfMemory,
@@ -65,7 +65,7 @@ impl From<ValueError> for SchedError {
 }
 
 /// Why a goroutine is chosen: the current one goes on, stands last, waits, or has ended.
-#[derive(Clone, Copy, Debug, PartialEq, Eq)]
+#[derive(Clone, Copy, PartialEq, Eq)]
 pub enum Point {
     After,
     Yield,

@@ -57,7 +57,7 @@ pub struct SourcePackage {
 }
 
 /// An import that was found.
-#[derive(Clone, Copy, Debug, PartialEq, Eq)]
+#[derive(Clone, Copy, PartialEq, Eq)]
 pub struct Import {
     /// The literal of its path.
     pub literal: Token,

@@ -7,7 +7,7 @@ use std::alloc::Global;
 use std::marker::Model;
 
 /// The labels of packages, by number.
-#[derive(Debug, Drop)]
+#[derive(Drop)]
 pub struct Labels {
     items: Vec<Text>,
 }

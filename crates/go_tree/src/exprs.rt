@@ -139,14 +139,14 @@ pub enum ExprKind {
 }
 
 /// A method that is selected.
-#[derive(Clone, Copy, Debug, PartialEq, Eq)]
+#[derive(Clone, Copy, PartialEq, Eq)]
 pub enum Method {
     Concrete(FuncId),
     Interface { name: NameId, package: u32 },
 }
 
 /// What is indexed.
-#[derive(Clone, Copy, Debug, PartialEq, Eq)]
+#[derive(Clone, Copy, PartialEq, Eq)]
 pub enum IndexBase {
     Array,
     Slice,
@@ -154,7 +154,7 @@ pub enum IndexBase {
 }
 
 /// What is sliced.
-#[derive(Clone, Copy, Debug, PartialEq, Eq)]
+#[derive(Clone, Copy, PartialEq, Eq)]
 pub enum SliceBase {
     ArrayPointer,
     Slice,

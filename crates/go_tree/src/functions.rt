@@ -7,7 +7,7 @@ use std::alloc::Global;
 use std::marker::Model;
 
 /// What a function is.
-#[derive(Clone, Copy, Debug, PartialEq, Eq)]
+#[derive(Clone, Copy, PartialEq, Eq)]
 pub enum FunctionForm {
     Function,
     Method,
@@ -19,7 +19,7 @@ pub enum FunctionForm {
 }
 
 /// A function of a program, without its body.
-#[derive(Clone, Copy, Debug, PartialEq, Eq)]
+#[derive(Clone, Copy, PartialEq, Eq)]
 pub struct FunctionDecl {
     /// `_` for a literal and for what initialises a package.
     pub name: NameId,
@@ -36,7 +36,7 @@ pub struct FunctionDecl {
 }
 
 /// Functions, by their numbers.
-#[derive(Debug, Drop)]
+#[derive(Drop)]
 pub struct FunctionDecls {
     items: Vec<FunctionDecl>,
 }

@@ -7,7 +7,7 @@ use std::alloc::Global;
 use std::marker::Model;
 
 /// A package of a program. Its number is its place in the order in which packages are initialised.
-#[derive(Debug, Drop)]
+#[derive(Drop)]
 pub struct Package {
     /// Its import path; `command-line-arguments` for a target that has none.
     pub path: Text,
@@ -19,7 +19,7 @@ pub struct Package {
 }
 
 /// Packages, in the order in which they are initialised.
-#[derive(Debug, Drop)]
+#[derive(Drop)]
 pub struct Packages {
     items: Vec<Package>,
 }

@@ -282,7 +282,7 @@ impl Drop for Target {
 }
 
 /// What `:=` sets.
-#[derive(Clone, Copy, Debug, PartialEq, Eq)]
+#[derive(Clone, Copy, PartialEq, Eq)]
 pub enum DefineTarget {
     New(VarId),
     Old(VarId),
@@ -386,7 +386,7 @@ impl Drop for TypeClause {
 }
 
 /// A case of a switch over types.
-#[derive(Clone, Copy, Debug, PartialEq, Eq)]
+#[derive(Clone, Copy, PartialEq, Eq)]
 pub enum TypeCase {
     Nil,
     Of(TypeId),
@@ -466,7 +466,7 @@ impl Drop for ReceiveInto {
 }
 
 /// What a range goes over.
-#[derive(Clone, Copy, Debug, PartialEq, Eq)]
+#[derive(Clone, Copy, PartialEq, Eq)]
 pub enum RangeOver {
     Array,
     ArrayPointer,

@@ -7,7 +7,7 @@ use std::alloc::Global;
 use std::marker::Model;
 
 /// A variable of a program: one of a package, or one of a function, its parameters and results too.
-#[derive(Clone, Copy, Debug, PartialEq, Eq)]
+#[derive(Clone, Copy, PartialEq, Eq)]
 pub struct Variable {
     /// `_` for a parameter or result without a name.
     pub name: NameId,
@@ -20,7 +20,7 @@ pub struct Variable {
 }
 
 /// A type declaration that declares a type.
-#[derive(Clone, Copy, Debug, PartialEq, Eq)]
+#[derive(Clone, Copy, PartialEq, Eq)]
 pub struct DeclaredType {
     pub id: TypeId,
     /// Its name.
@@ -30,7 +30,7 @@ pub struct DeclaredType {
 }
 
 /// Variables, by their numbers.
-#[derive(Debug, Drop)]
+#[derive(Drop)]
 pub struct Variables {
     items: Vec<Variable>,
 }
@@ -95,7 +95,7 @@ impl Variables {
 }
 
 /// Numbers of variables, in order.
-#[derive(Debug, Drop)]
+#[derive(Drop)]
 pub struct VarIds {
     items: Vec<VarId>,
 }
@@ -160,7 +160,7 @@ impl VarIds {
 }
 
 /// Declared types, by package and then by place.
-#[derive(Debug, Drop)]
+#[derive(Drop)]
 pub struct DeclaredTypes {
     items: Vec<DeclaredType>,
 }

@@ -10,7 +10,7 @@ use std::alloc::Global;
 use std::cmp::Ordering;
 
 /// The value of a constant. `==` tells an integer from a rune; `same_value` does not.
-#[derive(Debug, Drop, PartialEq, Eq)]
+#[derive(Drop, PartialEq, Eq)]
 pub enum Const {
     Int(i128),
     Rune(i128),

@@ -9,7 +9,7 @@ use std::hash::{Hash, Hasher};
 use std::marker::Model;
 
 /// Types, in order.
-#[derive(Debug, Drop)]
+#[derive(Drop)]
 pub struct TypeIds {
     ids: Vec<TypeId>,
 }
@@ -91,7 +91,7 @@ impl Hash for TypeIds {
 }
 
 /// The fields of a struct, in order.
-#[derive(Debug, Drop)]
+#[derive(Drop)]
 pub struct Fields {
     fields: Vec<Field>,
 }
@@ -175,7 +175,7 @@ impl Hash for Fields {
 }
 
 /// The methods of an interface, ascending by the number of the name's id, then by package.
-#[derive(Debug, Drop)]
+#[derive(Drop)]
 pub struct MethodTypes {
     methods: Vec<MethodType>,
 }

@@ -12,7 +12,7 @@ use go_base::{NameId, NoMemory, TypeId};
 use std::alloc::Global;
 
 /// A name that is looked for, with the package that it belongs to.
-#[derive(Clone, Copy, Debug, PartialEq, Eq, PartialOrd, Ord)]
+#[derive(Clone, Copy, PartialEq, Eq, PartialOrd, Ord)]
 pub struct Wanted {
     pub name: NameId,
     pub package: u32,

@@ -7,7 +7,7 @@ use std::alloc::Global;
 use std::marker::Model;
 
 /// Field numbers from 0, the outermost first. A contract sees the list.
-#[derive(Debug, Drop)]
+#[derive(Drop)]
 pub struct Path {
     steps: Vec<u32>,
 }
@@ -108,7 +108,7 @@ impl Path {
 }
 
 /// What a selector selects.
-#[derive(Clone, Copy, Debug, PartialEq, Eq)]
+#[derive(Clone, Copy, PartialEq, Eq)]
 pub enum SelectionKind {
     Field,
     Method(FuncId),
@@ -116,7 +116,7 @@ pub enum SelectionKind {
 }
 
 /// A field or method that a selector selects.
-#[derive(Debug, Drop)]
+#[derive(Drop)]
 pub struct Selection {
     /// The embedded fields that lead to it, and the field itself where it is one.
     pub path: Path,
@@ -126,7 +126,7 @@ pub struct Selection {
 }
 
 /// Why a selector selects nothing.
-#[derive(Debug, Drop)]
+#[derive(Drop)]
 pub enum SelectError {
     /// There is no field or method of the name.
     Absent,
@@ -136,7 +136,7 @@ pub enum SelectError {
 }
 
 /// A method that a type has, its own or that of an embedded field.
-#[derive(Debug, Drop)]
+#[derive(Drop)]
 pub struct MethodEntry {
     pub name: NameId,
     /// The package of the method, or `EXPORTED`.
@@ -167,7 +167,7 @@ impl MethodEntry {
 }
 
 /// Methods. Those of a method set ascend by the number of the name's id, then by package.
-#[derive(Debug, Drop)]
+#[derive(Drop)]
 pub struct MethodSet {
     entries: Vec<MethodEntry>,
 }

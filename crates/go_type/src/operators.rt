@@ -6,7 +6,7 @@ ghost use Rattle.go_type.specs.Operators.{int_op_of, shift_of, text_of};
 use crate::constants::ConstOp;
 
 /// The operators on one operand. `+a` is `a`.
-#[derive(Clone, Copy, Debug, PartialEq, Eq)]
+#[derive(Clone, Copy, PartialEq, Eq)]
 pub enum UnaryOp {
     /// `-`
     Negate,
@@ -17,7 +17,7 @@ pub enum UnaryOp {
 }
 
 /// The operators on two operands whose result has the type of the left one.
-#[derive(Clone, Copy, Debug, PartialEq, Eq)]
+#[derive(Clone, Copy, PartialEq, Eq)]
 pub enum BinaryOp {
     Add,
     Sub,
@@ -33,7 +33,7 @@ pub enum BinaryOp {
 }
 
 /// The comparisons.
-#[derive(Clone, Copy, Debug, PartialEq, Eq)]
+#[derive(Clone, Copy, PartialEq, Eq)]
 pub enum CompareOp {
     Equal,
     NotEqual,
@@ -44,7 +44,7 @@ pub enum CompareOp {
 }
 
 /// The built-in functions.
-#[derive(Clone, Copy, Debug, PartialEq, Eq)]
+#[derive(Clone, Copy, PartialEq, Eq)]
 pub enum Builtin {
     Append,
     Cap,

@@ -10,7 +10,7 @@ use std::alloc::Global;
 pub const EXPORTED: u32 = 4_294_967_295;
 
 /// The name of a declared type, unlike that of every other.
-#[derive(Clone, Copy, Debug, PartialEq, Eq, Hash)]
+#[derive(Clone, Copy, PartialEq, Eq, Hash)]
 pub struct TypeName {
     pub name: NameId,
     /// The package that declares it; of the predeclared type `error` 4,294,967,295.
@@ -22,7 +22,7 @@ pub struct TypeName {
 }
 
 /// The predeclared basic types, and the kinds of untyped constants.
-#[derive(Clone, Copy, Debug, PartialEq, Eq, Hash)]
+#[derive(Clone, Copy, PartialEq, Eq, Hash)]
 pub enum Basic {
     Bool,
     Int,
@@ -65,7 +65,7 @@ pub const ALL_BASIC: [Basic; 17] = [
 ];
 
 /// What a channel is for.
-#[derive(Clone, Copy, Debug, PartialEq, Eq, Hash)]
+#[derive(Clone, Copy, PartialEq, Eq, Hash)]
 pub enum Dir {
     Both,
     Send,
@@ -73,7 +73,7 @@ pub enum Dir {
 }
 
 /// A function's parameters and results. A variadic one has a slice type as its last parameter.
-#[derive(Debug, Drop, PartialEq, Eq, Hash)]
+#[derive(Drop, PartialEq, Eq, Hash)]
 pub struct Signature {
     pub params: TypeIds,
     pub results: TypeIds,
@@ -94,7 +94,7 @@ impl Signature {
 }
 
 /// A field of a struct.
-#[derive(Debug, Drop, PartialEq, Eq, Hash)]
+#[derive(Drop, PartialEq, Eq, Hash)]
 pub struct Field {
     pub name: NameId,
     /// The package of the struct, or `EXPORTED`.
@@ -121,7 +121,7 @@ impl Field {
 }
 
 /// A method of an interface.
-#[derive(Clone, Copy, Debug, PartialEq, Eq, Hash)]
+#[derive(Clone, Copy, PartialEq, Eq, Hash)]
 pub struct MethodType {
     pub name: NameId,
     /// The package of the interface, or `EXPORTED`.
@@ -131,7 +131,7 @@ pub struct MethodType {
 }
 
 /// A type, whose parts are types that are held.
-#[derive(Debug, Drop, PartialEq, Eq, Hash)]
+#[derive(Drop, PartialEq, Eq, Hash)]
 pub enum TypeTerm {
     Basic(Basic),
     Declared(TypeName),

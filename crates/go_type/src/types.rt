@@ -25,7 +25,7 @@ const ERROR_INTERFACE: TypeId = TypeId { number: 18 };
 const ERROR: TypeId = TypeId { number: 19 };
 
 /// What is declared of a type.
-#[derive(Debug, Drop)]
+#[derive(Drop)]
 pub struct Definition {
     /// None until it is defined, and for a type that is not declared.
     pub underlying: Option<TypeId>,

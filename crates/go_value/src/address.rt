@@ -13,14 +13,14 @@ use std::rc::Rc;
 
 /// A pointer: nil where there is no cell, and then the path is empty. The path has field numbers and array indices,
 /// the outermost first.
-#[derive(Debug, Drop)]
+#[derive(Drop)]
 pub struct Pointer {
     pub cell: Option<CellId>,
     pub path: Path,
 }
 
 /// A slice: where its first element stands, its length and its capacity. Nil where the pointer is nil.
-#[derive(Debug, Drop)]
+#[derive(Drop)]
 pub struct SliceValue {
     pub at: Pointer,
     pub len: u64,

@@ -4,7 +4,7 @@ use go_base::{NoMemory, TypeId};
 use std::alloc::{AllocError, AllocFailed};
 
 /// Why an operation of a run has no value.
-#[derive(Clone, Copy, Debug, PartialEq, Eq)]
+#[derive(Clone, Copy, PartialEq, Eq)]
 pub enum Fault {
     Index {
         index: i128,
@@ -36,7 +36,7 @@ pub enum Fault {
 }
 
 /// A fault, or want of memory.
-#[derive(Clone, Copy, Debug, PartialEq, Eq)]
+#[derive(Clone, Copy, PartialEq, Eq)]
 pub enum ValueError {
     Fault(Fault),
     OutOfMemory,

@@ -127,7 +127,7 @@ impl Drop for FuncValue {
 }
 
 /// What a method value calls.
-#[derive(Clone, Copy, Debug, PartialEq, Eq)]
+#[derive(Clone, Copy, PartialEq, Eq)]
 pub enum BoundTarget {
     Function(FuncId),
     Interface { name: NameId, package: u32 },

@@ -7,7 +7,7 @@ use go_base::NoMemory;
 use std::alloc::Global;
 
 /// An import of the package `to` by the package `from`; packages are numbered from 0.
-#[derive(Clone, Copy, Debug, PartialEq, Eq, PartialOrd, Ord)]
+#[derive(Clone, Copy, PartialEq, Eq, PartialOrd, Ord)]
 pub struct Edge {
     pub from: u32,
     pub to: u32,

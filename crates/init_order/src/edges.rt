@@ -9,7 +9,7 @@ use go_base::NoMemory;
 use std::alloc::Global;
 
 /// An edge from one group of nodes to another.
-#[derive(Clone, Copy, Debug)]
+#[derive(Clone, Copy)]
 pub struct Edge {
     pub leaves: usize,
     pub enters: usize,

@@ -3,7 +3,7 @@
 use go_base::{Ending, Place, Rule, Text};
 
 /// What a call came to.
-#[derive(Debug, Drop)]
+#[derive(Drop)]
 pub enum Outcome {
     /// All that was asked was done.
     Done,

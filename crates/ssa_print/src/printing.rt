@@ -18,7 +18,7 @@ use ssa_sane::{Available, Registers, SanityError, sanity};
 use std::alloc::Global;
 
 /// What is written of a code.
-#[derive(Clone, Copy, Debug, PartialEq, Eq)]
+#[derive(Clone, Copy, PartialEq, Eq)]
 pub struct Show {
     /// Everything but the counts of registers.
     pub functions: bool,

@@ -13,7 +13,7 @@ use type_shapes::{
 };
 
 /// The type of an operand. Those of functions and of the addresses of package variables need not be held.
-#[derive(Clone, Copy, Debug, PartialEq, Eq)]
+#[derive(Clone, Copy, PartialEq, Eq)]
 pub enum Known {
     Held(TypeId),
     Function(FuncId),

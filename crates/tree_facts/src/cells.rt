@@ -13,7 +13,7 @@ use go_tree::{Body, Program, Variable};
 use std::alloc::Global;
 
 /// Variables, ascending by number and each once.
-#[derive(Debug, Drop)]
+#[derive(Drop)]
 pub struct VarSet {
     items: Vec<VarId>,
 }

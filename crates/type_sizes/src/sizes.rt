@@ -24,7 +24,7 @@ pub const MOST_NESTING: u64 = 1_000;
 const TOO_MANY: u64 = MOST_LEAVES + 1;
 
 /// How large a type is.
-#[derive(Clone, Copy, Debug, PartialEq, Eq)]
+#[derive(Clone, Copy, PartialEq, Eq)]
 pub struct Size {
     /// Whether its nesting is at most the greatest. A type without a nesting, as `type T struct { p *[1]T }`, is within
     /// every limit.
@@ -35,7 +35,7 @@ pub struct Size {
 }
 
 /// What was asked of a type.
-#[derive(Clone, Copy, Debug, PartialEq, Eq, Hash)]
+#[derive(Clone, Copy, PartialEq, Eq, Hash)]
 struct Asked {
     id: TypeId,
     depth: u64,

@@ -2,7 +2,7 @@
 
 /// What an expression is for the one above it. Go specification, "Address operators", "Assignment statements" and
 /// "Expression statements".
-#[derive(Clone, Copy, Debug, PartialEq, Eq)]
+#[derive(Clone, Copy, PartialEq, Eq)]
 pub enum Form {
     /// A variable, a dereference, an element of a slice, a field of a place or an element of an array that is a place.
     Place,
