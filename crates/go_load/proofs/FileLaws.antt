@@ -11,16 +11,16 @@ use Rattle.go_sources.specs.declared.sources.SourceFile.{SourceFile}
 use Rattle.go_sources.specs.BuiltIns.{built_in_path, built_in_text}
 use Rattle.go_sources.specs.Places.{place_in}
 use Rattle.go_sources.specs.Sources.{IsText, AreTold}
-use Rattle.go_load.specs.declared.error.LoadError.{LoadError}
-use Rattle.go_load.specs.declared.error.LoadError.TheVariants.{Refused, ReadFault, OutOfMemory}
+use Rattle.go_finding.specs.declared.error.LoadError.{LoadError}
+use Rattle.go_finding.specs.declared.error.LoadError.TheVariants.{Refused, ReadFault, OutOfMemory}
 use Rattle.go_load.specs.FileReading.{text_of, ReadsText, ReadsPath, ReadsPaths, ReadsBuiltIn, AreOf}
-use Rattle.go_load.specs.Finding.{view_file}
-use Rattle.go_load.specs.Modules.{Broken, ReadsWhole}
-use Rattle.go_load.specs.Places.{first_place, Refuses}
-use Rattle.go_load.specs.Programs.{File, Reads, TooLarge, TooMuch, Bad, Good, with_file, ReadsAll, Ends, Stops, Continues}
-use Rattle.go_load.specs.Projects.{FileText, text_at, texts_at}
+use Rattle.go_finding.specs.Finding.{view_file}
+use Rattle.go_finding.specs.Modules.{Broken, ReadsWhole}
+use Rattle.go_finding.specs.Places.{first_place, Refuses}
+use Rattle.go_finding.specs.Programs.{File, Reads, TooLarge, TooMuch, Bad, Good, with_file, ReadsAll, Ends, Stops, Continues}
+use Rattle.go_finding.specs.Projects.{FileText, text_at, texts_at}
 use Rattle.go_sources.specs.Reading.{HasTree}
-use Rattle.go_load.specs.Reading.{BreaksText, ReadsTree}
+use Rattle.go_finding.specs.Reading.{BreaksText, ReadsTree}
 
 -- ---- one text
 

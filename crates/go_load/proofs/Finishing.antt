@@ -9,18 +9,19 @@ use Rattle.go_base.specs.declared.rule.Rule.{Rule}
 use Rattle.go_sources.specs.declared.program.Sources.{Sources}
 use Rattle.go_sources.specs.BuiltIns.{built_in_named}
 use Rattle.go_sources.specs.Sources.{files_of, packages_of}
-use Rattle.go_load.specs.declared.error.LoadError.{LoadError}
-use Rattle.go_load.specs.declared.error.LoadError.TheVariants.{Refused, ReadFault, OutOfMemory}
-use Rattle.go_load.specs.declared.found.Entry.{Entry}
-use Rattle.go_load.specs.declared.found.Found.{Found}
+use Rattle.go_finding.specs.declared.error.LoadError.{LoadError}
+use Rattle.go_finding.specs.declared.error.LoadError.TheVariants.{Refused, ReadFault, OutOfMemory}
+use Rattle.go_finding.specs.declared.found.Entry.{Entry}
+use Rattle.go_finding.specs.declared.found.Found.{Found}
 use Rattle.go_load.specs.declared.loader.Loader.{Loader}
 use Rattle.go_load.specs.Answers.{IsSourcesOf}
-use Rattle.go_load.specs.Entries.{RuntimeFound}
-use Rattle.go_load.specs.Finding.{AreRight, listed}
-use Rattle.go_load.specs.Loading.{all_imports, broken, view_source, AreKnown, ChecksImports, Holds, ImportsChecked, IsAt, IsBrokenBehind, IsDone, IsLink, LoadsPackage, LoadsQueue, PackageLoaded, QueueLoaded, minor_of}
-use Rattle.go_load.specs.Modules.{Broken, view_module}
-use Rattle.go_load.specs.Programs.{Package, Link, BreaksPackage, IsComplete, IsPackage, IsResult, BadPackage, BadRuntime, Kept, Added, OfProgram, OnCycle, Program, has_runtime, import_files, imports_in, imports_of_package, known, runtime_path, with_import}
-use Rattle.go_load.specs.Projects.{Project, Origin, BuiltInFile, Paths, IsOriginAt, is_built_in, target_path}
+use Rattle.go_finding.specs.Entries.{RuntimeFound}
+use Rattle.go_finding.specs.Finding.{AreRight, listed}
+use Rattle.go_load.specs.Loading.{view_source, AreKnown, ChecksImports, Holds, ImportsChecked, IsAt, IsBrokenBehind, IsDone, IsLink, LoadsPackage, LoadsQueue, PackageLoaded, QueueLoaded, minor_of}
+use Rattle.go_finding.specs.Linking.{all_imports, broken}
+use Rattle.go_finding.specs.Modules.{Broken, view_module}
+use Rattle.go_finding.specs.Programs.{Package, Link, BreaksPackage, IsComplete, IsPackage, IsResult, BadPackage, BadRuntime, Kept, Added, OfProgram, OnCycle, Program, has_runtime, import_files, imports_in, imports_of_package, known, runtime_path, with_import}
+use Rattle.go_finding.specs.Projects.{Project, Origin, BuiltInFile, Paths, IsOriginAt, is_built_in, target_path}
 use Rattle.go_load.specs.Starting.{Finishes, HoldsAll, LoadsRuntime, RuntimeLoaded}
 use Rattle.go_load.proofs.Fronts.{imports_more, known_more, longer}
 use Rattle.go_load.proofs.Growth.{Grows, all_known, grows_by_text, known_both, same_imports, same_links}

@@ -4,9 +4,9 @@ use Rattle.std.proofs.lemmas.List.{append-nil, length_push}
 use Rattle.std.proofs.lemmas.Option.{slice_get_within}
 use Rattle.std.specs.List.{flat_map, fold, list_any}
 use Rattle.go_base.specs.NameTable.{with_text}
-use Rattle.go_load.specs.Imports.{Import, import_path}
-use Rattle.go_load.specs.Programs.{Package, known, imports_of_package, with_import, IsFront, Nothing, More}
-use Rattle.go_load.specs.Projects.{Project, target_path}
+use Rattle.go_finding.specs.Imports.{Import, import_path}
+use Rattle.go_finding.specs.Programs.{Package, known, imports_of_package, with_import, IsFront, Nothing, More}
+use Rattle.go_finding.specs.Projects.{Project, target_path}
 
 pub fold_append : {A B : Type 0} (f : B → A → B) (a : B) (xs ys : List A) → fold f a (xs ++ ys) ≡ fold f (fold f a xs) ys
 fold_append f a [] ys = refl

@@ -4,10 +4,11 @@ use Rattle.std.specs.List.{flat_map, fold, list_any}
 use Rattle.std.specs.Cmp.Lexicographic.{nat_list_eq_equiv}
 use Rattle.go_base.specs.NameTable.{place_of, with_text}
 use Rattle.go_sources.specs.declared.sources.Import as numbers
-use Rattle.go_load.specs.Finding.{numbered, numbered_files}
-use Rattle.go_load.specs.Imports.{Import, import_path}
-use Rattle.go_load.specs.Loading.{AreKnown, imports_of_each, all_imports}
-use Rattle.go_load.specs.Programs.{File, Package, import_files, imports_in, imports_of_files, imports_of_package, link_of, links_of_file, links_from, with_import}
+use Rattle.go_finding.specs.Finding.{numbered, numbered_files}
+use Rattle.go_finding.specs.Imports.{Import, import_path}
+use Rattle.go_load.specs.Loading.{AreKnown}
+use Rattle.go_finding.specs.Linking.{imports_of_each, all_imports}
+use Rattle.go_finding.specs.Programs.{File, Package, import_files, imports_in, imports_of_files, imports_of_package, link_of, links_of_file, links_from, with_import}
 
 any_push : (p q : List ℕ) (paths : List (List ℕ)) → list_any (bytes_eq p) paths ≡ true → list_any (bytes_eq p) (paths ++ q ∷ []) ≡ true
 any_push p q [] h = cc

@@ -7,16 +7,17 @@ use Rattle.std.specs.declared.alloc.Global.{Global}
 use Rattle.go_sources.specs.declared.sources.Import as numbers
 use Rattle.go_sources.specs.declared.sources.SourceFile.{SourceFile}
 use Rattle.go_sources.specs.declared.sources.SourcePackage.{SourcePackage}
-use Rattle.go_load.specs.declared.found.Entry.{Entry}
-use Rattle.go_load.specs.declared.found.Found.{Found}
-use Rattle.go_load.specs.declared.links.Link as code
+use Rattle.go_finding.specs.declared.found.Entry.{Entry}
+use Rattle.go_finding.specs.declared.found.Found.{Found}
+use Rattle.go_finding.specs.declared.links.Link as code
 use Rattle.go_load.specs.declared.loader.Loader.{Loader}
 use Rattle.go_load.specs.FileReading.{AreOf}
-use Rattle.go_load.specs.Finding.{view_file, view_origin, AreRight, listed, numbered, numbered_files}
-use Rattle.go_load.specs.Imports.{Import}
-use Rattle.go_load.specs.Loading.{view_source, files_from, header, headers_from, all_imports, imports_of_each, imports_of_all, IsLink, AreKnown, Holds, kept_in_file, kept_links, told_package, AddsPackage}
-use Rattle.go_load.specs.Programs.{File, Package, Link, import_files, imports_in, imports_of_package, with_import, link_of, links_of_file, links_from, size, are_program}
-use Rattle.go_load.specs.Projects.{Project, is_built_in}
+use Rattle.go_finding.specs.Finding.{view_file, view_origin, AreRight, listed, numbered, numbered_files}
+use Rattle.go_finding.specs.Imports.{Import}
+use Rattle.go_load.specs.Loading.{view_source, files_from, header, headers_from, IsLink, AreKnown, Holds, told_package, AddsPackage}
+use Rattle.go_finding.specs.Linking.{all_imports, imports_of_each, imports_of_all, kept_in_file, kept_links}
+use Rattle.go_finding.specs.Programs.{File, Package, Link, import_files, imports_in, imports_of_package, with_import, link_of, links_of_file, links_from, size, are_program}
+use Rattle.go_finding.specs.Projects.{Project, is_built_in}
 use Rattle.go_load.proofs.Fronts.{fold_append, imports_more, flat_more}
 use Rattle.go_load.proofs.Growth.{Grows, grows_by_imports, all_known, known_both, known_now, same_imports, same_links}
 

@@ -11,14 +11,14 @@ use Rattle.import_graph.specs.Cycles.{IsFirstOnCycle, IsOnCycle}
 use Rattle.import_graph.specs.declared.edges.Edge.{Edge}
 use Rattle.go_sources.specs.declared.sources.SourceFile.{SourceFile}
 use Rattle.go_sources.specs.Places.{place_in}
-use Rattle.go_load.specs.declared.error.LoadError.{LoadError}
-use Rattle.go_load.specs.declared.error.LoadError.TheVariants.{Refused, ReadFault, OutOfMemory}
-use Rattle.go_load.specs.declared.links.Link as code
+use Rattle.go_finding.specs.declared.error.LoadError.{LoadError}
+use Rattle.go_finding.specs.declared.error.LoadError.TheVariants.{Refused, ReadFault, OutOfMemory}
+use Rattle.go_finding.specs.declared.links.Link as code
 use Rattle.go_load.specs.declared.loader.Loader.{Loader}
 use Rattle.go_load.specs.Loading.{ChecksImports, Holds, IsLink, is_program_number, is_of_program}
-use Rattle.go_load.specs.Places.{Refuses}
-use Rattle.go_load.specs.Programs.{Package, Link, are_program, edge_of, first_of_program, is_program_at, known, links, links_from}
-use Rattle.go_load.specs.Projects.{Project}
+use Rattle.go_finding.specs.Places.{Refuses}
+use Rattle.go_finding.specs.Programs.{Package, Link, are_program, edge_of, first_of_program, is_program_at, known, links, links_from}
+use Rattle.go_finding.specs.Projects.{Project}
 
 -- the refusal at an import that the loader keeps
 abbrev pub RefusesAt : Loader → code.Link → Rule → LoadError → Type 0

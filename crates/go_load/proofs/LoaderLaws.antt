@@ -4,17 +4,18 @@ use Rattle.go_base.specs.declared.place.Place.{Place}
 use Rattle.go_base.specs.declared.rule.Rule.{Rule}
 use Rattle.go_base.specs.declared.rule.Rule.TheVariants as rules
 use Rattle.go_sources.specs.declared.sources.SourceFile.{SourceFile}
-use Rattle.go_load.specs.declared.error.LoadError.{LoadError}
-use Rattle.go_load.specs.declared.error.LoadError.TheVariants.{Refused, ReadFault, OutOfMemory}
-use Rattle.go_load.specs.declared.found.Entry.{Entry}
+use Rattle.go_finding.specs.declared.error.LoadError.{LoadError}
+use Rattle.go_finding.specs.declared.error.LoadError.TheVariants.{Refused, ReadFault, OutOfMemory}
+use Rattle.go_finding.specs.declared.found.Entry.{Entry}
 use Rattle.go_load.specs.declared.loader.Loader.{Loader}
-use Rattle.go_load.specs.Finding.{view_origin, IsRightAt}
-use Rattle.go_load.specs.Loading.{broken, IfEntry, Checks, ChecksFiles}
-use Rattle.go_load.specs.Modules.{Broken}
-use Rattle.go_load.specs.Places.{first_place, Refuses}
-use Rattle.go_load.specs.Programs.{File, ReadsAll, Ends, Stops, Continues, name_fault, path_asked}
-use Rattle.go_load.specs.Projects.{FileText, Project, Origin, BuiltInFile, Paths, texts_of, texts_at, dir_named, IsOriginOfImport}
-use Rattle.go_load.proofs.Listings.{directory_texts}
+use Rattle.go_finding.specs.Finding.{view_origin, IsRightAt}
+use Rattle.go_load.specs.Loading.{Checks, ChecksFiles}
+use Rattle.go_finding.specs.Linking.{broken, IfEntry}
+use Rattle.go_finding.specs.Modules.{Broken}
+use Rattle.go_finding.specs.Places.{first_place, Refuses}
+use Rattle.go_finding.specs.Programs.{File, ReadsAll, Ends, Stops, Continues, name_fault, path_asked}
+use Rattle.go_finding.specs.Projects.{FileText, Project, Origin, BuiltInFile, Paths, texts_of, texts_at, dir_named, IsOriginOfImport}
+use Rattle.go_finding.proofs.Listings.{directory_texts}
 
 -- ---- the check of the files
 

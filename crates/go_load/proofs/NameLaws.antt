@@ -5,9 +5,9 @@ use Rattle.std.proofs.lemmas.List.{map_more}
 use Rattle.std.proofs.lemmas.List.Sums.{sum_by_push}
 use Rattle.go_base.specs.declared.rule.Rule.TheVariants as rules
 use Rattle.go_sources.specs.declared.sources.SourceFile.{SourceFile}
-use Rattle.go_load.specs.Finding.{view_file}
-use Rattle.go_load.specs.Modules.{Broken}
-use Rattle.go_load.specs.Programs.{File, broken_at, name_of, other_name}
+use Rattle.go_finding.specs.Finding.{view_file}
+use Rattle.go_finding.specs.Modules.{Broken}
+use Rattle.go_finding.specs.Programs.{File, broken_at, name_of, other_name}
 
 -- ---- sizes
 

@@ -8,18 +8,19 @@ use Rattle.go_base.specs.declared.rule.Rule.{Rule}
 use Rattle.go_sources.specs.declared.sources.Import as numbers
 use Rattle.go_sources.specs.declared.sources.SourceFile.{SourceFile}
 use Rattle.go_sources.specs.declared.sources.SourcePackage.{SourcePackage}
-use Rattle.go_load.specs.declared.error.LoadError.{LoadError}
-use Rattle.go_load.specs.declared.error.LoadError.TheVariants.{Refused, ReadFault, OutOfMemory}
-use Rattle.go_load.specs.declared.found.Entry.{Entry}
-use Rattle.go_load.specs.declared.found.Found.{Found}
+use Rattle.go_finding.specs.declared.error.LoadError.{LoadError}
+use Rattle.go_finding.specs.declared.error.LoadError.TheVariants.{Refused, ReadFault, OutOfMemory}
+use Rattle.go_finding.specs.declared.found.Entry.{Entry}
+use Rattle.go_finding.specs.declared.found.Found.{Found}
 use Rattle.go_load.specs.declared.loader.Loader.{Loader}
 use Rattle.go_load.specs.FileReading.{AreOf, AnswersBy, view_files}
-use Rattle.go_load.specs.Finding.{view_file, view_origin, AreRight, IsRightAt}
-use Rattle.go_load.specs.Loading.{broken, Checks, ChecksFiles, FindsImportsOf, Holds, IfEntry, LoadsFiles, LoadsPackage, PackageImportsFound, PackageLoaded, AddsPackage, told_package}
-use Rattle.go_load.specs.Modules.{Broken}
-use Rattle.go_load.specs.Programs.{File, Package, Loads, Unread, Faulty, Sound, LoadsNext, ReadsAll, name_fault, package_fault, or_else, unfound, import_files}
-use Rattle.go_load.specs.Projects.{Project, Origin, texts_of, is_built_in}
-use Rattle.go_load.specs.Reading.{max_file_bytes}
+use Rattle.go_finding.specs.Finding.{view_file, view_origin, AreRight, IsRightAt}
+use Rattle.go_load.specs.Loading.{Checks, ChecksFiles, Holds, LoadsFiles, LoadsPackage, PackageLoaded, AddsPackage, told_package}
+use Rattle.go_finding.specs.Linking.{broken, FindsImportsOf, IfEntry, PackageImportsFound}
+use Rattle.go_finding.specs.Modules.{Broken}
+use Rattle.go_finding.specs.Programs.{File, Package, Loads, Unread, Faulty, Sound, LoadsNext, ReadsAll, name_fault, package_fault, or_else, unfound, import_files}
+use Rattle.go_finding.specs.Projects.{Project, Origin, texts_of, is_built_in}
+use Rattle.go_finding.specs.Reading.{max_file_bytes}
 use Rattle.go_load.proofs.Holding.{holds_more, package_at}
 
 there : {A : Type 0} (xs : List A) (i : ℕ) → i < length xs → (x : A) × (slice_get xs i ≡ Some x)

@@ -3,13 +3,13 @@ use Rattle.std.proofs.Common.{◌≡◌, ℕ, ◌+◌, ◌≤◌, List, [], ◌�
 use Rattle.std.proofs.lemmas.List.{length-map}
 use Rattle.std.specs.List.{fold}
 use Rattle.go_base.specs.Devices.{Tree}
-use Rattle.go_load.specs.declared.error.LoadError.{LoadError}
-use Rattle.go_load.specs.declared.error.LoadError.TheVariants.{Refused, ReadFault, OutOfMemory}
-use Rattle.go_load.specs.declared.found.Entry.{Entry}
+use Rattle.go_finding.specs.declared.error.LoadError.{LoadError}
+use Rattle.go_finding.specs.declared.error.LoadError.TheVariants.{Refused, ReadFault, OutOfMemory}
+use Rattle.go_finding.specs.declared.found.Entry.{Entry}
 use Rattle.go_load.specs.declared.loader.Loader.{Loader}
 use Rattle.go_load.specs.Loading.{headers_from, IsAt, LoadsPackage, LoadsQueue, PackageLoaded}
-use Rattle.go_load.specs.Programs.{Package, IsNext, known, imports_of_package, with_import, More}
-use Rattle.go_load.specs.Projects.{Project}
+use Rattle.go_finding.specs.Programs.{Package, IsNext, known, imports_of_package, with_import, More}
+use Rattle.go_finding.specs.Projects.{Project}
 use Rattle.go_load.proofs.Fronts.{known_more, front_known}
 
 -- the loader holds some packages that are loaded first

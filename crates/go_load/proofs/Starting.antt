@@ -7,21 +7,21 @@ use Rattle.go_base.specs.declared.target.Target.{Target}
 use Rattle.go_base.specs.declared.target.Target.TheVariants as targets
 use Rattle.go_sources.specs.declared.program.Sources.{Sources}
 use Rattle.go_sources.specs.Sources.{AreTold, files_of}
-use Rattle.go_load.specs.declared.error.LoadError.{LoadError}
-use Rattle.go_load.specs.declared.error.LoadError.TheVariants.{Refused, ReadFault, OutOfMemory}
-use Rattle.go_load.specs.declared.find_module.Module as modules
-use Rattle.go_load.specs.declared.found.Entry.{Entry}
-use Rattle.go_load.specs.declared.found.Found.{Found}
-use Rattle.go_load.specs.declared.links.Link.{Link}
+use Rattle.go_finding.specs.declared.error.LoadError.{LoadError}
+use Rattle.go_finding.specs.declared.error.LoadError.TheVariants.{Refused, ReadFault, OutOfMemory}
+use Rattle.go_finding.specs.declared.find_module.Module as modules
+use Rattle.go_finding.specs.declared.found.Entry.{Entry}
+use Rattle.go_finding.specs.declared.found.Found.{Found}
+use Rattle.go_finding.specs.declared.links.Link.{Link}
 use Rattle.go_load.specs.declared.loader.Loader.{Loader}
 use Rattle.go_load.specs.Answers.{max_program_bytes, sound_module, HasStopped, IsAnswer, IsAnswerIn, IsLoaded, IsProjectOf}
-use Rattle.go_load.specs.Finding.{listed, view_origin, AreRight, BeginsWith, IsRightAt}
-use Rattle.go_load.specs.GoPaths.{ListsGoPaths}
+use Rattle.go_finding.specs.Finding.{listed, view_origin, AreRight, BeginsWith, IsRightAt}
+use Rattle.go_finding.specs.GoPaths.{ListsGoPaths}
 use Rattle.go_load.specs.Loading.{view_source, IsAt, IsLink}
-use Rattle.go_load.specs.Modules.{view_module, AnswersModule, Governs, IsTargetDir}
-use Rattle.go_load.specs.Programs.{Nothing, path_asked}
-use Rattle.go_load.specs.Projects.{Project, Paths, IsOriginOfTarget, path_of_target, target_path}
-use Rattle.go_load.specs.Refusals.{Stops}
+use Rattle.go_finding.specs.Modules.{view_module, AnswersModule, Governs, IsTargetDir}
+use Rattle.go_finding.specs.Programs.{Nothing, path_asked}
+use Rattle.go_finding.specs.Projects.{Project, Paths, IsOriginOfTarget, path_of_target, target_path}
+use Rattle.go_finding.specs.Refusals.{Stops}
 use Rattle.go_load.specs.Starting.{project_with, AnswersProject, BeginsProject, FindsTarget, Finishes, ListsTarget}
 
 -- ---- the files of the target

@@ -4,12 +4,12 @@ use Rattle.go_base.specs.declared.rule.Rule.{Rule}
 use Rattle.go_base.specs.declared.rule.Rule.TheVariants as rules
 use Rattle.go_ast.specs.declared.token.Token.{Token}
 use Rattle.go_ast.specs.Lexical.{IsTokenList, IsFault}
-use Rattle.go_parse.specs.declared.stop.ParseError.TheVariants as parses
+use Rattle.parse_answer.specs.declared.error.ParseError.TheVariants as parses
 use Rattle.go_sources.specs.Places.{place_in}
-use Rattle.go_load.specs.declared.error.LoadError.{LoadError}
-use Rattle.go_load.specs.declared.error.LoadError.TheVariants.{Refused, ReadFault, OutOfMemory}
-use Rattle.go_load.specs.Places.{start_in, Refuses}
-use Rattle.go_load.specs.Reading.{IsVerdict, IsBadText, BadBytes, TooDeep, BadSyntax, ReadsTree}
+use Rattle.go_finding.specs.declared.error.LoadError.{LoadError}
+use Rattle.go_finding.specs.declared.error.LoadError.TheVariants.{Refused, ReadFault, OutOfMemory}
+use Rattle.go_finding.specs.Places.{start_in, Refuses}
+use Rattle.go_finding.specs.Reading.{IsVerdict, IsBadText, BadBytes, TooDeep, BadSyntax, ReadsTree}
 
 breaks_text : (path bytes : List ℕ) (offset : ℕ) (rule : Rule) (error : LoadError) → IsBadText bytes offset rule → Refuses (place_in path bytes offset) rule error → ReadsTree path bytes (Err error)
 breaks_text path bytes offset rule (Refused at by) bad same = rw same.1 (record { offset = offset; bad = bad; place_is = same.0 })

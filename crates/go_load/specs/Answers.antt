@@ -7,14 +7,15 @@ use Rattle.go_base.specs.declared.target.Target.{Target}
 use Rattle.go_base.specs.declared.target.Target.TheVariants as targets
 use Rattle.go_sources.specs.declared.program.Sources.{Sources}
 use Rattle.go_sources.specs.Sources.{AreTold, files_of, packages_of}
-use Rattle.go_load.specs.declared.error.LoadError.{LoadError}
-use Rattle.go_load.specs.declared.error.LoadError.TheVariants.{Refused, ReadFault, OutOfMemory}
-use Rattle.go_load.specs.Finding.{listed}
-use Rattle.go_load.specs.Loading.{broken, minor_of, view_source, files_from, headers_from, all_imports}
-use Rattle.go_load.specs.Modules.{Broken, Module, Governs, IsTargetDir}
-use Rattle.go_load.specs.Programs.{Package, IsResult, known}
-use Rattle.go_load.specs.Projects.{Project}
-use Rattle.go_load.specs.Refusals.{Justifies}
+use Rattle.go_finding.specs.declared.error.LoadError.{LoadError}
+use Rattle.go_finding.specs.declared.error.LoadError.TheVariants.{Refused, ReadFault, OutOfMemory}
+use Rattle.go_finding.specs.Finding.{listed}
+use Rattle.go_load.specs.Loading.{minor_of, view_source, files_from, headers_from}
+use Rattle.go_finding.specs.Linking.{broken, all_imports}
+use Rattle.go_finding.specs.Modules.{Broken, Module, Governs, IsTargetDir}
+use Rattle.go_finding.specs.Programs.{Package, IsResult, known}
+use Rattle.go_finding.specs.Projects.{Project}
+use Rattle.go_finding.specs.Refusals.{Justifies}
 
 -- the most bytes that all Go files together may have
 abbrev pub max_program_bytes : ℕ

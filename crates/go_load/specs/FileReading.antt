@@ -7,13 +7,13 @@ use Rattle.go_base.specs.Devices.{Tree, file_at}
 use Rattle.go_sources.specs.declared.built_in.BuiltIn.{BuiltIn}
 use Rattle.go_sources.specs.declared.sources.SourceFile.{SourceFile}
 use Rattle.go_sources.specs.BuiltIns.{built_in_path, built_in_text}
-use Rattle.go_load.specs.declared.error.LoadError.{LoadError}
-use Rattle.go_load.specs.declared.error.LoadError.TheVariants.{Refused, ReadFault, OutOfMemory}
-use Rattle.go_load.specs.Finding.{view_file}
-use Rattle.go_load.specs.Modules.{Broken}
-use Rattle.go_load.specs.Programs.{File, Reads, ReadsAll}
-use Rattle.go_load.specs.Projects.{FileText, texts_at}
-use Rattle.go_load.specs.Reading.{max_file_bytes}
+use Rattle.go_finding.specs.declared.error.LoadError.{LoadError}
+use Rattle.go_finding.specs.declared.error.LoadError.TheVariants.{Refused, ReadFault, OutOfMemory}
+use Rattle.go_finding.specs.Finding.{view_file}
+use Rattle.go_finding.specs.Modules.{Broken}
+use Rattle.go_finding.specs.Programs.{File, Reads, ReadsAll}
+use Rattle.go_finding.specs.Projects.{FileText, texts_at}
+use Rattle.go_finding.specs.Reading.{max_file_bytes}
 
 abbrev pub text_of : List ℕ → List ℕ → FileText
 text_of path bytes = record { path = path; bytes = bytes }

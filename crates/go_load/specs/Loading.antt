@@ -13,22 +13,23 @@ use Rattle.go_sources.specs.declared.sources.SourceFile.{SourceFile}
 use Rattle.go_sources.specs.declared.sources.SourcePackage.{SourcePackage}
 use Rattle.go_sources.specs.Sources.{newest_minor}
 use Rattle.go_sources.specs.Places.{place_in}
-use Rattle.go_load.specs.declared.error.LoadError.{LoadError}
-use Rattle.go_load.specs.declared.error.LoadError.TheVariants.{Refused, ReadFault, OutOfMemory}
-use Rattle.go_load.specs.declared.found.Entry.{Entry}
-use Rattle.go_load.specs.declared.found.Found.{Found}
-use Rattle.go_load.specs.declared.links.Link as code
+use Rattle.go_finding.specs.declared.error.LoadError.{LoadError}
+use Rattle.go_finding.specs.declared.error.LoadError.TheVariants.{Refused, ReadFault, OutOfMemory}
+use Rattle.go_finding.specs.declared.found.Entry.{Entry}
+use Rattle.go_finding.specs.declared.found.Found.{Found}
+use Rattle.go_finding.specs.declared.links.Link as code
 use Rattle.go_load.specs.declared.loader.Loader.{Loader}
 use Rattle.go_load.specs.FileReading.{AnswersBy, view_files}
-use Rattle.go_load.specs.Finding.{view_file, view_origin, AreRight, listed, numbered_files}
-use Rattle.go_load.specs.Imports.{Import, import_path}
-use Rattle.go_load.specs.Modules.{Broken, Module}
-use Rattle.go_load.specs.Programs.{File, Package, Link, IsPackage, BreaksPackage, IsFront, ReadsAll, name_fault}
-use Rattle.go_load.specs.Programs.{path_asked, first_of_program, links, AreImportsSound, IsNext, IsOnCycleFirst}
-use Rattle.go_load.specs.Programs.{unfound, import_files, imports_of_files, imports_of_package, with_import, known}
-use Rattle.go_load.specs.Programs.{links_from, room_for, are_program}
-use Rattle.go_load.specs.Projects.{Project, Origin, texts_of, is_built_in}
-use Rattle.go_load.specs.Reading.{max_file_bytes}
+use Rattle.go_finding.specs.Finding.{view_file, view_origin, AreRight, listed, numbered_files}
+use Rattle.go_finding.specs.Imports.{Import, import_path}
+use Rattle.go_finding.specs.Modules.{Broken, Module}
+use Rattle.go_finding.specs.Programs.{File, Package, Link, IsPackage, BreaksPackage, IsFront, ReadsAll, name_fault}
+use Rattle.go_finding.specs.Programs.{path_asked, first_of_program, links, AreImportsSound, IsNext, IsOnCycleFirst}
+use Rattle.go_finding.specs.Programs.{unfound, import_files, imports_of_files, imports_of_package, with_import, known}
+use Rattle.go_finding.specs.Programs.{links_from, room_for, are_program}
+use Rattle.go_finding.specs.Projects.{Project, Origin, texts_of, is_built_in}
+use Rattle.go_finding.specs.Reading.{max_file_bytes}
+use Rattle.go_finding.specs.Linking.{imports_of_each, all_imports, broken, IfEntry, imports_of_all, PackageImportsFound, FindsImportsOf, kept_in_file, kept_links}
 
 -- ---- what a loader holds
 
@@ -53,15 +54,6 @@ abbrev pub headers_from : ℕ → ℕ → List Package → List SourcePackage
 headers_from number first [] = []
 headers_from number first (one ∷ packages) =
     header number first one ∷ headers_from (number + 1) (first + length one.files) packages
-
--- for each file of a package its imports; those of a built-in package have none
-abbrev pub imports_of_each : List (List ℕ) → Package → List (List numbers.Import)
-imports_of_each paths one =
-    if one.built_in then map (λ file. []) one.files else numbered_files paths one.files
-
--- for each file of packages its imports
-abbrev pub all_imports : List (List ℕ) → List Package → List (List numbers.Import)
-all_imports paths packages = flat_map (imports_of_each paths) packages
 
 -- an import as the loader keeps it: its place is in a file that was loaded
 pub record IsLink (files : List SourceFile) (kept : code.Link) (link : Link) : Type 0 where
@@ -100,13 +92,6 @@ minor_of (Some root) = root.minor
 
 -- ---- answers
 
-abbrev pub broken : Place → Rule → Broken
-broken place rule = record { place = place; rule = rule }
-
--- what was found at a number
-abbrev pub IfEntry : Found → ℕ → (Entry → Type 0) → Type 0
-IfEntry found number Holds = IfSome (slice_get found.entries.items number) Holds
-
 -- an answer that names the first rule that is broken, if there is one
 abbrev pub Checks : {X : Type 0} → Option Broken → Result X LoadError → Type 0
 Checks fault (Ok x) = fault ≡ None
@@ -131,44 +116,6 @@ ChecksFiles number loader sources result =
     → IfEntry loader.found number
     (λ entry. ReadsAll room (texts_of project.files (view_origin entry.origin)) (Ok (map view_file sources)))
     → Checks (name_fault project.target (map view_file sources)) result
-
--- for each file its imports, where a built-in package has none
-abbrev pub imports_of_all : List (List ℕ) → Bool → List File → List (List numbers.Import)
-imports_of_all paths built_in files = if built_in then map (λ file. []) files else numbered_files paths files
-
--- the answer for the imports of a package's files
-abbrev pub PackageImportsFound : Project → Found → Found → Bool → List File
-    → Result (Vec (Vec numbers.Import Global) Global) LoadError → Type 0
-PackageImportsFound project old new built_in files (Ok all) =
-    (unfound project (import_files built_in files) ≡ None)
-    × (listed all.items ≡ imports_of_all new.paths built_in files)
-    × (new.paths ≡ fold with_import old.paths (imports_of_files (import_files built_in files)))
-    × AreRight project new
-PackageImportsFound project old new built_in files (Err (Refused place rule)) =
-    unfound project (import_files built_in files) ≡ Some (broken place rule)
-PackageImportsFound project old new built_in files (Err ReadFault) = Unit {0}
-PackageImportsFound project old new built_in files (Err OutOfMemory) = Unit {0}
-
-abbrev pub FindsImportsOf : Tree → ℕ → Found → Found → List SourceFile
-    → Result (Vec (Vec numbers.Import Global) Global) LoadError → Type 0
-FindsImportsOf files number old new sources result =
-    (project : Project) → project.files ≡ files → AreRight project old
-    → IfEntry old number
-    (λ entry. PackageImportsFound project old new (is_built_in (view_origin entry.origin)) (map view_file sources)
-    result)
-
--- the imports of a file as the loader keeps them
-abbrev pub kept_in_file : ℕ → ℕ → List numbers.Import → List code.Link
-kept_in_file number file imports =
-    map (λ (import : numbers.Import). record {
-      edge = record { from = number; to = import.package };
-      at = record { file = file; offset = import.literal.start };
-    }) imports
-
--- the imports of files as the loader keeps them; the first file has the number `first`
-abbrev pub kept_links : ℕ → ℕ → List (List numbers.Import) → List code.Link
-kept_links number first [] = []
-kept_links number first (imports ∷ more) = kept_in_file number first imports ++ kept_links number (first + 1) more
 
 -- a package as it is told
 abbrev pub told_package : ℕ → ℕ → Entry → List File → SourcePackage

@@ -5,17 +5,18 @@ use Rattle.std.specs.declared.alloc.Global.{Global}
 use Rattle.go_base.specs.Devices.{Tree}
 use Rattle.go_base.specs.declared.target.Target.{Target}
 use Rattle.go_sources.specs.declared.program.Sources.{Sources}
-use Rattle.go_load.specs.declared.error.LoadError.{LoadError}
-use Rattle.go_load.specs.declared.error.LoadError.TheVariants.{Refused, ReadFault, OutOfMemory}
-use Rattle.go_load.specs.declared.find_module.Module as modules
-use Rattle.go_load.specs.declared.found.Found.{Found}
+use Rattle.go_finding.specs.declared.error.LoadError.{LoadError}
+use Rattle.go_finding.specs.declared.error.LoadError.TheVariants.{Refused, ReadFault, OutOfMemory}
+use Rattle.go_finding.specs.declared.find_module.Module as modules
+use Rattle.go_finding.specs.declared.found.Found.{Found}
 use Rattle.go_load.specs.declared.loader.Loader.{Loader}
 use Rattle.go_load.specs.Answers.{IsAnswerIn}
-use Rattle.go_load.specs.Finding.{AreRight, listed}
-use Rattle.go_load.specs.Loading.{Holds, IsAt, all_imports, broken}
-use Rattle.go_load.specs.Modules.{view_module}
-use Rattle.go_load.specs.Programs.{Package, BreaksPackage, IsWithRuntime, has_runtime, known, runtime_path}
-use Rattle.go_load.specs.Projects.{Project, Paths, IsOriginOfTarget, target_path}
+use Rattle.go_finding.specs.Finding.{AreRight, listed}
+use Rattle.go_load.specs.Loading.{Holds, IsAt}
+use Rattle.go_finding.specs.Linking.{all_imports, broken}
+use Rattle.go_finding.specs.Modules.{view_module}
+use Rattle.go_finding.specs.Programs.{Package, BreaksPackage, IsWithRuntime, has_runtime, known, runtime_path}
+use Rattle.go_finding.specs.Projects.{Project, Paths, IsOriginOfTarget, target_path}
 
 -- the project of a target in these files, whose module is this one
 abbrev pub project_with : Tree → Option modules.Module → Target → ℕ → Project

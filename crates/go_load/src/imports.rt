@@ -4,12 +4,11 @@ ghost use Rattle.std.specs.Prelude.{◌≡◌, map, Option, IfErr, IfOk, IsErrOf
 ghost use Rattle.std.specs.List.{find};
 ghost use Rattle.go_base.specs.Devices.{Tree};
 ghost use Rattle.go_load.specs.Loading.{is_of_program, is_program_number, ChecksImports};
-ghost use Rattle.go_load.specs.Refusals.{Stops};
+ghost use Rattle.go_finding.specs.Refusals.{Stops};
 
-use crate::error::LoadError;
-use crate::links::Link;
 use crate::loader::Loader;
 use go_base::{NoMemory, Rule};
+use go_finding::{Link, LoadError};
 use import_graph::{Edge, first_on_cycle};
 use std::alloc::Global;
 

@@ -6,21 +6,21 @@ ghost use Rattle.go_base.specs.Devices.{HasFaulted, Tree};
 ghost use Rattle.go_base.specs.declared.place.Place.{Place};
 ghost use Rattle.go_sources.specs.Places.{place_in};
 ghost use Rattle.go_sources.specs.Sources.{files_of, packages_of, AreTold};
-ghost use Rattle.go_load.specs.Loading.{LoadsFiles, LoadsPackage, LoadsQueue, AddsPackage, Checks, ChecksFiles, IfEntry, minor_of, told_package};
+ghost use Rattle.go_load.specs.Loading.{LoadsFiles, LoadsPackage, LoadsQueue, AddsPackage, Checks, ChecksFiles, minor_of, told_package};
+ghost use Rattle.go_finding.specs.Linking.{IfEntry};
 ghost use Rattle.go_load.specs.FileReading.{AreOf};
-ghost use Rattle.go_load.specs.Finding.{view_file};
-ghost use Rattle.go_load.specs.Modules.{view_module};
-ghost use Rattle.go_load.specs.Places.{first_place, Refuses};
-ghost use Rattle.go_load.specs.Programs.{are_program, name_of, other_name};
-ghost use Rattle.go_load.specs.Refusals.{Justifies, Stops};
+ghost use Rattle.go_finding.specs.Finding.{view_file};
+ghost use Rattle.go_finding.specs.Modules.{view_module};
+ghost use Rattle.go_finding.specs.Places.{first_place, Refuses};
+ghost use Rattle.go_finding.specs.Programs.{are_program, name_of, other_name};
+ghost use Rattle.go_finding.specs.Refusals.{Justifies, Stops};
 
-use crate::error::LoadError;
-use crate::find_module::Module;
-use crate::found::{Entry, Found, Origin, number_after};
-use crate::links::{Link, push_links};
 use crate::package_files::{Slot, read_built_in, read_paths};
-use crate::read::{refuse_first, refuse_in};
 use go_base::{Files, NoMemory, Pos, Rule, Text};
+use go_finding::find_module::Module;
+use go_finding::{
+    Entry, Found, Link, LoadError, Origin, number_after, push_links, refuse_first, refuse_in,
+};
 use go_sources::{Import, NEWEST_MINOR, SourceFile, SourcePackage, Sources};
 use std::alloc::Global;
 

@@ -3,20 +3,17 @@
 ghost use Rattle.std.specs.Prelude.{◌≡◌, ◌≤◌, string_bytes, option_map, IfOk, IfErr, IfSome, IsErrOf, OnOk};
 ghost use Rattle.go_base.specs.Devices.{HasFaulted};
 ghost use Rattle.go_sources.specs.Sources.{files_of, AreTold};
-ghost use Rattle.go_load.specs.Modules.{view_module, RespectsGoMod};
+ghost use Rattle.go_finding.specs.Modules.{view_module, RespectsGoMod};
 ghost use Rattle.go_load.specs.Answers.{lone_project, max_program_bytes, HasStopped, IsAnswer, IsAnswerIn, IsLoaded};
-ghost use Rattle.go_load.specs.Refusals.{Stops};
-ghost use Rattle.go_load.specs.Projects.{no_import_path, path_of_target};
+ghost use Rattle.go_finding.specs.Refusals.{Stops};
+ghost use Rattle.go_finding.specs.Projects.{no_import_path, path_of_target};
 ghost use Rattle.go_load.specs.Starting.{AnswersProject, FindsTarget, Finishes, ListsTarget, LoadsRuntime};
 
-use crate::error::LoadError;
-use crate::find_module::{Module, find_module};
-use crate::found::Found;
-use crate::listing::list_go_files;
 use crate::loader::{Loader, MAX_PROGRAM_BYTES};
 use crate::one_file::OneFile;
-use crate::target::{target_dir, target_path};
 use go_base::{Files, NoMemory, Target, Text};
+use go_finding::find_module::{Module, find_module};
+use go_finding::{Found, LoadError, list_go_files, target_dir, target_path};
 use go_sources::Sources;
 use std::alloc::Global;
 

@@ -4,12 +4,11 @@ ghost use Rattle.std.specs.Prelude.{◌≡◌, ◌≤◌, [], length, Option, If
 ghost use Rattle.go_base.specs.Devices.{HasFaulted, Tree};
 ghost use Rattle.go_sources.specs.Sources.{AreTold, IsText};
 ghost use Rattle.go_load.specs.FileReading.{ReadsText, ReadsPath, ReadsPaths, ReadsBuiltIn, AreOf};
-ghost use Rattle.go_load.specs.Refusals.{Stops};
+ghost use Rattle.go_finding.specs.Refusals.{Stops};
 
-use crate::error::LoadError;
-use crate::found::number_after;
-use crate::read::{read_tree, read_whole, refuse_first};
+use crate::read::read_tree;
 use go_base::{Bytes, Files, MAX_FILE_BYTES, Rule, Text};
+use go_finding::{LoadError, number_after, read_whole, refuse_first};
 use go_sources::{BuiltIn, SourceFile};
 use std::alloc::Global;
 

@@ -25,9 +25,10 @@ use Rattle.go_fragments.proofs.Words.{is_closing_paren}
 use Rattle.go_fragments.specs.declared.stop.Stop.{Stop}
 use Rattle.go_fragments.specs.declared.stop.Stop.TheVariants as stops
 use Rattle.go_fragments.specs.Giving.{Fails}
-use Rattle.go_parse.specs.declared.stop.ParseError.{ParseError}
-use Rattle.go_parse.specs.declared.stop.ParseError.TheVariants as errors
-use Rattle.go_parse.specs.Refusal.{IsRefusalAt, IsParsed, IsWithin}
+use Rattle.parse_answer.specs.declared.error.ParseError.{ParseError}
+use Rattle.parse_answer.specs.declared.error.ParseError.TheVariants as errors
+use Rattle.go_parse.specs.Refusal.{IsRefusalAt}
+use Rattle.parse_answer.specs.Refusal.{IsParsed, IsWithin}
 use Rattle.go_parse.proofs.Within.{unexpected_within}
 use Rattle.go_parse.specs.FileParts.{GivesParts, IsStopped, at_index, clause_in, imports_in, decls_in, path_in, import_line_in, decl_line_in}
 

@@ -3,7 +3,7 @@ use Rattle.std.proofs.Common.{◌≡◌, ℕ, zero, suc, ◌+◌, ◌≤◌, ◌
 use Rattle.std.proofs.lemmas.List.{append-nil, length-append}
 use Rattle.go_ast.specs.declared.token.Token.{Token}
 use Rattle.go_grammar.specs.Files.{IsUnexpected, IsFirstBad, parts_from, parts_of, last_part, ends_part, depth_after, join}
-use Rattle.go_parse.specs.Refusal.{IsIndexOf}
+use Rattle.parse_answer.specs.Refusal.{IsIndexOf}
 
 -- the parts are all the tokens
 parts_text : (depth : ℕ) (front tokens : List Token) → join (parts_from depth front tokens) ≡ front ++ tokens

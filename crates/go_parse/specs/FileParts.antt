@@ -12,8 +12,8 @@ use Rattle.go_grammar.specs.StmtReading.{at_import, import_plan, is_more}
 use Rattle.go_grammar.specs.PartReading.{package_clause_plan, part_in, parts_in, and_then}
 use Rattle.go_grammar.specs.View.{one, ◌⊕◌}
 use Rattle.go_parse.specs.declared.parser.PackageClause.{PackageClause}
-use Rattle.go_parse.specs.declared.stop.ParseError.{ParseError}
-use Rattle.go_parse.specs.declared.stop.ParseError.TheVariants as errors
+use Rattle.parse_answer.specs.declared.error.ParseError.{ParseError}
+use Rattle.parse_answer.specs.declared.error.ParseError.TheVariants as errors
 
 -- of so many tokens, where the part begins behind which so many are left
 abbrev pub at_index : {A : Type 0} → ℕ → Result A ℕ → Result A ℕ

@@ -5,7 +5,6 @@
 
 mod parser;
 mod reach;
-mod stop;
 
+pub use parse_answer::ParseError;
 pub use parser::parse;
-pub use stop::ParseError;

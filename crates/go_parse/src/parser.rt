@@ -8,15 +8,16 @@ ghost use Rattle.go_fragments.specs.Giving.{Gives};
 ghost use Rattle.go_syntax.specs.Reach.{reach_index};
 ghost use Rattle.tree_roles.specs.Roles.{roles_of_file};
 ghost use Rattle.go_parse.specs.FileParts.{GivesParts, view_clause, clause_in, path_in, import_line_in, import_lines_in, import_alone_in, import_in, imports_in, decl_line_in, decls_in};
-ghost use Rattle.go_parse.specs.Refusal.{DecidesReach, IsParsed, IsRefusalAt, IsWithin};
+ghost use Rattle.go_parse.specs.Refusal.{IsRefusalAt};
+ghost use Rattle.parse_answer.specs.Refusal.{DecidesReach, IsParsed, IsWithin};
 
 use crate::reach::too_deep;
-use crate::stop::ParseError;
 use go_ast::{Kind, Token, Tokens};
 use go_fragments::stop::Stop;
 use go_fragments::tokens::{begins_with, line_end, optional, semicolon, skip};
 use go_readers::{decl, func_decl};
 use go_syntax::{Decl, DeclLine, FileTree, ImportDecl, ImportSpec};
+use parse_answer::ParseError;
 use std::alloc::Global;
 use tree_roles::has_roles;
 

@@ -1,3 +1,9 @@
+mod InOrder
+mod Directories
+mod OneProject
+mod OneReading
+mod ModLines
+mod ModAnswers
 mod SameFiles
 mod SamePackages
 mod OneFront

@@ -3,17 +3,18 @@ use Rattle.std.proofs.Common.{◌≡◌, inl, inr, ℕ, suc, ◌+◌, Bool, true
 use Rattle.std.specs.List.{AllZip}
 use Rattle.go_base.specs.Devices.{Tree}
 use Rattle.go_base.specs.declared.target.Target.{Target}
-use Rattle.go_load.proofs.OneProject.{one_project, one_bad_module, bad_or_project}
+use Rattle.load_laws.proofs.OneProject.{one_project, one_bad_module, bad_or_project}
 use Rattle.go_load.specs.Answers.{BreaksFirst, IsSourcesOf, AreSourcesOf, IsAnswer, IsAnswerIn}
-use Rattle.go_load.specs.Finding.{numbered, numbered_files}
-use Rattle.go_load.specs.Imports.{Import}
-use Rattle.go_load.specs.Loading.{broken, view_source, files_from, headers_from, header, imports_of_each, all_imports}
-use Rattle.go_load.specs.Modules.{Broken}
-use Rattle.go_load.specs.OneReading.{IsSameFile, AreSameFiles}
-use Rattle.go_load.specs.Programs.{File, Package, IsResult, known, are_program, imports_in}
-use Rattle.go_load.specs.Projects.{Project}
-use Rattle.go_load.specs.declared.error.LoadError.{LoadError}
-use Rattle.go_load.specs.declared.error.LoadError.TheVariants.{Refused, ReadFault, OutOfMemory}
+use Rattle.go_finding.specs.Finding.{numbered, numbered_files}
+use Rattle.go_finding.specs.Imports.{Import}
+use Rattle.go_load.specs.Loading.{view_source, files_from, headers_from, header}
+use Rattle.go_finding.specs.Linking.{broken, imports_of_each, all_imports}
+use Rattle.go_finding.specs.Modules.{Broken}
+use Rattle.load_laws.specs.OneReading.{IsSameFile, AreSameFiles}
+use Rattle.go_finding.specs.Programs.{File, Package, IsResult, known, are_program, imports_in}
+use Rattle.go_finding.specs.Projects.{Project}
+use Rattle.go_finding.specs.declared.error.LoadError.{LoadError}
+use Rattle.go_finding.specs.declared.error.LoadError.TheVariants.{Refused, ReadFault, OutOfMemory}
 use Rattle.go_sources.specs.Sources.{files_of}
 use Rattle.go_sources.specs.declared.program.Sources.{Sources}
 use Rattle.go_sources.specs.declared.sources.Import as numbers

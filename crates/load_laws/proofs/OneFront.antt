@@ -3,12 +3,12 @@ use Rattle.std.proofs.Common.{◌≡◌, ◌⊎◌, inl, inr, ℕ, suc, ◌+◌,
 use Rattle.std.proofs.lemmas.List.{length_push}
 use Rattle.std.proofs.lemmas.List.Elements.{AllZip-push}
 use Rattle.std.proofs.lemmas.Option.{slice_get_within}
-use Rattle.go_load.proofs.OneProject.{one_origin}
-use Rattle.go_load.proofs.OneReading.{one_reading}
-use Rattle.go_load.specs.Modules.{Broken}
-use Rattle.go_load.specs.OneReading.{AreSameFiles, AreSameRead}
-use Rattle.go_load.specs.Programs.{File, Package, Loads, Unread, Faulty, Sound, LoadsNext, IsPackage, BreaksPackage, IsNext, IsFront, Nothing, More, IsComplete, package_fault, room_for, known}
-use Rattle.go_load.specs.Projects.{FileText, Project, texts_of, is_built_in, IsOriginAt}
+use Rattle.load_laws.proofs.OneProject.{one_origin}
+use Rattle.load_laws.proofs.OneReading.{one_reading}
+use Rattle.go_finding.specs.Modules.{Broken}
+use Rattle.load_laws.specs.OneReading.{AreSameFiles, AreSameRead}
+use Rattle.go_finding.specs.Programs.{File, Package, Loads, Unread, Faulty, Sound, LoadsNext, IsPackage, BreaksPackage, IsNext, IsFront, Nothing, More, IsComplete, package_fault, room_for, known}
+use Rattle.go_finding.specs.Projects.{FileText, Project, texts_of, is_built_in, IsOriginAt}
 use Rattle.load_laws.proofs.SamePackages.{same_fault, same_known, same_room}
 use Rattle.load_laws.specs.OneAnswer.{IsSamePackage, AreSamePackages, AreFirstOf}
 

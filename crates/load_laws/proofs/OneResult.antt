@@ -8,10 +8,10 @@ use Rattle.go_base.specs.declared.rule.Rule.{Rule}
 use Rattle.go_base.specs.declared.rule.Rule.TheVariants as rules
 use Rattle.import_graph.specs.Cycles.{IsFirstOnCycle, IsOnCycle}
 use Rattle.import_graph.specs.declared.edges.Edge.{Edge}
-use Rattle.go_load.specs.Modules.{Broken}
-use Rattle.go_load.specs.OneReading.{IsSameResult}
-use Rattle.go_load.specs.Programs.{Package, Link, IsFront, IsNext, BreaksPackage, IsComplete, first_of_program, IsOnCycleFirst, links, edge_of, AreImportsSound, has_runtime, runtime_path, IsWithRuntime, Kept, Added, IsResult, BadPackage, OfProgram, OnCycle, BadRuntime, Program}
-use Rattle.go_load.specs.Projects.{Project}
+use Rattle.go_finding.specs.Modules.{Broken}
+use Rattle.load_laws.specs.OneReading.{IsSameResult}
+use Rattle.go_finding.specs.Programs.{Package, Link, IsFront, IsNext, BreaksPackage, IsComplete, first_of_program, IsOnCycleFirst, links, edge_of, AreImportsSound, has_runtime, runtime_path, IsWithRuntime, Kept, Added, IsResult, BadPackage, OfProgram, OnCycle, BadRuntime, Program}
+use Rattle.go_finding.specs.Projects.{Project}
 use Rattle.load_laws.proofs.OneFront.{ByRule, ByEnd, one_end, one_break, one_package, no_next, same_next, sound_or_broken, turned}
 use Rattle.load_laws.proofs.SamePackages.{same_first_of_program, same_has_runtime, same_links}
 use Rattle.load_laws.specs.OneAnswer.{IsSamePackage, AreSamePackages}

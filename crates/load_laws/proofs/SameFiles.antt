@@ -7,10 +7,10 @@ use Rattle.go_grammar.proofs.Views.{view_decl_const, view_decl_type_decl, view_d
 use Rattle.go_grammar.specs.Forests as forms
 use Rattle.go_grammar.specs.Forests.{Form, Forest, empty, leaf, node, append}
 use Rattle.go_grammar.specs.View.{one, tree, ◌⊕◌, each, token_if, view_import_spec, view_import, view_line, view_decl, view_func_decl, view_file}
-use Rattle.go_load.specs.Imports.{Import, written_path, import_of, imports_of_decl}
-use Rattle.go_load.specs.Modules.{Broken}
-use Rattle.go_load.specs.OneReading.{IsSameFile}
-use Rattle.go_load.specs.Programs.{File, broken_at, imports_in, name_of}
+use Rattle.go_finding.specs.Imports.{Import, written_path, import_of, imports_of_decl}
+use Rattle.go_finding.specs.Modules.{Broken}
+use Rattle.load_laws.specs.OneReading.{IsSameFile}
+use Rattle.go_finding.specs.Programs.{File, broken_at, imports_in, name_of}
 use Rattle.go_sources.specs.Packages.{text_in}
 use Rattle.go_sources.specs.Places.{place_in}
 use Rattle.go_syntax.specs.declared.decls.Decl.{Decl}

@@ -6,12 +6,12 @@ use Rattle.go_ast.specs.declared.token.Token.{Token}
 use Rattle.go_base.specs.NameTable.{place_of}
 use Rattle.go_base.specs.declared.rule.Rule.TheVariants as rules
 use Rattle.go_base.specs.declared.target.Target.{Target}
-use Rattle.go_load.specs.Imports.{Import, import_path}
-use Rattle.go_load.specs.Modules.{Broken}
-use Rattle.go_load.specs.OneReading.{IsSameFile, AreSameFiles}
-use Rattle.go_load.specs.Programs.{File, Package, Link, broken_at, imports_in, name_of, other_name, unfound_of, unfound, or_else, name_fault, import_files, package_fault, imports_of_files, imports_of_package, with_import, known, size, room_for, link_of, links_of_file, links_from, links, are_program, is_program_at, first_of_program, has_runtime, runtime_path}
-use Rattle.go_load.specs.Projects.{Project, is_import_found, target_path}
-use Rattle.go_load.specs.Reading.{max_file_bytes}
+use Rattle.go_finding.specs.Imports.{Import, import_path}
+use Rattle.go_finding.specs.Modules.{Broken}
+use Rattle.load_laws.specs.OneReading.{IsSameFile, AreSameFiles}
+use Rattle.go_finding.specs.Programs.{File, Package, Link, broken_at, imports_in, name_of, other_name, unfound_of, unfound, or_else, name_fault, import_files, package_fault, imports_of_files, imports_of_package, with_import, known, size, room_for, link_of, links_of_file, links_from, links, are_program, is_program_at, first_of_program, has_runtime, runtime_path}
+use Rattle.go_finding.specs.Projects.{Project, is_import_found, target_path}
+use Rattle.go_finding.specs.Reading.{max_file_bytes}
 use Rattle.load_laws.proofs.SameFiles.{same_imports, same_token, same_name, same_broken}
 use Rattle.load_laws.specs.OneAnswer.{IsSamePackage, AreSamePackages}
 

@@ -7,14 +7,14 @@ use Rattle.go_grammar.specs.View.{view_file}
 use Rattle.go_sources.specs.declared.program.Sources.{Sources}
 use Rattle.go_sources.specs.declared.sources.SourceFile.{SourceFile}
 use Rattle.go_sources.specs.Sources.{files_of, packages_of}
-use Rattle.go_load.specs.declared.error.LoadError.{LoadError}
-use Rattle.go_load.specs.declared.error.LoadError.TheVariants.{Refused, ReadFault, OutOfMemory}
+use Rattle.go_finding.specs.declared.error.LoadError.{LoadError}
+use Rattle.go_finding.specs.declared.error.LoadError.TheVariants.{Refused, ReadFault, OutOfMemory}
 use Rattle.go_load.specs.Answers.{IsAnswer, IsAnswerIn}
-use Rattle.go_load.specs.Finding.{listed}
-use Rattle.go_load.specs.Modules.{Broken}
-use Rattle.go_load.specs.OneReading.{AreSameFiles, IsSameResult}
-use Rattle.go_load.specs.Programs.{Package, IsFront, IsResult}
-use Rattle.go_load.specs.Projects.{Project}
+use Rattle.go_finding.specs.Finding.{listed}
+use Rattle.go_finding.specs.Modules.{Broken}
+use Rattle.load_laws.specs.OneReading.{AreSameFiles, IsSameResult}
+use Rattle.go_finding.specs.Programs.{Package, IsFront, IsResult}
+use Rattle.go_finding.specs.Projects.{Project}
 
 -- ---- packages
 

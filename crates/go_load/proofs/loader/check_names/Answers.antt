@@ -2,8 +2,8 @@ use Rattle.std.proofs.Common.{◌≡◌, ◌∙◌, true, false, bytes_eq, ap, L
 use Rattle.std.proofs.Math.ListN.{drop_of_length-le}
 use Rattle.go_base.specs.declared.rule.Rule.TheVariants.{SecondPackageName}
 use Rattle.go_sources.specs.declared.sources.SourceFile.{SourceFile}
-use Rattle.go_load.specs.Finding.{view_file}
-use Rattle.go_load.specs.Programs.{broken_at, name_of, other_name}
+use Rattle.go_finding.specs.Finding.{view_file}
+use Rattle.go_finding.specs.Programs.{broken_at, name_of, other_name}
 use Rattle.go_load.proofs.LoaderLaws.{refused}
 use Rattle.go_load.proofs.NameLaws.{same_name_next, other_name_here}
 use Rattle.go_load.proofs.loader.check_names.Goals as goal

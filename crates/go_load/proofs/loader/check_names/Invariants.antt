@@ -1,6 +1,6 @@
 use Rattle.std.proofs.Common.{◌≡◌, map, drop}
-use Rattle.go_load.specs.Finding.{view_file}
-use Rattle.go_load.specs.Programs.{name_of, other_name}
+use Rattle.go_finding.specs.Finding.{view_file}
+use Rattle.go_finding.specs.Programs.{name_of, other_name}
 use Rattle.go_load.proofs.loader.check_names.Given as goal
 
 abbrev pub invariant-files : goal.invariant-files

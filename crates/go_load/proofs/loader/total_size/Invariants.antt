@@ -1,6 +1,6 @@
 use Rattle.std.proofs.Common.{◌≡◌, min, map, length, take}
 use Rattle.std.specs.List.{sum_by}
-use Rattle.go_load.specs.Finding.{view_file}
+use Rattle.go_finding.specs.Finding.{view_file}
 use Rattle.go_load.proofs.loader.total_size.Given as goal
 
 abbrev pub invariant-files : goal.invariant-files

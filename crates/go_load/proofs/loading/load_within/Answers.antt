@@ -1,4 +1,4 @@
-use Rattle.go_load.proofs.Governing.{module_found}
+use Rattle.go_finding.proofs.Governing.{module_found}
 use Rattle.go_load.proofs.Starting.{finished}
 use Rattle.go_load.proofs.loading.load_within.Goals as goal
 

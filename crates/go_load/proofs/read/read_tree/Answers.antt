@@ -1,4 +1,4 @@
-use Rattle.go_load.proofs.Stopping.{scan_stops}
+use Rattle.go_finding.proofs.Stopping.{scan_stops}
 use Rattle.go_load.proofs.TextReading.{bad_bytes}
 use Rattle.go_load.proofs.read.read_tree.Goals as goal
 

@@ -1,4 +1,4 @@
-use Rattle.go_load.proofs.Stopping.{deep_stops, syntax_stops}
+use Rattle.go_finding.proofs.Stopping.{deep_stops, syntax_stops}
 use Rattle.go_load.proofs.TextReading.{too_deep, bad_syntax}
 use Rattle.go_load.proofs.read.tree_of.Goals as goal
 

@@ -5,7 +5,7 @@ use Rattle.go_grammar.specs.FileReading.{parsers}
 use Rattle.go_grammar.specs.PartReading.{file_by_parts}
 use Rattle.go_grammar.specs.View.{view_file}
 use Rattle.go_parse.specs.FileParts.{GivesParts}
-use Rattle.go_parse.specs.Refusal.{IsParsed, IsWithin}
+use Rattle.parse_answer.specs.Refusal.{IsParsed, IsWithin}
 use Rattle.go_parse.proofs.FileParts.{parsed_by_parts, within_by_parts}
 use Rattle.go_parse.proofs.parser.parse.Goals as goal
 

@@ -1,0 +1,14 @@
+pub mod FindingSteps
+pub mod Governing
+pub mod ImportLists
+pub mod ImportPaths
+pub mod Joining
+pub mod LinkLaws
+pub mod Listings
+pub mod Modules
+pub mod Numbers
+pub mod ReadLines
+pub mod Steps
+pub mod Stopping
+pub mod Texts
+pub mod Written

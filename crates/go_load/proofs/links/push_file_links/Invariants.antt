@@ -1,6 +1,0 @@
-use Rattle.std.proofs.Common.{◌≡◌, ◌++◌, take}
-use Rattle.go_load.specs.Loading.{kept_in_file}
-use Rattle.go_load.proofs.links.push_file_links.Given as goal
-
-abbrev pub invariant-imports : goal.invariant-imports
-invariant-imports l = l.links.items ≡ l.initial.links.items ++ kept_in_file l.number l.file (take l.import-index l.imports)
