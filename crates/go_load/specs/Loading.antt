@@ -1,12 +1,11 @@
 -- What the loading of packages answers.
 use Rattle.std.specs.Prelude.{◌≡◌, ◌⊎◌, ℕ, ◌+◌, ◌-◌, min, Bool, true, false, if◌then◌else◌, List, [], ◌∷◌, ◌++◌}
-use Rattle.std.specs.Prelude.{length, map, Option, Some, None, IfSome, unwrap_or, Result, Ok, Err, Vec, slice_get}
+use Rattle.std.specs.Prelude.{length, map, Option, Some, None, unwrap_or, Result, Ok, Err, Vec, slice_get}
 use Rattle.std.specs.Prelude.{bytes_eq, ◌&&◌, ◌==◌, codes, string_bytes}
 use Rattle.std.specs.List.{AllByRecursion, AllZip, flat_map, fold, list_any, sum_by}
 use Rattle.std.specs.declared.alloc.Global.{Global}
 use Rattle.go_base.specs.Devices.{Tree}
 use Rattle.go_base.specs.declared.place.Place.{Place}
-use Rattle.go_base.specs.declared.rule.Rule.{Rule}
 use Rattle.go_base.specs.declared.rule.Rule.TheVariants as rules
 use Rattle.go_sources.specs.declared.sources.Import as numbers
 use Rattle.go_sources.specs.declared.sources.SourceFile.{SourceFile}
@@ -16,20 +15,19 @@ use Rattle.go_sources.specs.Places.{place_in}
 use Rattle.go_finding.specs.declared.error.LoadError.{LoadError}
 use Rattle.go_finding.specs.declared.error.LoadError.TheVariants.{Refused, ReadFault, OutOfMemory}
 use Rattle.go_finding.specs.declared.found.Entry.{Entry}
-use Rattle.go_finding.specs.declared.found.Found.{Found}
 use Rattle.go_finding.specs.declared.links.Link as code
 use Rattle.go_load.specs.declared.loader.Loader.{Loader}
 use Rattle.go_load.specs.FileReading.{AnswersBy, view_files}
-use Rattle.go_finding.specs.Finding.{view_file, view_origin, AreRight, listed, numbered_files}
+use Rattle.go_finding.specs.Finding.{view_file, view_origin, AreRight, listed}
 use Rattle.go_finding.specs.Imports.{Import, import_path}
 use Rattle.go_finding.specs.Modules.{Broken, Module}
 use Rattle.go_finding.specs.Programs.{File, Package, Link, IsPackage, BreaksPackage, IsFront, ReadsAll, name_fault}
 use Rattle.go_finding.specs.Programs.{path_asked, first_of_program, links, AreImportsSound, IsNext, IsOnCycleFirst}
-use Rattle.go_finding.specs.Programs.{unfound, import_files, imports_of_files, imports_of_package, with_import, known}
+use Rattle.go_finding.specs.Programs.{imports_of_package, with_import, known}
 use Rattle.go_finding.specs.Programs.{links_from, room_for, are_program}
 use Rattle.go_finding.specs.Projects.{Project, Origin, texts_of, is_built_in}
 use Rattle.go_finding.specs.Reading.{max_file_bytes}
-use Rattle.go_finding.specs.Linking.{imports_of_each, all_imports, broken, IfEntry, imports_of_all, PackageImportsFound, FindsImportsOf, kept_in_file, kept_links}
+use Rattle.go_finding.specs.Linking.{all_imports, broken, IfEntry, kept_links}
 
 -- ---- what a loader holds
 
