@@ -7,7 +7,7 @@ use go_base::{NoMemory, Pos, Rule};
 use std::alloc::{AllocError, AllocFailed};
 
 /// Why a program is not accepted.
-#[derive(Clone, Copy, Debug, PartialEq, Eq)]
+#[derive(Clone, Copy, PartialEq, Eq)]
 pub enum CheckError {
     /// The first rule that is broken, and where.
     Refused { pos: Pos, rule: Rule },

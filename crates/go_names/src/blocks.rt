@@ -6,7 +6,7 @@ use indexmap::IndexMap;
 use std::alloc::Global;
 
 /// A name in an open block.
-#[derive(Clone, Copy, Debug, PartialEq, Eq)]
+#[derive(Clone, Copy)]
 struct Binding {
     name: NameId,
     entity: Entity,

@@ -8,7 +8,7 @@ use std::alloc::Global;
 use std::marker::Model;
 
 /// A constant of a program.
-#[derive(Debug, Drop)]
+#[derive(Drop)]
 pub struct Constant {
     pub name: NameId,
     /// Its name.
@@ -19,7 +19,7 @@ pub struct Constant {
 }
 
 /// Constants, by their numbers.
-#[derive(Debug, Drop)]
+#[derive(Drop)]
 pub struct Constants {
     items: Vec<Constant>,
 }

@@ -4,7 +4,7 @@ use go_base::{FuncId, TypeId, VarId};
 use go_type::Builtin;
 
 /// What a name stands for.
-#[derive(Clone, Copy, Debug, PartialEq, Eq)]
+#[derive(Clone, Copy, PartialEq, Eq)]
 pub enum Entity {
     /// A constant, by its number among the constants.
     Constant(u64),

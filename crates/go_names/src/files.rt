@@ -5,7 +5,7 @@ use indexmap::IndexMap;
 use std::alloc::Global;
 
 /// What is known of a file.
-#[derive(Clone, Copy, Debug, PartialEq, Eq)]
+#[derive(Clone, Copy)]
 pub struct FileScope {
     /// The package that it is of, by its number in the program.
     pub package: u32,
@@ -14,7 +14,7 @@ pub struct FileScope {
 }
 
 /// An import of a file.
-#[derive(Clone, Copy, Debug, PartialEq, Eq)]
+#[derive(Clone, Copy)]
 pub struct ImportOf {
     /// Which import of its file it is, from 0, those named `_` too.
     pub index: u32,
@@ -25,7 +25,7 @@ pub struct ImportOf {
 }
 
 /// A name in the block of a file.
-#[derive(Clone, Copy, Debug, PartialEq, Eq, Hash)]
+#[derive(Clone, Copy, PartialEq, Eq, Hash)]
 struct InFile {
     file: u32,
     name: NameId,

@@ -7,7 +7,7 @@ use std::alloc::Global;
 use std::marker::Model;
 
 /// What a name that was read stands for.
-#[derive(Clone, Copy, Debug, PartialEq, Eq)]
+#[derive(Clone, Copy)]
 pub enum Mentioned {
     Variable(VarId),
     Function(FuncId),
@@ -16,7 +16,7 @@ pub enum Mentioned {
 }
 
 /// A name that was read.
-#[derive(Clone, Copy, Debug, PartialEq, Eq)]
+#[derive(Clone, Copy)]
 pub struct Mention {
     /// Its first byte.
     pub at: Pos,
@@ -26,7 +26,7 @@ pub struct Mention {
 }
 
 /// Names that were read, in the order in which they were.
-#[derive(Debug, Drop)]
+#[derive(Drop)]
 pub struct Mentions {
     items: Vec<Mention>,
 }

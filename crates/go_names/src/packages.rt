@@ -6,7 +6,7 @@ use indexmap::IndexMap;
 use std::alloc::Global;
 
 /// A name in the block of a package.
-#[derive(Clone, Copy, Debug, PartialEq, Eq, Hash)]
+#[derive(Clone, Copy, PartialEq, Eq, Hash)]
 struct InPackage {
     package: u32,
     name: NameId,

@@ -11,7 +11,7 @@ use typed_parts::{
 };
 
 /// The signs.
-#[derive(Clone, Copy, Debug, PartialEq, Eq)]
+#[derive(Clone, Copy, PartialEq, Eq)]
 pub enum SignOp {
     /// `+`
     Plus,

@@ -10,7 +10,7 @@ use go_faults::{Fault, Least};
 use go_type::{MethodTypes, TypeIds, TypeTerm, Types};
 use indexmap::IndexMap;
 use std::alloc::Global;
-use type_sizes::{MOST_LEAVES, Sizes};
+use type_sizes::{MOST_LEAVES, Size, Sizes};
 
 /// The types of a program, and the least of the faults that were reported.
 #[derive(Drop)]
@@ -139,12 +139,19 @@ impl Ground {
         if let Some(leaves) = self.within.get(&of) {
             return Ok(Some(*leaves));
         }
-        let mut sizes = Sizes::new(self.alloc);
-        let size = sizes.of(&self.types, of)?;
+        let size = size_of(self.alloc, &self.types, of)?;
         if !size.nests || size.leaves > MOST_LEAVES {
             return Ok(None);
         }
         self.within.insert(of, size.leaves)?;
         Ok(Some(size.leaves))
     }
+}
+
+/// How large a type is.
+fn size_of(alloc: Global, types: &Types, of: TypeId) -> Result<Size, NoMemory> {
+    let mut sizes = Sizes::new(alloc);
+    let size = sizes.of(types, of);
+    drop(sizes);
+    Ok(size?)
 }

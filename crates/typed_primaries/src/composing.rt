@@ -6,7 +6,7 @@ use go_type::{TypeTerm, Types};
 use typed_parts::{Ground, Seen, beside, boxed, made, node, one_value, pointed};
 
 /// What the type of an elided literal is known to be.
-#[derive(Clone, Copy, Debug, PartialEq, Eq)]
+#[derive(Clone, Copy, PartialEq, Eq)]
 pub enum Hint {
     /// The literal around it is unsound.
     Unsound,
@@ -16,7 +16,7 @@ pub enum Hint {
 }
 
 /// What a composite literal is of.
-#[derive(Clone, Copy, Debug, PartialEq, Eq)]
+#[derive(Clone, Copy, PartialEq, Eq)]
 pub enum LiteralKind {
     Struct,
     Array { len: u64, elem: TypeId },
@@ -27,7 +27,7 @@ pub enum LiteralKind {
 }
 
 /// A composite literal without its elements.
-#[derive(Clone, Copy, Debug, PartialEq, Eq)]
+#[derive(Clone, Copy, PartialEq, Eq)]
 pub struct Literal {
     /// The first byte: of its type, or its `{` where that is left out.
     pub at: Pos,

@@ -11,7 +11,7 @@ use typed_parts::{
 };
 
 /// Where a value goes.
-#[derive(Clone, Copy, Debug, PartialEq, Eq)]
+#[derive(Clone, Copy, PartialEq, Eq)]
 pub enum Into {
     /// To something of a type.
     Type(TypeId),
