@@ -1,0 +1,276 @@
+//! Built-in functions. Go specification, "Built-in functions".
+
+use crate::channels::completed;
+use crate::recovering::recover;
+use code_plan::{Arg, BuiltinForm};
+use go_base::{Bytes, NoMemory};
+use go_value::{SliceValue, Value};
+use interp_state::{Machine, Met, Turn, lost};
+use std::rc::Rc;
+use value_texts::push_printed;
+
+/// A call of a built-in function in an expression or a statement.
+pub fn call_builtin<'a>(
+    machine: &mut Machine<'a>,
+    form: &'a BuiltinForm,
+    args: &'a [Arg],
+    to: Option<u32>,
+) -> Turn {
+    if let (BuiltinForm::Len, [arg], Some(to)) = (form, args, to) {
+        return len(machine, arg, to);
+    }
+    machine.waiting.clear();
+    match machine.push_args(args) {
+        Ok(()) => builtin_to(machine, form, to),
+        Err(_) => Turn::WantsMemory,
+    }
+}
+
+fn len(machine: &mut Machine<'_>, arg: &Arg, to: u32) -> Turn {
+    match machine.look(arg) {
+        Ok(value) => match length(machine, value) {
+            Ok(len) => machine.set_int(to, len),
+            Err(_) => Turn::WantsMemory,
+        },
+        Err(_) => Turn::WantsMemory,
+    }
+}
+
+fn length(machine: &Machine<'_>, value: &Value) -> Result<i128, NoMemory> {
+    match value {
+        Value::Slice(slice) => Ok(i128::from(slice.len)),
+        Value::Text(bytes) => Ok(bytes.len() as i128),
+        Value::Map(map) => Ok(i128::from(machine.store.map_len(*map))),
+        Value::Chan(chan) => Ok(i128::from(machine.sched.len(*chan))),
+        _ => Err(lost()),
+    }
+}
+
+fn capacity(machine: &Machine<'_>, value: &Value) -> Result<i128, NoMemory> {
+    match value {
+        Value::Slice(slice) => Ok(i128::from(slice.cap)),
+        Value::Chan(chan) => Ok(i128::from(machine.sched.cap(*chan))),
+        _ => Err(lost()),
+    }
+}
+
+/// A built-in function in a frame of its own, as `go` and `defer` call it.
+pub fn run_builtin<'a>(machine: &mut Machine<'a>, form: &'a BuiltinForm) -> Turn {
+    match form {
+        BuiltinForm::Recover => Turn::Goes,
+        _ => builtin_to(machine, form, None),
+    }
+}
+
+#[inline(never)]
+fn builtin_to<'a>(machine: &mut Machine<'a>, form: &'a BuiltinForm, to: Option<u32>) -> Turn {
+    match form {
+        BuiltinForm::Close => close(machine),
+        BuiltinForm::Panic => match machine.waiting.pop() {
+            Some(value) => machine.panic_with(value),
+            None => Turn::WantsMemory,
+        },
+        _ => match builtin(machine, form) {
+            Ok(Some(value)) => {
+                if let Some(to) = to {
+                    machine.set(to, value);
+                }
+                Turn::Goes
+            }
+            Ok(None) => Turn::Goes,
+            Err(met) => machine.meet(met),
+        },
+    }
+}
+
+fn close(machine: &mut Machine<'_>) -> Turn {
+    match machine.waiting.pop() {
+        Some(value) => close_value(machine, &value),
+        None => Turn::WantsMemory,
+    }
+}
+
+fn close_value(machine: &mut Machine<'_>, value: &Value) -> Turn {
+    let Value::Chan(chan) = value else {
+        return Turn::WantsMemory;
+    };
+    match machine.sched.close(*chan) {
+        Ok(wakes) => completed(machine, wakes),
+        Err(error) => machine.meet(Met::from(error)),
+    }
+}
+
+/// What a built-in function gives for the values that are on their way.
+fn builtin<'a>(machine: &mut Machine<'a>, form: &'a BuiltinForm) -> Result<Option<Value>, Met> {
+    match form {
+        BuiltinForm::Append { leaves } => Ok(Some(append(machine, *leaves)?)),
+        BuiltinForm::AppendSlice { leaves } => Ok(Some(append_slice(machine, *leaves)?)),
+        BuiltinForm::AppendText { leaves } => Ok(Some(append_text(machine, *leaves)?)),
+        BuiltinForm::Copy => Ok(Some(copy_slice(machine)?)),
+        BuiltinForm::CopyText => Ok(Some(copy_text(machine)?)),
+        BuiltinForm::ClearMap => clear_map(machine),
+        BuiltinForm::ClearSlice { zero } => clear_slice(machine, zero),
+        BuiltinForm::Delete => delete(machine),
+        BuiltinForm::Print => Ok(print(machine, false)?),
+        BuiltinForm::Println => Ok(print(machine, true)?),
+        BuiltinForm::Recover => Ok(Some(recover(machine))),
+        BuiltinForm::Max => Ok(Some(extreme(machine, true)?)),
+        BuiltinForm::Min => Ok(Some(extreme(machine, false)?)),
+        BuiltinForm::Cap => match machine.waiting.as_slice() {
+            [value] => Ok(Some(Value::Int(capacity(machine, value)?))),
+            _ => Err(Met::Memory),
+        },
+        BuiltinForm::Len => match machine.waiting.as_slice() {
+            [value] => Ok(Some(Value::Int(length(machine, value)?))),
+            _ => Err(Met::Memory),
+        },
+        BuiltinForm::Close | BuiltinForm::Panic => Err(Met::Memory),
+    }
+}
+
+/// Takes the last value that is on its way, a slice.
+fn taken_slice(machine: &mut Machine<'_>) -> Result<Rc<SliceValue>, NoMemory> {
+    match &machine.waiting.pop() {
+        Some(Value::Slice(slice)) => Ok(slice.clone()?),
+        _ => Err(lost()),
+    }
+}
+
+/// Takes the last value that is on its way, a text.
+fn taken_text(machine: &mut Machine<'_>) -> Result<Rc<Bytes>, NoMemory> {
+    match &machine.waiting.pop() {
+        Some(Value::Text(text)) => Ok(text.clone()?),
+        _ => Err(lost()),
+    }
+}
+
+fn append(machine: &mut Machine<'_>, leaves: u32) -> Result<Value, Met> {
+    let appended = match machine.waiting.as_slice() {
+        [Value::Slice(slice), items @ ..] => machine.store.append(leaves, slice, items)?,
+        _ => return Err(Met::Memory),
+    };
+    Ok(Value::slice(machine.alloc, appended)?)
+}
+
+fn append_slice(machine: &mut Machine<'_>, leaves: u32) -> Result<Value, Met> {
+    let more = taken_slice(machine)?;
+    let slice = taken_slice(machine)?;
+    let items = elements(machine, &more)?;
+    let appended = machine.store.append(leaves, &slice, items.as_slice())?;
+    Ok(Value::slice(machine.alloc, appended)?)
+}
+
+/// The elements of a slice.
+fn elements(machine: &Machine<'_>, slice: &SliceValue) -> Result<Vec<Value>, Met> {
+    let mut items = Vec::new(machine.alloc);
+    for index in 0..slice.len {
+        let address = go_store::element(machine.alloc, slice, i128::from(index))?;
+        items.push(machine.store.load_at(machine.alloc, &address)?)?;
+    }
+    Ok(items)
+}
+
+fn append_text(machine: &mut Machine<'_>, leaves: u32) -> Result<Value, Met> {
+    let text = taken_text(machine)?;
+    let slice = taken_slice(machine)?;
+    let mut items = Vec::new(machine.alloc);
+    for byte in text.as_slice() {
+        items.push(Value::Int(i128::from(*byte)))?;
+    }
+    let appended = machine.store.append(leaves, &slice, items.as_slice())?;
+    Ok(Value::slice(machine.alloc, appended)?)
+}
+
+fn copy_slice(machine: &mut Machine<'_>) -> Result<Value, Met> {
+    let from = taken_slice(machine)?;
+    let to = taken_slice(machine)?;
+    let count = machine.store.copy_items(&to, &from)?;
+    Ok(Value::Int(i128::from(count)))
+}
+
+fn copy_text(machine: &mut Machine<'_>) -> Result<Value, Met> {
+    let text = taken_text(machine)?;
+    let to = taken_slice(machine)?;
+    let count = to.len.min(text.len() as u64);
+    let mut index = 0u64;
+    for byte in text.as_slice() {
+        if index >= count {
+            break;
+        }
+        let address = go_store::element(machine.alloc, &to, i128::from(index))?;
+        machine.store.put_int_at(&address, i128::from(*byte))?;
+        index = index.saturating_add(1);
+    }
+    Ok(Value::Int(i128::from(count)))
+}
+
+fn clear_map(machine: &mut Machine<'_>) -> Result<Option<Value>, Met> {
+    match machine.waiting.first() {
+        Some(Value::Map(map)) => {
+            machine.store.clear_map(*map);
+            Ok(None)
+        }
+        _ => Err(Met::Memory),
+    }
+}
+
+fn clear_slice(machine: &mut Machine<'_>, zero: &Value) -> Result<Option<Value>, Met> {
+    let slice = taken_slice(machine)?;
+    for index in 0..slice.len {
+        let address = go_store::element(machine.alloc, &slice, i128::from(index))?;
+        let value = zero.copy(machine.alloc)?;
+        machine.store.put_at(&address, value)?;
+    }
+    Ok(None)
+}
+
+fn delete(machine: &mut Machine<'_>) -> Result<Option<Value>, Met> {
+    let Some(key) = machine.waiting.pop() else {
+        return Err(Met::Memory);
+    };
+    match &machine.waiting.pop() {
+        Some(Value::Map(map)) => {
+            machine.store.map_remove(&machine.code.types, *map, &key)?;
+            Ok(None)
+        }
+        _ => Err(Met::Memory),
+    }
+}
+
+fn print(machine: &mut Machine<'_>, line: bool) -> Result<Option<Value>, NoMemory> {
+    let mut is_first = true;
+    for value in machine.waiting.as_slice() {
+        if line && !is_first {
+            machine.output.push(b' ')?;
+        }
+        is_first = false;
+        push_printed(&mut machine.output, value)?;
+    }
+    if line {
+        machine.output.push(b'\n')?;
+    }
+    Ok(None)
+}
+
+/// The greatest or the least of the values that are on their way: integers or texts.
+fn extreme(machine: &mut Machine<'_>, greatest: bool) -> Result<Value, NoMemory> {
+    let Some(mut best) = machine.waiting.pop() else {
+        return Err(lost());
+    };
+    for _ in 0..machine.waiting.len() {
+        if let Some(other) = machine.waiting.pop() {
+            if is_less(&best, &other)? == greatest {
+                best = other;
+            }
+        }
+    }
+    Ok(best)
+}
+
+fn is_less(a: &Value, b: &Value) -> Result<bool, NoMemory> {
+    match (a, b) {
+        (Value::Int(a), Value::Int(b)) => Ok(*a < *b),
+        (Value::Text(a), Value::Text(b)) => Ok(a.as_slice() < b.as_slice()),
+        _ => Err(lost()),
+    }
+}
