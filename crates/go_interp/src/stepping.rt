@@ -1,7 +1,7 @@
 //! One step of the current goroutine.
 
 use code_plan::{Arg, PlannedBlock, PlannedFunction, PlannedPhi, Step};
-use go_base::{Ending, NoMemory};
+use go_base::NoMemory;
 use go_value::Value;
 use interp_builtins::channels;
 use interp_calls::{calling, unwinding};
@@ -76,7 +76,7 @@ fn act<'a>(machine: &mut Machine<'a>, step: &'a Step) -> Turn {
             then_to,
             else_to,
         } => branch(machine, test, *then_to, *else_to),
-        Step::Tick => tick(machine),
+        Step::Tick => machine.spend(),
         Step::New { zero, to } => places::make_cell(machine, zero, *to),
         Step::Call { call, to } => calling::call(machine, call, *to),
         Step::Return { values } => calling::give_results(machine, values),
@@ -180,15 +180,6 @@ fn act_outside<'a>(machine: &mut Machine<'a>, step: &'a Step) -> Turn {
     }
 }
 
-/// Spends a tick.
-fn tick(machine: &mut Machine<'_>) -> Turn {
-    if machine.ticks == 0 {
-        return machine.end(Ending::Bound);
-    }
-    machine.ticks = machine.ticks.saturating_sub(1);
-    Turn::Goes
-}
-
 fn branch(machine: &mut Machine<'_>, test: &Arg, then_to: u32, else_to: u32) -> Turn {
     match machine.truth(test) {
         Ok(true) => jump(machine, then_to),
@@ -215,10 +206,7 @@ fn enter_block(machine: &mut Machine<'_>, block: &PlannedBlock, from: u32) -> Tu
     if block.phis.is_empty() {
         return Turn::Goes;
     }
-    match read_phis(machine, block.phis.as_slice(), from) {
-        Ok(()) => Turn::Goes,
-        Err(_) => Turn::WantsMemory,
-    }
+    Turn::after(read_phis(machine, block.phis.as_slice(), from))
 }
 
 /// All phis are read before one is written.

@@ -103,29 +103,41 @@ fn close_value(machine: &mut Machine<'_>, value: &Value) -> Turn {
 /// What a built-in function gives for the values that are on their way.
 fn builtin<'a>(machine: &mut Machine<'a>, form: &'a BuiltinForm) -> Result<Option<Value>, Met> {
     match form {
-        BuiltinForm::Append { leaves } => Ok(Some(append(machine, *leaves)?)),
-        BuiltinForm::AppendSlice { leaves } => Ok(Some(append_slice(machine, *leaves)?)),
-        BuiltinForm::AppendText { leaves } => Ok(Some(append_text(machine, *leaves)?)),
-        BuiltinForm::Copy => Ok(Some(copy_slice(machine)?)),
-        BuiltinForm::CopyText => Ok(Some(copy_text(machine)?)),
+        BuiltinForm::Append { leaves } => append(machine, *leaves).map(Some),
+        BuiltinForm::AppendSlice { leaves } => append_slice(machine, *leaves).map(Some),
+        BuiltinForm::AppendText { leaves } => append_text(machine, *leaves).map(Some),
+        BuiltinForm::Copy => copy_slice(machine).map(Some),
+        BuiltinForm::CopyText => copy_text(machine).map(Some),
         BuiltinForm::ClearMap => clear_map(machine),
         BuiltinForm::ClearSlice { zero } => clear_slice(machine, zero),
         BuiltinForm::Delete => delete(machine),
-        BuiltinForm::Print => Ok(print(machine, false)?),
-        BuiltinForm::Println => Ok(print(machine, true)?),
+        BuiltinForm::Print => print(machine, false),
+        BuiltinForm::Println => print(machine, true),
         BuiltinForm::Recover => Ok(Some(recover(machine))),
-        BuiltinForm::Max => Ok(Some(extreme(machine, true)?)),
-        BuiltinForm::Min => Ok(Some(extreme(machine, false)?)),
-        BuiltinForm::Cap => match machine.waiting.as_slice() {
-            [value] => Ok(Some(Value::Int(capacity(machine, value)?))),
-            _ => Err(Met::Memory),
-        },
-        BuiltinForm::Len => match machine.waiting.as_slice() {
-            [value] => Ok(Some(Value::Int(length(machine, value)?))),
-            _ => Err(Met::Memory),
-        },
+        BuiltinForm::Max => extreme(machine, true).map(Some),
+        BuiltinForm::Min => extreme(machine, false).map(Some),
+        BuiltinForm::Cap => given_capacity(machine),
+        BuiltinForm::Len => given_length(machine),
         BuiltinForm::Close | BuiltinForm::Panic => Err(Met::Memory),
     }
+}
+
+/// The one value that is on its way.
+fn given<'b>(machine: &'b Machine<'_>) -> Result<&'b Value, NoMemory> {
+    match machine.waiting.as_slice() {
+        [value] => Ok(value),
+        _ => Err(lost()),
+    }
+}
+
+fn given_length(machine: &Machine<'_>) -> Result<Option<Value>, Met> {
+    let len = length(machine, given(machine)?)?;
+    Ok(Some(Value::Int(len)))
+}
+
+fn given_capacity(machine: &Machine<'_>) -> Result<Option<Value>, Met> {
+    let cap = capacity(machine, given(machine)?)?;
+    Ok(Some(Value::Int(cap)))
 }
 
 /// Takes the last value that is on its way, a slice.
@@ -237,7 +249,7 @@ fn delete(machine: &mut Machine<'_>) -> Result<Option<Value>, Met> {
     }
 }
 
-fn print(machine: &mut Machine<'_>, line: bool) -> Result<Option<Value>, NoMemory> {
+fn print(machine: &mut Machine<'_>, line: bool) -> Result<Option<Value>, Met> {
     let mut is_first = true;
     for value in machine.waiting.as_slice() {
         if line && !is_first {
@@ -253,9 +265,9 @@ fn print(machine: &mut Machine<'_>, line: bool) -> Result<Option<Value>, NoMemor
 }
 
 /// The greatest or the least of the values that are on their way: integers or texts.
-fn extreme(machine: &mut Machine<'_>, greatest: bool) -> Result<Value, NoMemory> {
+fn extreme(machine: &mut Machine<'_>, greatest: bool) -> Result<Value, Met> {
     let Some(mut best) = machine.waiting.pop() else {
-        return Err(lost());
+        return Err(Met::Memory);
     };
     for _ in 0..machine.waiting.len() {
         if let Some(other) = machine.waiting.pop() {

@@ -9,10 +9,14 @@ use interp_state::{Goroutine, Machine, Met, Turn, lost};
 /// A switch point: a tick is spent, and a goroutine is chosen.
 #[inline(never)]
 pub fn switch(machine: &mut Machine<'_>, point: Point) -> Turn {
-    if machine.ticks == 0 {
-        return machine.end(Ending::Bound);
+    match machine.spend() {
+        Turn::Goes => choose(machine, point),
+        turn => turn,
     }
-    machine.ticks = machine.ticks.saturating_sub(1);
+}
+
+/// A goroutine is chosen, and goes on.
+fn choose(machine: &mut Machine<'_>, point: Point) -> Turn {
     let before = machine.sched.current();
     match machine.sched.switch(point) {
         None => machine.end(Ending::Deadlock),
@@ -91,13 +95,10 @@ pub fn receive(
     to: u32,
 ) -> Turn {
     match received(machine, channel) {
-        Ok(Received::Done { value, wakes }) => match arrived(machine, value, zero, comma_ok) {
-            Ok(value) => {
-                machine.set(to, value);
-                completed(machine, wakes)
-            }
-            Err(_) => Turn::WantsMemory,
-        },
+        Ok(Received::Done { value, wakes }) => {
+            let value = arrived(machine, value, zero, comma_ok);
+            complete_with(machine, to, value, wakes)
+        }
         Ok(Received::Blocks) => block(machine),
         Err(met) => machine.meet(met),
     }
@@ -128,12 +129,7 @@ fn arrived(
 
 /// One of several operations on channels.
 #[inline(never)]
-pub fn select<'a>(
-    machine: &mut Machine<'a>,
-    blocking: bool,
-    cases: &'a [PlannedCase],
-    to: u32,
-) -> Turn {
+pub fn select(machine: &mut Machine<'_>, blocking: bool, cases: &[PlannedCase], to: u32) -> Turn {
     match selected(machine, blocking, cases) {
         Ok(
             Selected::Case {
@@ -141,22 +137,36 @@ pub fn select<'a>(
                 value,
                 wakes,
             },
-        ) => match select_value(machine, cases, Some(index), value) {
-            Ok(value) => {
-                machine.set(to, value);
-                completed(machine, wakes)
-            }
-            Err(_) => Turn::WantsMemory,
-        },
-        Ok(Selected::Default) => match select_value(machine, cases, None, None) {
-            Ok(value) => {
-                machine.set(to, value);
-                switch(machine, Point::After)
-            }
-            Err(_) => Turn::WantsMemory,
-        },
+        ) => {
+            let value = select_value(machine, cases, Some(index), value);
+            complete_with(machine, to, value, wakes)
+        }
+        Ok(Selected::Default) => {
+            let value = select_value(machine, cases, None, None);
+            let nobody = Wakes::new(machine.alloc);
+            complete_with(machine, to, value, nobody)
+        }
         Ok(Selected::Blocks) => block(machine),
         Err(met) => machine.meet(met),
+    }
+}
+
+/// A register gets what an operation gave, and those that waited go on.
+fn complete_with(
+    machine: &mut Machine<'_>,
+    to: u32,
+    given: Result<Value, NoMemory>,
+    wakes: Wakes,
+) -> Turn {
+    match given {
+        Ok(value) => {
+            machine.set(to, value);
+            completed(machine, wakes)
+        }
+        Err(_) => {
+            drop(wakes);
+            Turn::WantsMemory
+        }
     }
 }
 

@@ -4,7 +4,7 @@ use crate::function_values::called_by;
 use code_plan::{Arg, Callee, MethodName, PlannedCall, PlannedFunction, Role};
 use go_base::{Ending, NoMemory};
 use go_sched::Point;
-use go_value::{Fault, Part, Value};
+use go_value::{Address, Fault, Part, Value};
 use interp_builtins::built_ins::{call_builtin, run_builtin};
 use interp_builtins::channels::switch;
 use interp_state::{Bound, Frame, FrameState, Goroutine, Later, Machine, Met, Ready, Turn, lost};
@@ -14,11 +14,9 @@ const MAX_FRAMES: u32 = 100_000;
 /// The most embedded interfaces that a selection passes.
 const MAX_CHAIN: u64 = 100_000;
 
-/// A call of a function whose arguments are on their way.
-#[derive(Drop)]
-struct Entry {
-    function: u32,
-    bound: Bound,
+/// How a function is called.
+#[derive(Clone, Copy)]
+struct Manner {
     deferred: bool,
     to: Option<u32>,
     chain: u64,
@@ -80,16 +78,11 @@ fn chain_passed_on(machine: &Machine<'_>) -> u64 {
 
 fn ready_method<'a>(
     machine: &mut Machine<'a>,
-    receiver: &'a Arg,
+    receiver: &Arg,
     method: MethodName,
-    args: &'a [Arg],
+    args: &[Arg],
 ) -> Result<(Ready<'a>, u64), Met> {
-    let value = machine.read(receiver)?;
-    let Value::Interface(dynamic) = &value else {
-        return Err(Met::Fault(Fault::NilPointer));
-    };
-    let function = machine.method(dynamic.of, method)?;
-    let held = dynamic.value.copy(machine.alloc)?;
+    let (function, held) = method_of(machine, receiver, method)?;
     machine.waiting.push(held)?;
     machine.push_args(args)?;
     let bound = Bound::Nothing;
@@ -97,6 +90,21 @@ fn ready_method<'a>(
         Ready::Function { function, bound },
         chain_of_invoke(machine),
     ))
+}
+
+/// The function that a method is of what an interface holds, and what it holds.
+fn method_of(
+    machine: &Machine<'_>,
+    receiver: &Arg,
+    method: MethodName,
+) -> Result<(u32, Value), Met> {
+    match machine.look(receiver)? {
+        Value::Interface(dynamic) => {
+            let function = machine.method(dynamic.of, method)?;
+            Ok((function, dynamic.value.copy(machine.alloc)?))
+        }
+        _ => Err(Met::Fault(Fault::NilPointer)),
+    }
 }
 
 /// How many embedded interfaces an invoke has passed: in the wrapper of a promoted method one more than that.
@@ -115,16 +123,14 @@ fn call_ready<'a>(
     to: Option<u32>,
 ) -> Turn {
     match ready {
-        Ready::Function { function, bound } => enter(
-            machine,
-            Entry {
-                function,
-                bound,
+        Ready::Function { function, bound } => {
+            let manner = Manner {
                 deferred: deferred || passes_on_deferral(machine),
                 to,
                 chain,
-            },
-        ),
+            };
+            enter(machine, function, bound, manner)
+        }
         Ready::Builtin(form) => run_builtin(machine, form),
         Ready::Nil => machine.meet(Met::Fault(Fault::NilPointer)),
     }
@@ -139,31 +145,45 @@ fn passes_on_deferral(machine: &Machine<'_>) -> bool {
 }
 
 /// Enters a function whose arguments are on their way.
-fn enter(machine: &mut Machine<'_>, entry: Entry) -> Turn {
-    let Ok(function) = machine.function(entry.function) else {
-        return Turn::WantsMemory;
+fn enter(machine: &mut Machine<'_>, number: u32, bound: Bound, manner: Manner) -> Turn {
+    match admitted(machine, number, manner.chain) {
+        Ok(function) => Turn::after(make_frame(machine, function, bound, manner)),
+        Err(turn) => {
+            drop(bound);
+            turn
+        }
+    }
+}
+
+/// A function that is to have a frame; or what its call comes to without one.
+fn admitted<'a>(
+    machine: &mut Machine<'a>,
+    number: u32,
+    chain: u64,
+) -> Result<&'a PlannedFunction, Turn> {
+    let Ok(function) = machine.function(number) else {
+        return Err(Turn::WantsMemory);
     };
-    if entry.chain > MAX_CHAIN {
-        return machine.end(Ending::StackOverflow);
+    if chain > MAX_CHAIN {
+        return Err(machine.end(Ending::StackOverflow));
     }
     match function.role {
-        Role::Exit => return exit(machine),
-        Role::Gosched => return switch(machine, Point::Yield),
-        Role::Source => {
-            if machine.current.sources >= MAX_FRAMES {
-                return machine.end(Ending::StackOverflow);
-            }
-            if machine.ticks == 0 {
-                return machine.end(Ending::Bound);
-            }
-            machine.ticks = machine.ticks.saturating_sub(1);
-        }
-        Role::Wrapper | Role::Init => {}
+        Role::Exit => Err(exit(machine)),
+        Role::Gosched => Err(switch(machine, Point::Yield)),
+        Role::Source => match spend_on_entry(machine) {
+            Turn::Goes => Ok(function),
+            turn => Err(turn),
+        },
+        Role::Wrapper | Role::Init => Ok(function),
     }
-    match push_frame(machine, function, entry) {
-        Ok(()) => Turn::Goes,
-        Err(_) => Turn::WantsMemory,
+}
+
+/// The entry of a source function spends a tick, where there may be one more frame.
+fn spend_on_entry(machine: &mut Machine<'_>) -> Turn {
+    if machine.current.sources >= MAX_FRAMES {
+        return machine.end(Ending::StackOverflow);
     }
+    machine.spend()
 }
 
 /// `os.Exit`.
@@ -177,11 +197,25 @@ fn exit(machine: &mut Machine<'_>) -> Turn {
     }
 }
 
-fn push_frame<'a>(
+/// A frame for a function, with its arguments and what is bound to it.
+fn make_frame<'a>(
     machine: &mut Machine<'a>,
     function: &'a PlannedFunction,
-    entry: Entry,
+    bound: Bound,
+    manner: Manner,
 ) -> Result<(), NoMemory> {
+    match put_arguments(machine, function) {
+        Ok(()) => put_bound(machine, function.params, bound)?,
+        Err(NoMemory) => {
+            drop(bound);
+            return Err(NoMemory);
+        }
+    }
+    push_frame(machine, function, manner)
+}
+
+/// A frame of slots, whose first ones are the arguments.
+fn put_arguments(machine: &mut Machine<'_>, function: &PlannedFunction) -> Result<(), NoMemory> {
     if machine.waiting.len() != function.params as usize {
         return Err(lost());
     }
@@ -194,7 +228,44 @@ fn push_frame<'a>(
             None => return Err(lost()),
         }
     }
-    put_bound(machine, function.params, entry.bound)?;
+    Ok(())
+}
+
+/// Gives the free variables of the top frame their values.
+fn put_bound(machine: &mut Machine<'_>, first: u32, bound: Bound) -> Result<(), NoMemory> {
+    match bound {
+        Bound::Nothing => Ok(()),
+        Bound::Receiver(receiver) => {
+            machine.current.stack.set(first, receiver);
+            Ok(())
+        }
+        Bound::Captured(captured) => {
+            let put = put_captured(machine, first, captured.as_slice());
+            drop(captured);
+            put
+        }
+    }
+}
+
+fn put_captured(
+    machine: &mut Machine<'_>,
+    first: u32,
+    captured: &[Address],
+) -> Result<(), NoMemory> {
+    let mut slot = first;
+    for address in captured {
+        let address = address.copy()?;
+        machine.current.stack.set(slot, Value::Pointer(address));
+        slot = slot.saturating_add(1);
+    }
+    Ok(())
+}
+
+fn push_frame<'a>(
+    machine: &mut Machine<'a>,
+    function: &'a PlannedFunction,
+    manner: Manner,
+) -> Result<(), NoMemory> {
     let Some(first) = function.blocks.first() else {
         return Err(lost());
     };
@@ -203,29 +274,12 @@ fn push_frame<'a>(
         block: 0,
         steps: first.steps.as_slice(),
         step: 0,
-        deferred: entry.deferred,
+        deferred: manner.deferred,
         state: FrameState::Running,
         defers: Vec::new(machine.alloc),
-        to: entry.to,
-        chain: entry.chain,
+        to: manner.to,
+        chain: manner.chain,
     })
-}
-
-/// Gives the free variables of the top frame their values.
-fn put_bound(machine: &mut Machine<'_>, first: u32, bound: Bound) -> Result<(), NoMemory> {
-    match bound {
-        Bound::Nothing => {}
-        Bound::Receiver(receiver) => machine.current.stack.set(first, receiver),
-        Bound::Captured(captured) => {
-            let mut slot = first;
-            for address in captured.as_slice() {
-                let address = address.copy()?;
-                machine.current.stack.set(slot, Value::Pointer(address));
-                slot = slot.saturating_add(1);
-            }
-        }
-    }
-    Ok(())
 }
 
 /// The top frame gives its results.
@@ -287,22 +341,23 @@ pub fn begin_or_end(machine: &mut Machine<'_>) -> Turn {
 fn start_next(machine: &mut Machine<'_>, function: u32) -> Turn {
     machine.started = machine.started.saturating_add(1);
     machine.waiting.clear();
-    enter(
-        machine,
-        Entry {
-            function,
-            bound: Bound::Nothing,
-            deferred: false,
-            to: None,
-            chain: 0,
-        },
-    )
+    let manner = Manner {
+        deferred: false,
+        to: None,
+        chain: 0,
+    };
+    enter(machine, function, Bound::Nothing, manner)
 }
 
 /// Makes a call that was put off.
 pub fn make_later<'a>(machine: &mut Machine<'a>, later: Later<'a>, deferred: bool) -> Turn {
-    machine.waiting = later.arguments;
-    call_ready(machine, later.ready, later.chain, deferred, None)
+    let Later {
+        ready,
+        arguments,
+        chain,
+    } = later;
+    drop(std::mem::replace(&mut machine.waiting, arguments));
+    call_ready(machine, ready, chain, deferred, None)
 }
 
 /// A call that is made later, with its operands as they are now. A method of a nil interface is met here.
@@ -320,18 +375,21 @@ fn later<'a>(machine: &mut Machine<'a>, call: &'a PlannedCall) -> Result<Later<'
 #[inline(never)]
 pub fn defer<'a>(machine: &mut Machine<'a>, call: &'a PlannedCall) -> Turn {
     match later(machine, call) {
-        Ok(later) => put_off(machine, later),
+        Ok(later) => Turn::after(put_off(machine, later)),
         Err(met) => machine.meet(met),
     }
 }
 
-fn put_off<'a>(machine: &mut Machine<'a>, later: Later<'a>) -> Turn {
-    let Some(top) = &mut machine.current.top else {
-        return Turn::WantsMemory;
-    };
-    match top.defers.push(later) {
-        Ok(()) => Turn::Goes,
-        Err(_) => Turn::WantsMemory,
+fn put_off<'a>(machine: &mut Machine<'a>, later: Later<'a>) -> Result<(), NoMemory> {
+    match &mut machine.current.top {
+        Some(top) => {
+            top.defers.push(later)?;
+            Ok(())
+        }
+        None => {
+            drop(later);
+            Err(lost())
+        }
     }
 }
 
@@ -339,18 +397,17 @@ fn put_off<'a>(machine: &mut Machine<'a>, later: Later<'a>) -> Turn {
 #[inline(never)]
 pub fn go<'a>(machine: &mut Machine<'a>, call: &'a PlannedCall) -> Turn {
     match later(machine, call) {
-        Ok(later) => start(machine, later),
+        Ok(later) => match start(machine, later) {
+            Ok(()) => switch(machine, Point::After),
+            Err(_) => Turn::WantsMemory,
+        },
         Err(met) => machine.meet(met),
     }
 }
 
-fn start<'a>(machine: &mut Machine<'a>, later: Later<'a>) -> Turn {
-    if machine.sched.spawn().is_err() {
-        return Turn::WantsMemory;
-    }
+fn start<'a>(machine: &mut Machine<'a>, later: Later<'a>) -> Result<(), NoMemory> {
     let goroutine = Goroutine::new(machine.alloc, Some(later));
-    if machine.goroutines.push(goroutine).is_err() {
-        return Turn::WantsMemory;
-    }
-    switch(machine, Point::After)
+    machine.goroutines.push(goroutine)?;
+    machine.sched.spawn()?;
+    Ok(())
 }

@@ -21,6 +21,16 @@ pub enum Turn {
     WantsMemory,
 }
 
+impl Turn {
+    /// What a step comes to that may want memory.
+    pub fn after(outcome: Result<(), NoMemory>) -> Turn {
+        match outcome {
+            Ok(()) => Turn::Goes,
+            Err(_) => Turn::WantsMemory,
+        }
+    }
+}
+
 /// A pair of types: one in an interface, and an interface.
 #[derive(Clone, Copy, PartialEq, Eq, Hash)]
 pub struct TypePair {
@@ -220,6 +230,15 @@ impl<'a> Machine<'a> {
         Turn::Ends
     }
 
+    /// Spends a tick. The run ends where none is left.
+    pub fn spend(&mut self) -> Turn {
+        if self.ticks == 0 {
+            return self.end(Ending::Bound);
+        }
+        self.ticks = self.ticks.saturating_sub(1);
+        Turn::Goes
+    }
+
     /// The function of a method of a dynamic type.
     pub fn method(&self, receiver: TypeId, method: MethodName) -> Result<u32, NoMemory> {
         match self.plan.methods.get(&MethodOf { receiver, method }) {
@@ -256,7 +275,7 @@ impl<'a> Machine<'a> {
     }
 
     /// The arguments are on their way.
-    pub fn push_args(&mut self, args: &'a [Arg]) -> Result<(), NoMemory> {
+    pub fn push_args(&mut self, args: &[Arg]) -> Result<(), NoMemory> {
         for arg in args {
             let value = self.read(arg)?;
             self.waiting.push(value)?;
