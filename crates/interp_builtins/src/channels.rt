@@ -116,15 +116,10 @@ fn arrived(
     zero: &Value,
     comma_ok: bool,
 ) -> Result<Value, NoMemory> {
-    let ok = value.is_some();
-    let value = match value {
-        Some(value) => value,
-        None => zero.copy(machine.alloc)?,
-    };
-    if comma_ok {
-        return machine.with_ok(value, ok);
+    match value {
+        Some(value) => machine.with_ok_where(comma_ok, value, true),
+        None => machine.with_ok_where(comma_ok, zero.copy(machine.alloc)?, false),
     }
-    Ok(value)
 }
 
 /// One of several operations on channels.

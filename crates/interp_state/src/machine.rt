@@ -3,7 +3,7 @@
 use crate::error::lost;
 use crate::frames::Goroutine;
 use code_plan::{Arg, MethodName, MethodOf, Plan, PlannedFunction};
-use go_base::{ChanId, Ending, NoMemory, TypeId};
+use go_base::{Bytes, ChanId, Ending, NoMemory, TypeId};
 use go_sched::{Sched, SchedError};
 use go_store::Store;
 use go_type::implements;
@@ -171,18 +171,18 @@ impl<'a> Machine<'a> {
         }
     }
 
-    /// The bytes of the text that an operand is.
-    pub fn text<'b>(&'b self, arg: &'b Arg) -> Result<&'b [u8], NoMemory> {
+    /// The text that an operand is.
+    pub fn text<'b>(&'b self, arg: &'b Arg) -> Result<&'b Rc<Bytes>, NoMemory> {
         match self.look(arg)? {
-            Value::Text(bytes) => Ok(bytes.as_slice()),
+            Value::Text(bytes) => Ok(bytes),
             _ => Err(lost()),
         }
     }
 
     /// The slice that an operand is.
-    pub fn slice(&self, arg: &Arg) -> Result<Rc<SliceValue>, NoMemory> {
+    pub fn slice<'b>(&'b self, arg: &'b Arg) -> Result<&'b SliceValue, NoMemory> {
         match self.look(arg)? {
-            Value::Slice(slice) => Ok(slice.clone()?),
+            Value::Slice(slice) => Ok(slice),
             _ => Err(lost()),
         }
     }
@@ -272,6 +272,15 @@ impl<'a> Machine<'a> {
         parts.push(Part::plain(value))?;
         parts.push(Part::plain(Value::Truth(ok)))?;
         Value::parts(self.alloc, parts)
+    }
+
+    /// A value, with whether there was one where that is asked.
+    pub fn with_ok_where(&self, asked: bool, value: Value, ok: bool) -> Result<Value, NoMemory> {
+        if asked {
+            self.with_ok(value, ok)
+        } else {
+            Ok(value)
+        }
     }
 
     /// The arguments are on their way.

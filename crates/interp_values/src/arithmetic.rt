@@ -111,13 +111,8 @@ pub fn join(machine: &mut Machine<'_>, left: &Arg, right: &Arg, to: u32) -> Turn
 }
 
 fn joined(machine: &Machine<'_>, left: &Arg, right: &Arg) -> Result<Value, Met> {
-    match (machine.look(left)?, machine.look(right)?) {
-        (Value::Text(a), Value::Text(b)) => {
-            let text = concat(machine.alloc, a, b)?;
-            Ok(Value::text(machine.alloc, text)?)
-        }
-        _ => Err(Met::Memory),
-    }
+    let text = concat(machine.alloc, machine.text(left)?, machine.text(right)?)?;
+    Ok(Value::text(machine.alloc, text)?)
 }
 
 /// Two texts are compared.
@@ -135,7 +130,12 @@ pub fn compare_texts(
 }
 
 fn text_order(machine: &Machine<'_>, left: &Arg, right: &Arg) -> Result<Ordering, NoMemory> {
-    Ok(machine.text(left)?.cmp(machine.text(right)?))
+    Ok(
+        machine
+            .text(left)?
+            .as_slice()
+            .cmp(machine.text(right)?.as_slice()),
+    )
 }
 
 /// Whether two values of any type are equal, or are not.

@@ -7,8 +7,8 @@ use go_store::{
     text_of_runes,
 };
 use go_value::{
-    BoundTarget, Fault, FuncValue, SliceValue, Value, assertion_fault, convert_int, text_of_int,
-    text_slice, to_interface,
+    Address, BoundTarget, Fault, FuncValue, SliceValue, Value, assertion_fault, convert_int,
+    text_of_int, text_slice, to_interface,
 };
 use interp_state::{Machine, Met, Turn, lost};
 
@@ -51,18 +51,16 @@ fn found(
 ) -> Result<Value, Met> {
     let map = map_id(machine, map)?;
     let key = machine.look(key)?;
-    let found = machine
+    match machine
         .store
-        .map_get(machine.alloc, &machine.code.types, map, key)?;
-    let is_there = found.is_some();
-    let value = match found {
-        Some(value) => value,
-        None => zero.copy(machine.alloc)?,
-    };
-    if comma_ok {
-        return Ok(machine.with_ok(value, is_there)?);
+        .map_get(machine.alloc, &machine.code.types, map, key)?
+    {
+        Some(value) => Ok(machine.with_ok_where(comma_ok, value, true)?),
+        None => {
+            let zero = zero.copy(machine.alloc)?;
+            Ok(machine.with_ok_where(comma_ok, zero, false)?)
+        }
     }
-    Ok(value)
 }
 
 fn updated(machine: &mut Machine<'_>, map: &Arg, key: &Arg, value: &Arg) -> Result<(), Met> {
@@ -157,10 +155,27 @@ fn part_between(
         return text_between(machine, operand, low, &bounds.high);
     }
     let slice = to_be_cut(machine, form, operand)?;
+    match ends(machine, bounds, &slice) {
+        Ok((high, max)) => {
+            let part = slice_of(slice, low, high, max)?;
+            Ok(Value::slice(machine.alloc, part)?)
+        }
+        Err(NoMemory) => {
+            drop(slice);
+            Err(Met::Memory)
+        }
+    }
+}
+
+/// Where a part of a slice ends, and how far it may grow.
+fn ends(
+    machine: &Machine<'_>,
+    bounds: &Bounds,
+    slice: &SliceValue,
+) -> Result<(i128, i128), NoMemory> {
     let high = bound(machine, &bounds.high, i128::from(slice.len))?;
     let max = bound(machine, &bounds.max, i128::from(slice.cap))?;
-    let part = slice_of(slice, low, high, max)?;
-    Ok(Value::slice(machine.alloc, part)?)
+    Ok((high, max))
 }
 
 fn text_between(
@@ -169,23 +184,26 @@ fn text_between(
     low: i128,
     high: &Option<Arg>,
 ) -> Result<Value, Met> {
-    let Value::Text(bytes) = machine.look(operand)? else {
-        return Err(Met::Memory);
-    };
+    let bytes = machine.text(operand)?;
     let high = bound(machine, high, bytes.len() as i128)?;
     let part = text_slice(machine.alloc, bytes, low, high)?;
     Ok(Value::text(machine.alloc, part)?)
 }
 
 fn to_be_cut(machine: &Machine<'_>, form: CutForm, operand: &Arg) -> Result<SliceValue, Met> {
-    match (form, machine.look(operand)?) {
-        (CutForm::Slice, Value::Slice(slice)) => Ok(slice.copy(machine.alloc)?),
-        (CutForm::Array(len), Value::Pointer(address)) => {
-            let pointer = address.pointer(machine.alloc)?;
-            Ok(array_slice(machine.alloc, &pointer, len)?)
-        }
-        _ => Err(Met::Memory),
+    match form {
+        CutForm::Slice => Ok(machine.slice(operand)?.copy(machine.alloc)?),
+        CutForm::Array(len) => array_to_be_cut(machine, operand, len),
+        CutForm::Text => Err(Met::Memory),
     }
+}
+
+/// All of an array that a pointer points to.
+fn array_to_be_cut(machine: &Machine<'_>, operand: &Arg, len: u64) -> Result<SliceValue, Met> {
+    let pointer = machine.address(operand)?.pointer(machine.alloc)?;
+    let slice = array_slice(machine.alloc, &pointer, len);
+    drop(pointer);
+    Ok(slice?)
 }
 
 /// A value as one of another type.
@@ -204,17 +222,17 @@ fn converted(machine: &mut Machine<'_>, form: ConvertForm, operand: &Arg) -> Res
         }
         ConvertForm::BytesToText => {
             let slice = machine.slice(operand)?;
-            let text = text_of_bytes(machine.alloc, &machine.store, &slice)?;
+            let text = text_of_bytes(machine.alloc, &machine.store, slice)?;
             Ok(Value::text(machine.alloc, text)?)
         }
         ConvertForm::RunesToText => {
             let slice = machine.slice(operand)?;
-            let text = text_of_runes(machine.alloc, &machine.store, &slice)?;
+            let text = text_of_runes(machine.alloc, &machine.store, slice)?;
             Ok(Value::text(machine.alloc, text)?)
         }
-        ConvertForm::TextToBytes | ConvertForm::TextToRunes => text_to_slice(
-            machine, form, operand,
-        ),
+        ConvertForm::TextToBytes | ConvertForm::TextToRunes => {
+            text_to_slice(machine, form, operand)
+        }
     }
 }
 
@@ -223,16 +241,14 @@ fn text_to_slice(
     form: ConvertForm,
     operand: &Arg,
 ) -> Result<Value, Met> {
-    let value = machine.read(operand)?;
-    let Value::Text(text) = &value else {
-        return Err(Met::Memory);
-    };
+    let text = machine.text(operand)?.clone()?;
     let slice = if form == ConvertForm::TextToBytes {
-        bytes_of_text(machine.alloc, &mut machine.store, text)?
+        bytes_of_text(machine.alloc, &mut machine.store, &text)
     } else {
-        runes_of_text(machine.alloc, &mut machine.store, text)?
+        runes_of_text(machine.alloc, &mut machine.store, &text)
     };
-    Ok(Value::slice(machine.alloc, slice)?)
+    drop(text);
+    Ok(Value::slice(machine.alloc, slice?)?)
 }
 
 /// A value in an interface.
@@ -256,11 +272,28 @@ pub fn closure(machine: &mut Machine<'_>, function: FuncId, captured: &[Arg], to
 
 fn made_closure(machine: &Machine<'_>, function: FuncId, args: &[Arg]) -> Result<Value, Met> {
     let mut captured = Vec::new(machine.alloc);
-    for arg in args {
-        captured.push(machine.address(arg)?.copy()?)?;
+    match push_addresses(machine, &mut captured, args) {
+        Ok(()) => {
+            let closure = FuncValue::Closure { function, captured };
+            Ok(Value::function(machine.alloc, closure)?)
+        }
+        Err(NoMemory) => {
+            drop(captured);
+            Err(Met::Memory)
+        }
     }
-    let closure = FuncValue::Closure { function, captured };
-    Ok(Value::function(machine.alloc, closure)?)
+}
+
+fn push_addresses(
+    machine: &Machine<'_>,
+    captured: &mut Vec<Address>,
+    args: &[Arg],
+) -> Result<(), NoMemory> {
+    for arg in args {
+        let address = machine.address(arg)?.copy()?;
+        captured.push(address)?;
+    }
+    Ok(())
 }
 
 /// A method with its receiver.
@@ -314,12 +347,22 @@ fn asserted(
     comma_ok: bool,
 ) -> Result<Value, Met> {
     let value = machine.read(operand)?;
-    let held = as_type(machine, &value, wanted)?;
-    match held {
-        Some(held) if comma_ok => Ok(machine.with_ok(held, true)?),
-        Some(held) => Ok(held),
+    let asserted = assertion(machine, &value, wanted, zero, comma_ok);
+    drop(value);
+    asserted
+}
+
+fn assertion(
+    machine: &mut Machine<'_>,
+    value: &Value,
+    wanted: TypeId,
+    zero: &Value,
+    comma_ok: bool,
+) -> Result<Value, Met> {
+    match as_type(machine, value, wanted)? {
+        Some(held) => Ok(machine.with_ok_where(comma_ok, held, true)?),
         None if comma_ok => Ok(machine.with_ok(zero.copy(machine.alloc)?, false)?),
-        None => Err(Met::Fault(assertion_fault(&value, wanted))),
+        None => Err(Met::Fault(assertion_fault(value, wanted))),
     }
 }
 

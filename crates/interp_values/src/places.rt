@@ -51,12 +51,23 @@ pub fn store(machine: &mut Machine<'_>, at: &Arg, value: &Arg) -> Turn {
 
 fn stored(machine: &mut Machine<'_>, at: &Arg, value: &Arg) -> Result<(), Met> {
     let address = machine.address(at)?.copy()?;
-    if let Value::Int(number) = machine.look(value)? {
-        let number = *number;
-        return Ok(machine.store.put_int_at(&address, number)?);
+    let stored = put_value(machine, &address, value);
+    drop(address);
+    stored
+}
+
+/// The value of an operand is put at an address.
+fn put_value(machine: &mut Machine<'_>, at: &Address, value: &Arg) -> Result<(), Met> {
+    match machine.look(value)? {
+        Value::Int(number) => {
+            let number = *number;
+            Ok(machine.store.put_int_at(at, number)?)
+        }
+        other => {
+            let value = other.copy(machine.alloc)?;
+            Ok(machine.store.put_at(at, value)?)
+        }
     }
-    let value = machine.read(value)?;
-    Ok(machine.store.put_at(&address, value)?)
 }
 
 /// The address of a field.
@@ -78,10 +89,8 @@ pub fn slice_element(machine: &mut Machine<'_>, operand: &Arg, index: &Arg, to: 
 
 fn element_of(machine: &Machine<'_>, operand: &Arg, index: &Arg) -> Result<Value, Met> {
     let index = machine.int(index)?;
-    match machine.look(operand)? {
-        Value::Slice(slice) => Ok(Value::Pointer(element(machine.alloc, slice, index)?)),
-        _ => Err(Met::Memory),
-    }
+    let address = element(machine.alloc, machine.slice(operand)?, index)?;
+    Ok(Value::Pointer(address))
 }
 
 /// The address of an element of an array.
@@ -159,7 +168,7 @@ pub fn byte(machine: &mut Machine<'_>, operand: &Arg, index: &Arg, to: u32) -> T
 
 fn byte_of(machine: &Machine<'_>, operand: &Arg, index: &Arg) -> Result<i128, Met> {
     let index = machine.int(index)?;
-    let bytes = machine.text(operand)?;
+    let bytes = machine.text(operand)?.as_slice();
     let place = check_index(index, bytes.len() as u64)?;
     match bytes.get(place as usize) {
         Some(byte) => Ok(i128::from(*byte)),

@@ -106,30 +106,50 @@ fn map_turn(
     key: &Value,
     value: &Value,
 ) -> Result<Value, Met> {
-    let (map, left) = match machine.current.stack.get_mut(range) {
-        Some(Value::Iter(state)) => taken_entries(machine.alloc, state)?,
-        _ => return Err(Met::Memory),
-    };
-    let (entry, left) = chosen_entry(machine, map, left)?;
-    keep_left(machine, range, left);
+    let (map, entry) = next_entry(machine, range)?;
     match entry {
-        Some(number) => match machine.store.entry(machine.alloc, map, number)? {
-            Some(entry) => Ok(turn(machine, true, entry.key, entry.value)?),
-            None => Err(Met::Memory),
-        },
+        Some(number) => entry_turn(machine, map, number),
         None => {
-            let (key, value) = (key.copy(machine.alloc)?, value.copy(machine.alloc)?);
+            let key = key.copy(machine.alloc)?;
+            let value = value.copy(machine.alloc)?;
             Ok(turn(machine, false, key, value)?)
         }
     }
 }
 
+/// The map that is ranged over, and its entry that is produced next.
+fn next_entry(
+    machine: &mut Machine<'_>,
+    range: u32,
+) -> Result<(Option<MapId>, Option<u64>), NoMemory> {
+    let (map, left) = match machine.current.stack.get_mut(range) {
+        Some(Value::Iter(state)) => taken_entries(machine.alloc, state)?,
+        _ => return Err(lost()),
+    };
+    let (entry, left) = chosen_entry(machine, map, left)?;
+    keep_left(machine, range, left);
+    Ok((map, entry))
+}
+
+fn entry_turn(machine: &Machine<'_>, map: Option<MapId>, number: u64) -> Result<Value, Met> {
+    match machine.store.entry(machine.alloc, map, number)? {
+        Some(entry) => Ok(turn(machine, true, entry.key, entry.value)?),
+        None => Err(Met::Memory),
+    }
+}
+
 /// Puts the entries that are not produced yet back.
 fn keep_left(machine: &mut Machine<'_>, range: u32, numbers: Vec<u64>) {
-    if let Some(Value::Iter(state)) = machine.current.stack.get_mut(range) {
-        if let RangeState::Map { left, .. } = &mut **state {
-            *left = numbers;
-        }
+    match machine.current.stack.get_mut(range) {
+        Some(Value::Iter(state)) => put_left(state, numbers),
+        _ => drop(numbers),
+    }
+}
+
+fn put_left(state: &mut RangeState, numbers: Vec<u64>) {
+    match state {
+        RangeState::Map { left, .. } => drop(std::mem::replace(left, numbers)),
+        RangeState::Text { .. } => drop(numbers),
     }
 }
 
