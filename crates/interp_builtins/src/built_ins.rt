@@ -1,12 +1,12 @@
 //! Built-in functions. Go specification, "Built-in functions".
 
 use crate::channels::completed;
+use crate::elements::{append_bytes, append_elements, put_bytes, put_everywhere};
 use crate::recovering::recover;
 use code_plan::{Arg, BuiltinForm};
-use go_base::{Bytes, NoMemory};
-use go_value::{SliceValue, Value};
+use go_base::NoMemory;
+use go_value::Value;
 use interp_state::{Machine, Met, Turn, lost};
-use std::rc::Rc;
 use value_texts::push_printed;
 
 /// A call of a built-in function in an expression or a statement.
@@ -70,16 +70,26 @@ fn builtin_to<'a>(machine: &mut Machine<'a>, form: &'a BuiltinForm, to: Option<u
             Some(value) => machine.panic_with(value),
             None => Turn::WantsMemory,
         },
-        _ => match builtin(machine, form) {
-            Ok(Some(value)) => {
-                if let Some(to) = to {
-                    machine.set(to, value);
-                }
-                Turn::Goes
+        _ => {
+            let given = builtin(machine, form);
+            machine.waiting.clear();
+            finish(machine, given, to)
+        }
+    }
+}
+
+/// A register gets what a built-in function gives, where it gives a value and a register wants it.
+fn finish(machine: &mut Machine<'_>, given: Result<Option<Value>, Met>, to: Option<u32>) -> Turn {
+    match given {
+        Ok(Some(value)) => {
+            match to {
+                Some(to) => machine.set(to, value),
+                None => drop(value),
             }
-            Ok(None) => Turn::Goes,
-            Err(met) => machine.meet(met),
-        },
+            Turn::Goes
+        }
+        Ok(None) => Turn::Goes,
+        Err(met) => machine.meet(met),
     }
 }
 
@@ -140,22 +150,6 @@ fn given_capacity(machine: &Machine<'_>) -> Result<Option<Value>, Met> {
     Ok(Some(Value::Int(cap)))
 }
 
-/// Takes the last value that is on its way, a slice.
-fn taken_slice(machine: &mut Machine<'_>) -> Result<Rc<SliceValue>, NoMemory> {
-    match &machine.waiting.pop() {
-        Some(Value::Slice(slice)) => Ok(slice.clone()?),
-        _ => Err(lost()),
-    }
-}
-
-/// Takes the last value that is on its way, a text.
-fn taken_text(machine: &mut Machine<'_>) -> Result<Rc<Bytes>, NoMemory> {
-    match &machine.waiting.pop() {
-        Some(Value::Text(text)) => Ok(text.clone()?),
-        _ => Err(lost()),
-    }
-}
-
 fn append(machine: &mut Machine<'_>, leaves: u32) -> Result<Value, Met> {
     let appended = match machine.waiting.as_slice() {
         [Value::Slice(slice), items @ ..] => machine.store.append(leaves, slice, items)?,
@@ -165,55 +159,44 @@ fn append(machine: &mut Machine<'_>, leaves: u32) -> Result<Value, Met> {
 }
 
 fn append_slice(machine: &mut Machine<'_>, leaves: u32) -> Result<Value, Met> {
-    let more = taken_slice(machine)?;
-    let slice = taken_slice(machine)?;
-    let items = elements(machine, &more)?;
-    let appended = machine.store.append(leaves, &slice, items.as_slice())?;
+    let appended = match machine.waiting.as_slice() {
+        [Value::Slice(slice), Value::Slice(more)] => {
+            append_elements(machine.alloc, &mut machine.store, leaves, slice, more)?
+        }
+        _ => return Err(Met::Memory),
+    };
     Ok(Value::slice(machine.alloc, appended)?)
 }
 
-/// The elements of a slice.
-fn elements(machine: &Machine<'_>, slice: &SliceValue) -> Result<Vec<Value>, Met> {
-    let mut items = Vec::new(machine.alloc);
-    for index in 0..slice.len {
-        let address = go_store::element(machine.alloc, slice, i128::from(index))?;
-        items.push(machine.store.load_at(machine.alloc, &address)?)?;
-    }
-    Ok(items)
-}
-
 fn append_text(machine: &mut Machine<'_>, leaves: u32) -> Result<Value, Met> {
-    let text = taken_text(machine)?;
-    let slice = taken_slice(machine)?;
-    let mut items = Vec::new(machine.alloc);
-    for byte in text.as_slice() {
-        items.push(Value::Int(i128::from(*byte)))?;
-    }
-    let appended = machine.store.append(leaves, &slice, items.as_slice())?;
+    let appended = match machine.waiting.as_slice() {
+        [Value::Slice(slice), Value::Text(text)] => {
+            append_bytes(machine.alloc, &mut machine.store, leaves, slice, text)?
+        }
+        _ => return Err(Met::Memory),
+    };
     Ok(Value::slice(machine.alloc, appended)?)
 }
 
 fn copy_slice(machine: &mut Machine<'_>) -> Result<Value, Met> {
-    let from = taken_slice(machine)?;
-    let to = taken_slice(machine)?;
-    let count = machine.store.copy_items(&to, &from)?;
-    Ok(Value::Int(i128::from(count)))
+    match machine.waiting.as_slice() {
+        [Value::Slice(to), Value::Slice(from)] => {
+            let count = machine.store.copy_items(to, from)?;
+            Ok(Value::Int(i128::from(count)))
+        }
+        _ => Err(Met::Memory),
+    }
 }
 
 fn copy_text(machine: &mut Machine<'_>) -> Result<Value, Met> {
-    let text = taken_text(machine)?;
-    let to = taken_slice(machine)?;
-    let count = to.len.min(text.len() as u64);
-    let mut index = 0u64;
-    for byte in text.as_slice() {
-        if index >= count {
-            break;
+    match machine.waiting.as_slice() {
+        [Value::Slice(to), Value::Text(text)] => {
+            let count = to.len.min(text.len() as u64);
+            put_bytes(machine.alloc, &mut machine.store, to, text, count)?;
+            Ok(Value::Int(i128::from(count)))
         }
-        let address = go_store::element(machine.alloc, &to, i128::from(index))?;
-        machine.store.put_int_at(&address, i128::from(*byte))?;
-        index = index.saturating_add(1);
+        _ => Err(Met::Memory),
     }
-    Ok(Value::Int(i128::from(count)))
 }
 
 fn clear_map(machine: &mut Machine<'_>) -> Result<Option<Value>, Met> {
@@ -227,22 +210,19 @@ fn clear_map(machine: &mut Machine<'_>) -> Result<Option<Value>, Met> {
 }
 
 fn clear_slice(machine: &mut Machine<'_>, zero: &Value) -> Result<Option<Value>, Met> {
-    let slice = taken_slice(machine)?;
-    for index in 0..slice.len {
-        let address = go_store::element(machine.alloc, &slice, i128::from(index))?;
-        let value = zero.copy(machine.alloc)?;
-        machine.store.put_at(&address, value)?;
+    match machine.waiting.as_slice() {
+        [Value::Slice(slice)] => {
+            put_everywhere(machine.alloc, &mut machine.store, slice, zero)?;
+            Ok(None)
+        }
+        _ => Err(Met::Memory),
     }
-    Ok(None)
 }
 
 fn delete(machine: &mut Machine<'_>) -> Result<Option<Value>, Met> {
-    let Some(key) = machine.waiting.pop() else {
-        return Err(Met::Memory);
-    };
-    match &machine.waiting.pop() {
-        Some(Value::Map(map)) => {
-            machine.store.map_remove(&machine.code.types, *map, &key)?;
+    match machine.waiting.as_slice() {
+        [Value::Map(map), key] => {
+            machine.store.map_remove(&machine.code.types, *map, key)?;
             Ok(None)
         }
         _ => Err(Met::Memory),
@@ -266,17 +246,16 @@ fn print(machine: &mut Machine<'_>, line: bool) -> Result<Option<Value>, Met> {
 
 /// The greatest or the least of the values that are on their way: integers or texts.
 fn extreme(machine: &mut Machine<'_>, greatest: bool) -> Result<Value, Met> {
-    let Some(mut best) = machine.waiting.pop() else {
+    let Some((first, others)) = machine.waiting.split_first() else {
         return Err(Met::Memory);
     };
-    for _ in 0..machine.waiting.len() {
-        if let Some(other) = machine.waiting.pop() {
-            if is_less(&best, &other)? == greatest {
-                best = other;
-            }
+    let mut best = first;
+    for other in others {
+        if is_less(best, other)? == greatest {
+            best = other;
         }
     }
-    Ok(best)
+    Ok(best.copy(machine.alloc)?)
 }
 
 fn is_less(a: &Value, b: &Value) -> Result<bool, NoMemory> {

@@ -3,4 +3,5 @@
 
 pub mod built_ins;
 pub mod channels;
+mod elements;
 mod recovering;
