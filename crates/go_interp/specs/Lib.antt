@@ -1,3 +1,1 @@
 pub mod Output
-pub mod Slots
-pub mod Frames

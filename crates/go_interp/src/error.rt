@@ -31,8 +31,3 @@ impl<T: Drop> From<AllocFailed<T>> for RunError {
         RunError::OutOfMemory
     }
 }
-
-/// What a case answers that cannot come for code that is sane and typed.
-pub(crate) fn lost() -> NoMemory {
-    NoMemory
-}

@@ -4,21 +4,9 @@
 //! at a time. No call of the program is a call of the host.
 #![tactic(auto)]
 
-mod arithmetic;
-mod built_ins;
-mod calling;
-mod channels;
 mod error;
-mod frames;
-mod machine;
-mod making;
-mod places;
-mod ranging;
 mod running;
-mod stack;
 mod stepping;
-mod unwinding;
 
 pub use error::RunError;
 pub use running::run;
-pub use stack::RegStack;

@@ -4,14 +4,14 @@ ghost use Rattle.std.specs.Prelude.{◌≡◌, ◌≤◌, IsErrOf};
 ghost use Rattle.go_base.specs.Devices.{HasFaulted};
 ghost use Rattle.go_interp.specs.Output.{HasWritten};
 
-use crate::error::{RunError, lost};
-use crate::frames::Goroutine;
-use crate::machine::{Machine, Turn};
+use crate::error::RunError;
+use crate::stepping::make_steps;
 use code_plan::{Plan, plan};
 use go_base::{Ending, NoMemory, Sink, SinkError};
 use go_sched::Sched;
 use go_store::Store;
 use indexmap::IndexMap;
+use interp_state::{Goroutine, Machine, Turn, lost};
 use ssa_ir::Code;
 use std::alloc::Global;
 
@@ -32,7 +32,11 @@ pub fn run<O: Sink>(
     ensures later { O.faults out.old ≤ O.faults out.new }
 {
     match plan(alloc, code) {
-        Ok(plan) => run_plan(alloc, code, &plan, choices, bound, out),
+        Ok(plan) => {
+            let ending = run_plan(alloc, code, &plan, choices, bound, out);
+            drop(plan);
+            ending
+        }
         Err(_) => Err(RunError::OutOfMemory),
     }
 }
@@ -51,24 +55,28 @@ fn run_plan<O: Sink>(
     ensures later { O.faults out.old ≤ O.faults out.new }
 {
     match start(alloc, code, plan, choices, bound) {
-        Ok(machine) => drive(machine, out),
+        Ok(machine) => {
+            let mut machine = machine;
+            let ending = drive(&mut machine, out);
+            drop(machine);
+            ending
+        }
         Err(_) => Err(RunError::OutOfMemory),
     }
 }
 
 /// Lets a machine go on to its end.
-fn drive<O: Sink>(machine: Machine<'_>, out: &mut O) -> Result<Ending, RunError>
+fn drive<O: Sink>(machine: &mut Machine<'_>, out: &mut O) -> Result<Ending, RunError>
     ensures written { HasWritten (O.written out.old) (O.written out.new) }
     ensures fault { IsErrOf result RunError.WriteFault → HasFaulted (O.faults out.old) (O.faults out.new) }
     ensures later { O.faults out.old ≤ O.faults out.new }
 {
-    let mut machine = machine;
     for _ in 0..u64::MAX {
-        match machine.make_steps() {
-            Turn::Goes => write_piece(&mut machine, out)?,
+        match make_steps(machine) {
+            Turn::Goes => write_piece(machine, out)?,
             Turn::Ends => return finish(machine, out),
             Turn::WantsMemory => {
-                write(&mut machine, out)?;
+                write(machine, out)?;
                 return Err(RunError::OutOfMemory);
             }
         }
@@ -84,19 +92,14 @@ fn start<'a>(
     choices: &[u32],
     bound: u64,
 ) -> Result<Machine<'a>, NoMemory> {
-    let mut store = Store::new(alloc);
-    for value in plan.variables.as_slice() {
-        store.make_cell(value.copy(alloc)?)?;
-    }
-    let mut goroutines = Vec::new(alloc);
-    goroutines.push(Goroutine::new(alloc, None))?;
-    Ok(Machine {
+    let sched = Sched::new(alloc, choices)?;
+    let mut machine = Machine {
         alloc,
         code,
         plan,
-        store,
-        sched: Sched::new(alloc, choices)?,
-        goroutines,
+        store: Store::new(alloc),
+        sched,
+        goroutines: Vec::new(alloc),
         current: Goroutine::new(alloc, None),
         started: 0,
         ticks: bound,
@@ -104,7 +107,26 @@ fn start<'a>(
         ending: None,
         waiting: Vec::new(alloc),
         implemented: IndexMap::new(alloc),
-    })
+    };
+    match make_ready(&mut machine) {
+        Ok(()) => Ok(machine),
+        Err(NoMemory) => {
+            drop(machine);
+            Err(NoMemory)
+        }
+    }
+}
+
+/// Gives the machine the cells of the package variables, and a place for goroutine 0.
+fn make_ready(machine: &mut Machine<'_>) -> Result<(), NoMemory> {
+    let plan = machine.plan;
+    for value in plan.variables.as_slice() {
+        let value = value.copy(machine.alloc)?;
+        machine.store.make_cell(value)?;
+    }
+    let first = Goroutine::new(machine.alloc, None);
+    machine.goroutines.push(first)?;
+    Ok(())
 }
 
 /// Writes the output that is kept, where it is long.
@@ -138,13 +160,12 @@ fn write<O: Sink>(machine: &mut Machine<'_>, out: &mut O) -> Result<(), RunError
 }
 
 /// Writes the rest of the output.
-fn finish<O: Sink>(machine: Machine<'_>, out: &mut O) -> Result<Ending, RunError>
+fn finish<O: Sink>(machine: &mut Machine<'_>, out: &mut O) -> Result<Ending, RunError>
     ensures written { HasWritten (O.written out.old) (O.written out.new) }
     ensures fault { IsErrOf result RunError.WriteFault → HasFaulted (O.faults out.old) (O.faults out.new) }
     ensures later { O.faults out.old ≤ O.faults out.new }
 {
-    let mut machine = machine;
-    write(&mut machine, out)?;
+    write(machine, out)?;
     match machine.ending.take() {
         Some(ending) => Ok(ending),
         None => Err(without_ending()),

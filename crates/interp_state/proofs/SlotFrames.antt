@@ -1,0 +1,212 @@
+-- Frames of slots, as the calls on them leave them.
+use mathlib.Core.Bool.{true≢false}
+use mathlib.Core.Logic.{inl, inr}
+use Rattle.std.proofs.lemmas.Bool.{cases_lt}
+use Rattle.std.proofs.Common.{Bool, true, false, ◌≡◌, ℕ, zero, suc, ◌+◌, ◌-◌, ◌^◌, ◌<◌, ◌≤◌, List, [], ◌∷◌, ◌++◌, Option, Some, None, refl, sym, ap}
+use Rattle.std.proofs.Common.{◌∙◌, subst, length, take, drop, map, reverse, replicate, min, Bor, arith, zero-add, append_assoc}
+use Rattle.std.specs.Prelude.{slice_get, slice_set, slice_index_or, option_map, unwrap_or, option_to_list, MatchOption}
+use Rattle.std.specs.Prelude.{option_copied, Result, Ok, Err, is_ok, is_err, OnOk, if◌then◌else◌}
+use Rattle.std.specs.Slice.{IsItemAt}
+use Rattle.std.specs.Option.{option_flatten}
+use Rattle.std.proofs.lemmas.List.{take-map, drop-map, length-map, map-append, reverse-append, length-reverse, take-set-le}
+use Rattle.std.proofs.lemmas.List.{drop-set-add, map-set, set_past}
+use Rattle.std.proofs.lemmas.Option.{slice_get_past, slice_get-map}
+use Rattle.std.proofs.Math.Nat.{suc-add}
+use Rattle.std.proofs.Math.Seq.{take-append_seam, drop-append_seam}
+use Rattle.interp_state.specs.Frames.{frames_from, seen}
+use Rattle.plan_mean.specs.Slots.{top_of, below_top, with_frame, slot_in, with_slot}
+use Rattle.go_value.specs.Values.{Val, value_of}
+use Rattle.go_value.specs.declared.values.Value.{Value}
+
+-- ---- lists
+
+unset_seen : (n : ℕ) → seen (replicate n None) ≡ replicate n None
+unset_seen zero = refl
+unset_seen (suc n) = ap (λ rest. None ∷ rest) (unset_seen n)
+
+read_behind : {A : Type 0} (base : ℕ) (xs : List A) (n : ℕ) → slice_get (drop base xs) n ≡ slice_get xs (base + n)
+read_behind zero xs n = ap (slice_get xs) (sym (zero-add n))
+read_behind (suc base) [] n = refl
+read_behind (suc base) (x ∷ xs) n = read_behind base xs n ∙ ap (slice_get (x ∷ xs)) (sym (suc-add base n))
+
+pub one_more : {A : Type 0} (xs : List A) (n : ℕ) (x : A) → (xs ++ replicate n x) ++ x ∷ [] ≡ xs ++ replicate (suc n) x
+one_more xs n x = append_assoc xs (replicate n x) (x ∷ []) ∙ ap (λ ys. xs ++ ys) (turned n)
+  where
+    turned : (n : ℕ) → replicate n x ++ x ∷ [] ≡ replicate (suc n) x
+    turned zero = refl
+    turned (suc n) = ap (λ ys. x ∷ ys) (turned n)
+
+-- ---- how many
+
+counted : {A : Type 0} (slots : List A) (base : ℕ) (others : List ℕ) → length (frames_from slots base others) ≡ length others
+counted slots base [] = refl
+counted slots base (below ∷ others) = ap suc (counted (take base slots) below others)
+
+pub depth_is : {A : Type 0} (slots : List A) (base : ℕ) (bases : List ℕ)
+    → length (frames_from slots base (reverse bases)) ≡ length bases
+depth_is slots base bases = counted slots base (reverse bases) ∙ length-reverse bases
+
+-- ---- a frame more
+
+entered_at : {A : Type 0} (old new : List A) (base : ℕ) (bases : List ℕ)
+    → frames_from (old ++ new) (length old) (reverse (bases ++ base ∷ [])) ≡ new ∷ frames_from old base (reverse bases)
+entered_at old new base bases =
+    ap (frames_from (old ++ new) (length old)) (reverse-append bases (base ∷ []))
+    ∙ (λ i. drop-append_seam old new i ∷ frames_from (take-append_seam old new i) base (reverse bases))
+
+pub entered : (old : List (Option Value)) (n base : ℕ) (bases : List ℕ)
+    → frames_from (seen (old ++ replicate n None)) (length old) (reverse (bases ++ base ∷ []))
+    ≡ with_frame n (frames_from (seen old) base (reverse bases))
+entered old n base bases =
+    ap (λ slots. frames_from slots (length old) (reverse (bases ++ base ∷ [])))
+    (map-append (option_map value_of) old (replicate n None) ∙ ap (λ new. seen old ++ new) (unset_seen n))
+    ∙ ap (λ len. frames_from (seen old ++ replicate n None) len (reverse (bases ++ base ∷ [])))
+    (sym (length-map old (option_map value_of)))
+    ∙ entered_at (seen old) (replicate n None) base bases
+
+-- ---- a frame less
+
+left_at : {A : Type 0} (slots : List A) (base : ℕ) (rest : List ℕ) (popped : Option ℕ) → (popped ≡ None → rest ≡ [])
+    → frames_from (take base slots) (unwrap_or popped 0) (reverse rest)
+    ≡ below_top (frames_from slots base (reverse (rest ++ option_to_list popped)))
+left_at slots base rest (Some below) h =
+    sym (ap (λ others. below_top (frames_from slots base others)) (reverse-append rest (below ∷ [])))
+left_at slots base rest None h =
+    ap (λ others. frames_from (take base slots) 0 (reverse others)) (h refl)
+    ∙ sym (ap (λ others. below_top (frames_from slots base (reverse (others ++ [])))) (h refl))
+
+pub left : (slots : List (Option Value)) (base : ℕ) (bases rest : List ℕ) (popped : Option ℕ)
+    → bases ≡ rest ++ option_to_list popped → (popped ≡ None → rest ≡ [])
+    → frames_from (seen (take base slots)) (unwrap_or popped 0) (reverse rest)
+    ≡ below_top (frames_from (seen slots) base (reverse bases))
+left slots base bases rest popped is none =
+    ap (λ slots. frames_from slots (unwrap_or popped 0) (reverse rest)) (sym (take-map (option_map value_of) base slots))
+    ∙ left_at (seen slots) base rest popped none
+    ∙ ap (λ others. below_top (frames_from (seen slots) base (reverse others))) (sym is)
+
+-- ---- the slots of the top frame
+
+got_at : {A : Type 0} (slots : List (Option A)) (base n : ℕ) (others : List ℕ)
+    → 0 < length (frames_from slots base others)
+    → slot_in (frames_from slots base others) n ≡ option_flatten (slice_get slots (base + n))
+got_at slots base n [] h = let no : ⊥ = omega arith in absurd no
+got_at slots base n (below ∷ others) h = ap option_flatten (read_behind base slots n)
+
+pub got : (slots : List (Option Value)) (base n : ℕ) (bases : List ℕ)
+    → 0 < length (frames_from (seen slots) base (reverse bases))
+    → slot_in (frames_from (seen slots) base (reverse bases)) n
+    ≡ option_flatten (option_map (option_map value_of) (slice_get slots (base + n)))
+got slots base n bases h =
+    got_at (seen slots) base n (reverse bases) h
+    ∙ ap option_flatten (slice_get-map (option_map value_of) slots (base + n))
+
+set_at : {A : Type 0} (slots : List (Option A)) (base n : ℕ) (it : A) (others : List ℕ)
+    → frames_from (slice_set slots (base + n) (Some it)) base others ≡ with_slot n it (frames_from slots base others)
+set_at slots base n it [] = refl
+set_at slots base n it (below ∷ others) =
+    let within : base ≤ base + n = omega arith in
+    λ i. drop-set-add base slots n (Some it) i
+    ∷ frames_from (take-set-le base slots (base + n) (Some it) within i) below others
+
+-- ---- what the calls of `Vec` and of slices say
+
+-- the place of a slot, where there is one
+pub place_is : (base n place len cap : ℕ) → place ≡ min (base + n) (2 ^ 64 - 1) → place < len → len ≤ cap → cap < 2 ^ 63
+    → place ≡ base + n
+place_is base n place len cap is within most small = omega arith
+
+pub past_is : (base n place len : ℕ) → place ≡ min (base + n) (2 ^ 64 - 1) → len ≤ place → len ≤ base + n
+past_is base n place len is past = omega arith
+
+item_at : {A : Type 0} (xs : List A) (i : ℕ) (d : A) → i < length xs → slice_get xs i ≡ Some (slice_index_or xs i d)
+item_at [] i d h = let no : ⊥ = omega arith in absurd no
+item_at (x ∷ xs) zero d h = refl
+item_at (x ∷ xs) (suc i) d h = let below : i < length xs = omega arith in item_at xs i d below
+
+pub looked : {A : Type 0} (xs : List A) (i : ℕ) (found : Option (Bor A)) → IsItemAt xs i found
+    → option_map (λ x. x.now) found ≡ slice_get xs i
+looked xs i None h = sym (slice_get_past xs i h.3)
+looked xs i (Some x) h = sym (item_at xs i x.now h.3.0 ∙ ap Some (sym (h.3.1 x.now)))
+
+no_items : {A : Type 0} (xs : List A) → length xs ≡ 0 → xs ≡ []
+no_items [] h = refl
+no_items (x ∷ xs) h = let no : ⊥ = omega arith in absurd no
+
+pub none_left : (popped : Option ℕ) (rest : List ℕ) (old len : ℕ)
+    → MatchOption popped ((old ≡ 0) × (len ≡ 0)) (λ _. len + 1 ≡ old) → len ≡ length rest → popped ≡ None → rest ≡ []
+none_left None rest old len h is e = no_items rest (sym is ∙ h.1)
+none_left (Some below) rest old len h is e = let no : ⊥ = cc in absurd no
+
+-- ---- reading and writing a slot
+
+seen_copied : (found : Option (Bor Value)) → option_map (λ it. value_of it.now) found ≡ option_map value_of (option_copied found)
+seen_copied None = refl
+seen_copied (Some it) = refl
+
+pub get_some : (slots : List (Option Value)) (base n place : ℕ) (bases : List ℕ) (found : Option (Bor (Option Value)))
+    (slot : Bor (Option Value)) (it : Option (Bor Value)) → IsItemAt slots place found → found ≡ Some slot
+    → option_copied it ≡ slot.now → place ≡ min (base + n) (2 ^ 64 - 1) → length slots < 2 ^ 63
+    → 0 < length (frames_from (seen slots) base (reverse bases))
+    → option_map (λ it. value_of it.now) it ≡ slot_in (frames_from (seen slots) base (reverse bases)) n
+get_some slots base n place bases found slot it item is copied at small h =
+    let some : IsItemAt slots place (Some slot) = subst (λ (f : Option (Bor (Option Value))). IsItemAt slots place f) is item in
+    let within : place < length slots = some.3.0 in
+    let same : place ≡ base + n = omega arith in
+    let read : slice_get slots (base + n) ≡ Some slot.now =
+    subst (λ k. slice_get slots k ≡ Some slot.now) same (sym (looked slots place (Some slot) some)) in
+    seen_copied it ∙ ap (option_map value_of) copied
+    ∙ sym (got slots base n bases h ∙ ap (λ o. option_flatten (option_map (option_map value_of) o)) read)
+
+pub get_none : (slots : List (Option Value)) (base n place : ℕ) (bases : List ℕ) (found : Option (Bor (Option Value)))
+    → IsItemAt slots place found → found ≡ None → place ≡ min (base + n) (2 ^ 64 - 1)
+    → 0 < length (frames_from (seen slots) base (reverse bases))
+    → None ≡ slot_in (frames_from (seen slots) base (reverse bases)) n
+get_none slots base n place bases found item is at h =
+    let none : IsItemAt slots place None = subst (λ (f : Option (Bor (Option Value))). IsItemAt slots place f) is item in
+    let past : length slots ≤ place = none.3 in
+    let beyond : length slots ≤ base + n = omega arith in
+    sym (got slots base n bases h
+    ∙ ap (λ o. option_flatten (option_map (option_map value_of) o)) (slice_get_past slots (base + n) beyond))
+
+pub set_seen : (slots : List (Option Value)) (base n place : ℕ) (new : Option Value) (it : Val) (bases : List ℕ)
+    → place ≡ base + n → option_map value_of new ≡ Some it
+    → frames_from (seen (slice_set slots place new)) base (reverse bases)
+    ≡ with_slot n it (frames_from (seen slots) base (reverse bases))
+set_seen slots base n place new it bases at is =
+    ap (λ k. frames_from (seen (slice_set slots k new)) base (reverse bases)) at
+    ∙ ap (λ slots. frames_from slots base (reverse bases)) (map-set (option_map value_of) slots (base + n) new)
+    ∙ ap (λ slot. frames_from (slice_set (seen slots) (base + n) slot) base (reverse bases)) is
+    ∙ set_at (seen slots) base n it (reverse bases)
+
+-- nothing changes where there is no such slot
+pub unset_past : (slots : List (Option Value)) (base n : ℕ) (it : Val) (bases : List ℕ) → length slots ≤ base + n
+    → frames_from (seen slots) base (reverse bases) ≡ with_slot n it (frames_from (seen slots) base (reverse bases))
+unset_past slots base n it bases past =
+    let beyond : length (seen slots) ≤ base + n = rw (length-map slots (option_map value_of)) past in
+    ap (λ slots. frames_from slots base (reverse bases)) (sym (set_past (seen slots) (base + n) (Some it) beyond))
+    ∙ set_at (seen slots) base n it (reverse bases)
+
+pub not_within : (place len : ℕ) → (place < len → false ≡ true) → len ≤ place
+not_within place len h =
+    elim (cases_lt place len) [ inl below ↦ absurd (true≢false (sym (h below))) | inr past ↦ past ]
+
+-- ---- results
+
+pub went_well : {A E : Type 0} {P : Type 0} (given : Result A E) (failed : Bool) → failed ≡ is_err given → failed ≡ false
+    → OnOk given P → P
+went_well (Ok it) failed is succeeds h = h
+went_well (Err it) failed is succeeds h = let absurdity : ⊥ = cc in absurd absurdity
+
+pub was_pushed : {A E X : Type 0} (given : Result A E) (failed : Bool) (old new : List X) (it : X) → failed ≡ is_err given
+    → failed ≡ false → new ≡ (if is_ok given then old ++ it ∷ [] else old) → new ≡ old ++ it ∷ []
+was_pushed (Ok _) failed old new it is succeeds h = h
+was_pushed (Err _) failed old new it is succeeds h = let absurdity : ⊥ = cc in absurd absurdity
+
+pub enters : (slots : List (Option Value)) (n base len : ℕ) (bases new : List ℕ) (filled : List (Option Value))
+    → len ≡ length slots → filled ≡ slots ++ replicate n None → new ≡ bases ++ base ∷ []
+    → frames_from (seen filled) len (reverse new) ≡ with_frame n (frames_from (seen slots) base (reverse bases))
+enters slots n base len bases new filled at is pushed =
+    ap (λ k. frames_from (seen filled) k (reverse new)) at
+    ∙ ap (λ filled. frames_from (seen filled) (length slots) (reverse new)) is
+    ∙ ap (λ new. frames_from (seen (slots ++ replicate n None)) (length slots) (reverse new)) pushed
+    ∙ entered slots n base bases

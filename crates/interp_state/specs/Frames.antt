@@ -1,0 +1,19 @@
+-- The frames of a goroutine's stack of slots.
+use Rattle.std.specs.Prelude.{ℕ, List, [], ◌∷◌, Option, drop, map, option_map, reverse, take}
+use Rattle.interp_state.specs.declared.stack.RegStack.{RegStack}
+use Rattle.go_value.specs.Values.{Val, value_of}
+use Rattle.go_value.specs.declared.values.Value.{Value}
+
+-- the frames, kept one behind another, the top one first: the top one begins at a place, and each one below where it is
+-- told
+abbrev pub frames_from : {A : Type 0} → List A → ℕ → List ℕ → List (List A)
+frames_from slots base [] = []
+frames_from slots base (below ∷ others) = drop base slots ∷ frames_from (take base slots) below others
+
+-- what the slots hold
+abbrev pub seen : List (Option Value) → List (Option Val)
+seen slots = map (option_map value_of) slots
+
+-- the slots of the frames, the top frame first
+abbrev pub frames_of : RegStack → List (List (Option Val))
+frames_of stack = frames_from (seen stack.slots.items) stack.base (reverse stack.bases.items)
