@@ -22,7 +22,7 @@ use std::alloc::Global;
 use tree_roles::has_roles;
 
 /// The word, the name and the semicolon of a package clause.
-#[derive(Clone, Copy, Debug, PartialEq, Eq)]
+#[derive(Clone, Copy, PartialEq, Eq)]
 struct PackageClause {
     word: Token,
     name: Token,

@@ -26,7 +26,7 @@ pub struct ImportDecl {
 }
 
 /// An import, and the semicolon behind it in parentheses.
-#[derive(Clone, Copy, Debug, PartialEq, Eq)]
+#[derive(Clone, Copy, PartialEq, Eq)]
 pub struct ImportSpec {
     pub name: Option<Token>,
     pub path: Token,

@@ -197,7 +197,7 @@ impl Drop for Stmt {
 }
 
 /// `name :`
-#[derive(Clone, Copy, Debug, PartialEq, Eq)]
+#[derive(Clone, Copy, PartialEq, Eq)]
 pub struct Label {
     pub name: Token,
     pub colon: Token,
@@ -294,7 +294,7 @@ impl Drop for TypeSwitchStmt {
 }
 
 /// `name :=`
-#[derive(Clone, Copy, Debug, PartialEq, Eq)]
+#[derive(Clone, Copy, PartialEq, Eq)]
 pub struct Binding {
     pub name: Token,
     pub define: Token,

@@ -4,7 +4,7 @@ use crate::exprs::Expr;
 use go_ast::Token;
 
 /// A name of a type, of this package or of an imported one.
-#[derive(Clone, Copy, Debug, PartialEq, Eq)]
+#[derive(Clone, Copy, PartialEq, Eq)]
 pub enum NamedType {
     Local(Token),
     Imported {
@@ -15,7 +15,7 @@ pub enum NamedType {
 }
 
 /// A name of a list, and the comma behind it.
-#[derive(Clone, Copy, Debug, PartialEq, Eq)]
+#[derive(Clone, Copy, PartialEq, Eq)]
 pub struct ListedName {
     pub name: Token,
     pub comma: Option<Token>,
