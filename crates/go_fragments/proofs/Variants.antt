@@ -9,6 +9,7 @@ use Rattle.go_syntax.specs.declared.stmts.Stmt.{Stmt}
 use Rattle.go_syntax.specs.declared.type_exprs.ElementLine.{ElementLine}
 use Rattle.go_syntax.specs.declared.type_exprs.FieldLine.{FieldLine}
 use Rattle.go_syntax.specs.declared.type_exprs.ResultForm.{ResultForm}
+use Rattle.go_syntax.specs.declared.type_exprs.NamedType.{NamedType}
 use Rattle.go_syntax.specs.declared.type_exprs.TypeExpr.{TypeExpr}
 use Rattle.go_syntax.specs.declared.decls.FuncDecl.{FuncDecl}
 use Rattle.go_syntax.specs.declared.decls.TypeSpec.{TypeSpec}
@@ -40,6 +41,7 @@ use Rattle.go_grammar.specs.View.{view_decl, decl_layer, view_expr, expr_layer, 
 use Rattle.go_grammar.specs.TypeReading.{Place, is_none}
 use Rattle.go_grammar.specs.ExprReading.{is_name, is_type_only, is_only_a_type, is_literal_type, literal_type, imported_type, starred, unary_of}
 use Rattle.go_grammar.specs.StmtReading.{is_primary, is_single}
+use Rattle.go_fragments.specs.Entries.{local_name}
 use Rattle.go_fragments.specs.Expressions.{name_token, type_named}
 
 abbrev Layer : Type 0
@@ -127,6 +129,24 @@ not_only_a_type_by (layers.TypeExpr-F.Interface a b c d) tree eq no_pointer no_c
 
 pub not_only_a_type : (tree : TypeExpr) → ((a : Token) (b : Box TypeExpr) → tree ≡ types.Pointer a b → ⊥) → ((a : Token) (b : Option Token) (c : Box TypeExpr) → tree ≡ types.Chan a b c → ⊥) → ((a b : Token) (c : Box TypeExpr) → tree ≡ types.ReceiveChan a b c → ⊥) → ((a : Token) (b : Box Signature) → tree ≡ types.Function a b → ⊥) → is_only_a_type (view_type_expr tree) ≡ false
 not_only_a_type tree no_pointer no_chan no_receivechan no_function = ap (λ (seen_so : Forest). is_only_a_type (seen_so)) (seen_type_out tree) ∙ not_only_a_type_by (out-TypeExpr tree) tree refl no_pointer no_chan no_receivechan no_function
+
+no_local_name_by : (layer : TypeLayer) (tree : TypeExpr) → out-TypeExpr tree ≡ layer → ((a : NamedType) → tree ≡ types.Name a → ⊥) → local_name (seen_type layer) ≡ None
+no_local_name_by (layers.TypeExpr-F.TypeExpr::Name a) tree eq no_name = absurd (no_name a (sym (roll-out-TypeExpr tree) ∙ ap roll-TypeExpr eq ∙ types.rolls-Name a))
+no_local_name_by (layers.TypeExpr-F.TypeExpr::Paren a b c) tree eq no_name = refl
+no_local_name_by (layers.TypeExpr-F.Pointer a b) tree eq no_name = refl
+no_local_name_by (layers.TypeExpr-F.TypeExpr::Slice a b c) tree eq no_name = refl
+no_local_name_by (layers.TypeExpr-F.Array a b c d) tree eq no_name = refl
+no_local_name_by (layers.TypeExpr-F.OpenArray a b c d) tree eq no_name = refl
+no_local_name_by (layers.TypeExpr-F.Map a b c d e) tree eq no_name = refl
+no_local_name_by (layers.TypeExpr-F.Chan a b c) tree eq no_name = refl
+no_local_name_by (layers.TypeExpr-F.ReceiveChan a b c) tree eq no_name = refl
+no_local_name_by (layers.TypeExpr-F.TypeExpr::Function a b) tree eq no_name = refl
+no_local_name_by (layers.TypeExpr-F.Struct a b c d) tree eq no_name = refl
+no_local_name_by (layers.TypeExpr-F.Interface a b c d) tree eq no_name = refl
+
+-- a type that is no name names nothing of this package
+pub no_local_name : (tree : TypeExpr) → ((a : NamedType) → tree ≡ types.Name a → ⊥) → local_name (view_type_expr tree) ≡ None
+no_local_name tree no_name = ap (λ (seen_so : Forest). local_name (seen_so)) (seen_type_out tree) ∙ no_local_name_by (out-TypeExpr tree) tree refl no_name
 
 no_literal_by : (place : Place) (layer : Layer) (tree : Expr) → out-Expr tree ≡ layer → ((a : Box TypeExpr) → tree ≡ exprs.TypeForm a → ⊥) → ((a : Token) → tree ≡ exprs.Name a → ⊥) → ((a : Box Expr) (b c : Token) → tree ≡ exprs.Selector a b c → ⊥) → is_literal_type place (seen layer) ≡ false
 no_literal_by place (layers.Expr-F.Int a) tree eq no_typeform no_name no_selector = refl

@@ -145,23 +145,13 @@ fn param_of(names: Vec<ListedName>, entry: Entry) -> Param
 }
 
 /// The name that alone was read as a type.
-#[tactic(auto, using(go_grammar::proofs::Views::type_views))]
+#[tactic(auto, using(go_grammar::proofs::Views::view_type_expr_name))]
 fn local_name(form: &TypeExpr) -> Option<Token>
     ensures { result ≡ local_name (view_type_expr form.now) }
 {
     match form {
         TypeExpr::Name(name) => name_of_this_package(*name),
-        TypeExpr::Paren { .. }
-        | TypeExpr::Pointer { .. }
-        | TypeExpr::Slice { .. }
-        | TypeExpr::Array { .. }
-        | TypeExpr::OpenArray { .. }
-        | TypeExpr::Map { .. }
-        | TypeExpr::Chan { .. }
-        | TypeExpr::ReceiveChan { .. }
-        | TypeExpr::Function { .. }
-        | TypeExpr::Struct { .. }
-        | TypeExpr::Interface { .. } => None,
+        _ => None,
     }
 }
 

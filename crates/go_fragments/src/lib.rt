@@ -2,6 +2,7 @@
 //! between items; tests on what stands ahead; and the making of trees from parts that were read.
 #![tactic(auto)]
 
+pub mod boxes;
 pub mod groups;
 pub mod operands;
 pub mod parts;

@@ -15,6 +15,7 @@ ghost use Rattle.go_ast.specs.declared.token.Kind.TheVariants as kinds;
 ghost use Rattle.go_grammar.specs.Forests as forms;
 ghost use Rattle.go_grammar.specs.Reading.{node_in};
 
+use crate::boxes::boxed;
 use crate::stop::Stop;
 use crate::tokens::{begins_with, begins_with_bare_type, begins_with_both, begins_with_sign, skip};
 use go_ast::{Kind, Token};
@@ -137,7 +138,7 @@ pub fn literal_type(alloc: Global, left: Box<Expr>) -> Result<Box<TypeExpr>, Sto
         Ok(form) => Ok(form),
         Err(other) => {
             let name = type_name_of(&other)?;
-            Ok(Box::new(alloc, TypeExpr::Name(name))?)
+            Ok(boxed(alloc, TypeExpr::Name(name))?)
         }
     }
 }
@@ -171,8 +172,8 @@ pub fn starred(alloc: Global, star: Token, operand: Box<Expr>) -> Result<Box<Exp
     }
     match Box::into_inner(operand).into_type() {
         Ok(base) => {
-            let form = Box::new(alloc, TypeExpr::Pointer { star, base })?;
-            Ok(Box::new(alloc, Expr::TypeForm(form))?)
+            let form = boxed(alloc, TypeExpr::Pointer { star, base })?;
+            Ok(boxed(alloc, Expr::TypeForm(form))?)
         }
         Err(_other) => Err(Stop::Unexpected),
     }
@@ -183,7 +184,7 @@ pub fn starred(alloc: Global, star: Token, operand: Box<Expr>) -> Result<Box<Exp
 fn with_sign(alloc: Global, operator: Token, operand: Box<Expr>) -> Result<Box<Expr>, Stop>
     ensures { Gives (λ x. view_expr x.value) result (Some (exprs.unary_of operator (view_expr operand.value))) }
 {
-    Ok(Box::new(alloc, Expr::Unary { operator, operand })?)
+    Ok(boxed(alloc, Expr::Unary { operator, operand })?)
 }
 
 /// The expression of a list of one, which no comma follows.
@@ -263,7 +264,7 @@ pub fn int_literal(alloc: Global, tokens: &[Token]) -> Result<(Box<Expr>, &[Toke
     ensures { Gives (λ x. (view_expr x.0.value, x.1.now)) result (node_in forms.IntForm (word_in kinds.Int) tokens.now) }
 {
     let (token, rest) = skip(tokens, Kind::Int)?;
-    Ok((Box::new(alloc, Expr::Int(token))?, rest))
+    Ok((boxed(alloc, Expr::Int(token))?, rest))
 }
 
 /// A rune literal. Go specification, "Rune literals".
@@ -272,7 +273,7 @@ pub fn rune_literal(alloc: Global, tokens: &[Token]) -> Result<(Box<Expr>, &[Tok
     ensures { Gives (λ x. (view_expr x.0.value, x.1.now)) result (node_in forms.RuneForm (word_in kinds.Rune) tokens.now) }
 {
     let (token, rest) = skip(tokens, Kind::Rune)?;
-    Ok((Box::new(alloc, Expr::Rune(token))?, rest))
+    Ok((boxed(alloc, Expr::Rune(token))?, rest))
 }
 
 /// A string literal. Go specification, "String literals".
@@ -281,7 +282,7 @@ pub fn text_literal(alloc: Global, tokens: &[Token]) -> Result<(Box<Expr>, &[Tok
     ensures { Gives (λ x. (view_expr x.0.value, x.1.now)) result (node_in forms.TextForm (word_in kinds.Text) tokens.now) }
 {
     let (token, rest) = skip(tokens, Kind::Text)?;
-    Ok((Box::new(alloc, Expr::Text(token))?, rest))
+    Ok((boxed(alloc, Expr::Text(token))?, rest))
 }
 
 /// A name as an operand. Go specification, "Operands".
@@ -290,7 +291,7 @@ pub fn name(alloc: Global, tokens: &[Token]) -> Result<(Box<Expr>, &[Token]), St
     ensures { Gives (λ x. (view_expr x.0.value, x.1.now)) result (node_in forms.NameForm (word_in kinds.Name) tokens.now) }
 {
     let (token, rest) = skip(tokens, Kind::Name)?;
-    Ok((Box::new(alloc, Expr::Name(token))?, rest))
+    Ok((boxed(alloc, Expr::Name(token))?, rest))
 }
 
 /// A star, and the tokens behind it.

@@ -9,6 +9,7 @@ ghost use Rattle.go_fragments.specs.Giving.{Gives};
 ghost use Rattle.go_fragments.specs.Specs.{view_values, view_named_form, receiver_name_in};
 ghost use Rattle.go_fragments.specs.declared.stop.Stop.TheVariants as stops;
 
+use crate::boxes::boxed;
 use crate::groups::param_name;
 use crate::stop::Stop;
 use crate::tokens::type_name;
@@ -130,7 +131,7 @@ pub fn named_type(alloc: Global, tokens: &[Token]) -> Result<(Box<TypeExpr>, &[T
     ensures { Gives (λ x. (view_type_expr x.0.value, x.1.now)) result (type_name_in tokens.now) }
 {
     let (name, rest) = type_name(tokens)?;
-    Ok((Box::new(alloc, TypeExpr::Name(name))?, rest))
+    Ok((boxed(alloc, TypeExpr::Name(name))?, rest))
 }
 
 /// A signature of its parts.

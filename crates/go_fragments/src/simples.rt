@@ -8,6 +8,7 @@ ghost use Rattle.go_grammar.specs.View.{view_block, view_if_arm, view_label, vie
 ghost use Rattle.go_fragments.specs.Giving.{Gives};
 ghost use Rattle.go_fragments.specs.Statements.{boxed_expr, boxed_stmt, view_simple, view_init, view_guard, view_suffix, view_body, label_in, labels_in, suffix_in, branch_in, begins_branch, begins_decl_at, IsSplit};
 
+use crate::boxes::boxed;
 use crate::operands::{name_of, primary_of, single};
 use crate::stop::Stop;
 use crate::tokens::{begins_with, begins_with_both, optional, skip};
@@ -144,15 +145,15 @@ pub fn branch(alloc: Global, tokens: &[Token]) -> Result<(Box<Stmt>, &[Token]), 
     if begins_with(tokens, Kind::BreakWord) {
         let (word, rest) = skip(tokens, Kind::BreakWord)?;
         let (label, rest) = optional(rest, Kind::Name);
-        return Ok((Box::new(alloc, Stmt::Break { word, label })?, rest));
+        return Ok((boxed(alloc, Stmt::Break { word, label })?, rest));
     }
     if begins_with(tokens, Kind::ContinueWord) {
         let (word, rest) = skip(tokens, Kind::ContinueWord)?;
         let (label, rest) = optional(rest, Kind::Name);
-        return Ok((Box::new(alloc, Stmt::Continue { word, label })?, rest));
+        return Ok((boxed(alloc, Stmt::Continue { word, label })?, rest));
     }
     let (word, rest) = skip(tokens, Kind::FallthroughWord)?;
-    Ok((Box::new(alloc, Stmt::Fallthrough(word))?, rest))
+    Ok((boxed(alloc, Stmt::Fallthrough(word))?, rest))
 }
 
 /// A simple statement, as a statement.
@@ -191,7 +192,7 @@ pub fn stmt_of(alloc: Global, simple: Simple) -> Result<Box<Stmt>, Stop>
             values,
         },
     };
-    Ok(Box::new(alloc, stmt)?)
+    Ok(boxed(alloc, stmt)?)
 }
 
 /// A simple statement, where there is one, as a statement.
@@ -287,7 +288,7 @@ pub fn without_else(alloc: Global, arms: Vec<IfArm>) -> Result<Box<Stmt>, Stop>
         else_word: None,
         otherwise: None,
     };
-    Ok(Box::new(alloc, stmt)?)
+    Ok(boxed(alloc, stmt)?)
 }
 
 /// An `if` with a last `else`.
@@ -302,9 +303,9 @@ pub fn with_else(
     let stmt = Stmt::If {
         arms,
         else_word: Some(else_word),
-        otherwise: Some(Box::new(alloc, otherwise)?),
+        otherwise: Some(boxed(alloc, otherwise)?),
     };
-    Ok(Box::new(alloc, stmt)?)
+    Ok(boxed(alloc, stmt)?)
 }
 
 /// Go specification, "Expression switches".
@@ -327,8 +328,8 @@ pub fn value_switch(
         clauses: body.clauses,
         close: body.close,
     };
-    let stmt = Box::new(alloc, stmt)?;
-    Ok(Box::new(alloc, Stmt::Switch(stmt))?)
+    let stmt = boxed(alloc, stmt)?;
+    Ok(boxed(alloc, Stmt::Switch(stmt))?)
 }
 
 /// Go specification, "Type switches".
@@ -357,8 +358,8 @@ pub fn type_switch(
         clauses: body.clauses,
         close: body.close,
     };
-    let stmt = Box::new(alloc, stmt)?;
-    Ok(Box::new(alloc, Stmt::TypeSwitch(stmt))?)
+    let stmt = boxed(alloc, stmt)?;
+    Ok(boxed(alloc, Stmt::TypeSwitch(stmt))?)
 }
 
 /// Whether this is a list of one.
