@@ -16,6 +16,7 @@ ghost use Rattle.go_readers.specs.Operands.{paren_in};
 use crate::stmts::block;
 use crate::types::{signature, type_expr, type_form};
 use go_ast::{Kind, Token};
+use go_fragments::boxes::boxed;
 use go_fragments::operands::{
     Context, begins_with_braces, begins_with_open_array, begins_with_operand_type,
     begins_with_suffix, int_literal, is_type_only, literal_type, name, rune_literal, sign, star,
@@ -98,7 +99,7 @@ fn operation(
         operator,
         right,
     };
-    Ok((Box::new(alloc, both)?, rest))
+    Ok((boxed(alloc, both)?, rest))
 }
 
 /// A sign and its operand, or an operand without a sign.
@@ -117,7 +118,7 @@ fn unary(
     }
     if let Some((operator, rest)) = sign(tokens) {
         let (operand, rest) = expr(alloc, depth, context.of_operand(), TIGHT, rest)?;
-        return Ok((Box::new(alloc, Expr::Unary { operator, operand })?, rest));
+        return Ok((boxed(alloc, Expr::Unary { operator, operand })?, rest));
     }
     primary(alloc, depth, context, tokens)
 }
@@ -194,7 +195,7 @@ fn paren(alloc: Global, depth: usize, tokens: &[Token]) -> Result<(Box<Expr>, &[
     let (inner, rest) = expr(alloc, depth, Context::Item, LOOSE, rest)?;
     let (close, rest) = skip(rest, Kind::CloseParen)?;
     let paren = Expr::Paren { open, inner, close };
-    Ok((Box::new(alloc, paren)?, rest))
+    Ok((boxed(alloc, paren)?, rest))
 }
 
 /// A type that is an operand, or where types may stand any that begins with `chan` or `<-`.
@@ -210,13 +211,13 @@ fn type_operand(
 {
     if begins_with_open_array(tokens) {
         let (form, rest) = open_array(alloc, depth, tokens)?;
-        return Ok((Box::new(alloc, Expr::TypeForm(form))?, rest));
+        return Ok((boxed(alloc, Expr::TypeForm(form))?, rest));
     }
     if !begins_with_operand_type(context, tokens) {
         return Err(Stop::Unexpected);
     }
     let (form, rest) = type_form(alloc, depth, tokens)?;
-    Ok((Box::new(alloc, Expr::TypeForm(form))?, rest))
+    Ok((boxed(alloc, Expr::TypeForm(form))?, rest))
 }
 
 /// `[...]T` before the braces of a literal. Go specification, "Composite literals".
@@ -242,7 +243,7 @@ fn open_array(
         close,
         element,
     };
-    Ok((Box::new(alloc, form)?, rest))
+    Ok((boxed(alloc, form)?, rest))
 }
 
 /// A function literal, or where types may stand a function type. Go specification, "Function literals".
@@ -258,22 +259,22 @@ fn function(
 {
     let (word, rest) = skip(tokens, Kind::FuncWord)?;
     let (signature, rest) = signature(alloc, depth, rest)?;
-    let signature = Box::new(alloc, signature)?;
+    let signature = boxed(alloc, signature)?;
     if begins_with_braces(rest) {
         let (body, rest) = block(alloc, depth, rest)?;
-        let body = Box::new(alloc, body)?;
+        let body = boxed(alloc, body)?;
         let function = Expr::Function {
             word,
             signature,
             body,
         };
-        return Ok((Box::new(alloc, function)?, rest));
+        return Ok((boxed(alloc, function)?, rest));
     }
     if !context.is_item() {
         return Err(Stop::Unexpected);
     }
-    let form = Box::new(alloc, TypeExpr::Function { word, signature })?;
-    Ok((Box::new(alloc, Expr::TypeForm(form))?, rest))
+    let form = boxed(alloc, TypeExpr::Function { word, signature })?;
+    Ok((boxed(alloc, Expr::TypeForm(form))?, rest))
 }
 
 /// An operand with a selector, a type assertion, an index, a slice, a call or the braces of a literal behind it.
@@ -324,13 +325,10 @@ fn selector(
             form,
             close,
         };
-        return Ok((Box::new(alloc, assertion)?, rest));
+        return Ok((boxed(alloc, assertion)?, rest));
     }
     let (name, rest) = skip(rest, Kind::Name)?;
-    Ok((
-        Box::new(alloc, Expr::Selector { operand, dot, name })?,
-        rest,
-    ))
+    Ok((boxed(alloc, Expr::Selector { operand, dot, name })?, rest))
 }
 
 /// An index, or a slice. Go specification, "Index expressions".
@@ -359,7 +357,7 @@ fn index(
         index,
         close,
     };
-    Ok((Box::new(alloc, indexed)?, rest))
+    Ok((boxed(alloc, indexed)?, rest))
 }
 
 /// The rest of a slice from its first colon on. Go specification, "Slice expressions".
@@ -387,7 +385,7 @@ fn slice(
             high,
             close,
         };
-        return Ok((Box::new(alloc, sliced)?, rest));
+        return Ok((boxed(alloc, sliced)?, rest));
     }
     let (high, rest) = expr(alloc, depth, Context::Plain, LOOSE, rest)?;
     if begins_with(rest, Kind::CloseBracket) {
@@ -401,7 +399,7 @@ fn slice(
             high,
             close,
         };
-        return Ok((Box::new(alloc, sliced)?, rest));
+        return Ok((boxed(alloc, sliced)?, rest));
     }
     let (second_colon, rest) = skip(rest, Kind::Colon)?;
     let (max, rest) = expr(alloc, depth, Context::Plain, LOOSE, rest)?;
@@ -416,7 +414,7 @@ fn slice(
         max,
         close,
     };
-    Ok((Box::new(alloc, sliced)?, rest))
+    Ok((boxed(alloc, sliced)?, rest))
 }
 
 /// A call, or a conversion. Go specification, "Calls".
@@ -441,7 +439,7 @@ fn call(
             comma: None,
             close,
         };
-        return Ok((Box::new(alloc, call)?, rest));
+        return Ok((boxed(alloc, call)?, rest));
     }
     let (arguments, rest) = expr_list(alloc, depth, Context::Item, rest)?;
     let (ellipsis, rest) = optional(rest, Kind::Ellipsis);
@@ -455,7 +453,7 @@ fn call(
         comma,
         close,
     };
-    Ok((Box::new(alloc, call)?, rest))
+    Ok((boxed(alloc, call)?, rest))
 }
 
 /// The elements of a literal in their braces. Go specification, "Composite literals".
@@ -478,7 +476,7 @@ fn literal(
         elements,
         close,
     };
-    Ok((Box::new(alloc, literal)?, rest))
+    Ok((boxed(alloc, literal)?, rest))
 }
 
 /// Elements up to a closing brace.

@@ -14,6 +14,7 @@ ghost use Rattle.go_readers.specs.Statements.{statement_in, line_in, return_in, 
 use crate::decls::decl;
 use crate::exprs::{LOOSE, expr, expr_list};
 use go_ast::{Kind, Token};
+use go_fragments::boxes::boxed;
 use go_fragments::operands::{Context, begins_with_braces, single};
 use go_fragments::simples::{
     HeaderParts, Init, Simple, SwitchBody, begins_with_branch, begins_with_decl, branch,
@@ -127,11 +128,11 @@ fn statement(alloc: Global, depth: usize, tokens: &[Token]) -> Result<(Box<Stmt>
     let (labels, rest) = labels(alloc, tokens)?;
     if ends_statement(rest) {
         let stmt = None;
-        return Ok((Box::new(alloc, Stmt::Labeled { labels, stmt })?, rest));
+        return Ok((boxed(alloc, Stmt::Labeled { labels, stmt })?, rest));
     }
     let (stmt, rest) = stmt(alloc, depth, rest)?;
     let stmt = Some(stmt);
-    Ok((Box::new(alloc, Stmt::Labeled { labels, stmt })?, rest))
+    Ok((boxed(alloc, Stmt::Labeled { labels, stmt })?, rest))
 }
 
 /// A statement without labels that is not empty.
@@ -167,8 +168,8 @@ fn decl_stmt(alloc: Global, depth: usize, tokens: &[Token]) -> Result<(Box<Stmt>
     ensures { Gives (λ x. (boxed_stmt x.0, x.1.now)) result (decl_in (parsers depth) tokens.now) }
 {
     let (decl, rest) = decl(alloc, depth, tokens)?;
-    let decl = Box::new(alloc, decl)?;
-    Ok((Box::new(alloc, Stmt::Decl(decl))?, rest))
+    let decl = boxed(alloc, decl)?;
+    Ok((boxed(alloc, Stmt::Decl(decl))?, rest))
 }
 
 /// A statement with statements in it, or a simple one.
@@ -210,7 +211,7 @@ fn block_stmt(alloc: Global, depth: usize, tokens: &[Token]) -> Result<(Box<Stmt
     ensures { Gives (λ x. (boxed_stmt x.0, x.1.now)) result (block_in (parsers depth) tokens.now) }
 {
     let (block, rest) = block(alloc, depth, tokens)?;
-    Ok((Box::new(alloc, Stmt::Block(block))?, rest))
+    Ok((boxed(alloc, Stmt::Block(block))?, rest))
 }
 
 /// A simple statement that is not empty, as a statement.
@@ -230,7 +231,7 @@ fn go_stmt(alloc: Global, depth: usize, tokens: &[Token]) -> Result<(Box<Stmt>, 
 {
     let (word, rest) = skip(tokens, Kind::GoWord)?;
     let (call, rest) = expr(alloc, depth, Context::Plain, LOOSE, rest)?;
-    Ok((Box::new(alloc, Stmt::Go { word, call })?, rest))
+    Ok((boxed(alloc, Stmt::Go { word, call })?, rest))
 }
 
 /// Go specification, "Defer statements".
@@ -241,7 +242,7 @@ fn defer_stmt(alloc: Global, depth: usize, tokens: &[Token]) -> Result<(Box<Stmt
 {
     let (word, rest) = skip(tokens, Kind::DeferWord)?;
     let (call, rest) = expr(alloc, depth, Context::Plain, LOOSE, rest)?;
-    Ok((Box::new(alloc, Stmt::Defer { word, call })?, rest))
+    Ok((boxed(alloc, Stmt::Defer { word, call })?, rest))
 }
 
 /// Go specification, "Return statements".
@@ -253,10 +254,10 @@ fn return_stmt(alloc: Global, depth: usize, tokens: &[Token]) -> Result<(Box<Stm
     let (word, rest) = skip(tokens, Kind::ReturnWord)?;
     if ends_statement(rest) {
         let results = Vec::new(alloc);
-        return Ok((Box::new(alloc, Stmt::Return { word, results })?, rest));
+        return Ok((boxed(alloc, Stmt::Return { word, results })?, rest));
     }
     let (results, rest) = expr_list(alloc, depth, Context::Plain, rest)?;
-    Ok((Box::new(alloc, Stmt::Return { word, results })?, rest))
+    Ok((boxed(alloc, Stmt::Return { word, results })?, rest))
 }
 
 /// A simple statement that is not empty.
@@ -547,7 +548,7 @@ fn select_stmt(alloc: Global, depth: usize, tokens: &[Token]) -> Result<(Box<Stm
         clauses,
         close,
     };
-    Ok((Box::new(alloc, stmt)?, rest))
+    Ok((boxed(alloc, stmt)?, rest))
 }
 
 /// Clauses of a `select` up to a closing brace.
@@ -668,13 +669,13 @@ fn while_stmt(
     ensures { Gives (λ x. (boxed_stmt x.0, x.1.now)) result (while_in (parsers depth) (one word) (if_some boxed_expr condition) tokens.now) }
 {
     let (body, rest) = block(alloc, depth, tokens)?;
-    let body = Box::new(alloc, body)?;
+    let body = boxed(alloc, body)?;
     let stmt = Stmt::While {
         word,
         condition,
         body,
     };
-    Ok((Box::new(alloc, stmt)?, rest))
+    Ok((boxed(alloc, stmt)?, rest))
 }
 
 /// The clauses of a `for` from the first semicolon on, and its body. Go specification, "For statements with for clause".
@@ -707,8 +708,8 @@ fn for_clauses(
         post,
         body,
     };
-    let stmt = Box::new(alloc, stmt)?;
-    Ok((Box::new(alloc, Stmt::For(stmt))?, rest))
+    let stmt = boxed(alloc, stmt)?;
+    Ok((boxed(alloc, Stmt::For(stmt))?, rest))
 }
 
 /// The condition between the semicolons of a `for`, or nothing.
@@ -751,6 +752,6 @@ fn range_stmt(
         operand,
         body,
     };
-    let stmt = Box::new(alloc, stmt)?;
-    Ok((Box::new(alloc, Stmt::Range(stmt))?, rest))
+    let stmt = boxed(alloc, stmt)?;
+    Ok((boxed(alloc, Stmt::Range(stmt))?, rest))
 }

@@ -18,6 +18,7 @@ ghost use Rattle.go_grammar.specs.Reading.{run};
 
 use crate::exprs::{LOOSE, expr};
 use go_ast::{Kind, Token};
+use go_fragments::boxes::boxed;
 use go_fragments::groups::{
     Entry, begins_with_embedded_field, embedded_field, grouped, param_name,
 };
@@ -76,7 +77,7 @@ fn paren_type(
     let (inner, rest) = type_expr(alloc, depth, rest)?;
     let (close, rest) = skip(rest, Kind::CloseParen)?;
     let form = TypeExpr::Paren { open, inner, close };
-    Ok((Box::new(alloc, form)?, rest))
+    Ok((boxed(alloc, form)?, rest))
 }
 
 /// A type without parentheses around it.
@@ -119,7 +120,7 @@ fn pointer_type(
 {
     let (star, rest) = skip(tokens, Kind::Star)?;
     let (base, rest) = type_expr(alloc, depth, rest)?;
-    Ok((Box::new(alloc, TypeExpr::Pointer { star, base })?, rest))
+    Ok((boxed(alloc, TypeExpr::Pointer { star, base })?, rest))
 }
 
 /// A function type. Go specification, "Function types".
@@ -134,9 +135,9 @@ fn function_type(
 {
     let (word, rest) = skip(tokens, Kind::FuncWord)?;
     let (signature, rest) = signature(alloc, depth, rest)?;
-    let signature = Box::new(alloc, signature)?;
+    let signature = boxed(alloc, signature)?;
     let form = TypeExpr::Function { word, signature };
-    Ok((Box::new(alloc, form)?, rest))
+    Ok((boxed(alloc, form)?, rest))
 }
 
 /// A slice, array, map, struct or interface type.
@@ -180,7 +181,7 @@ fn bracket_type(
             close,
             element,
         };
-        return Ok((Box::new(alloc, form)?, rest));
+        return Ok((boxed(alloc, form)?, rest));
     }
     let (length, rest) = expr(alloc, depth, Context::Plain, LOOSE, tokens)?;
     let (close, rest) = skip(rest, Kind::CloseBracket)?;
@@ -191,7 +192,7 @@ fn bracket_type(
         close,
         element,
     };
-    Ok((Box::new(alloc, form)?, rest))
+    Ok((boxed(alloc, form)?, rest))
 }
 
 /// A map type. Go specification, "Map types".
@@ -217,7 +218,7 @@ fn map_type(
         close,
         element,
     };
-    Ok((Box::new(alloc, form)?, rest))
+    Ok((boxed(alloc, form)?, rest))
 }
 
 /// A channel type. Go specification, "Channel types".
@@ -239,7 +240,7 @@ fn chan_type(
             arrow,
             element,
         };
-        return Ok((Box::new(alloc, form)?, rest));
+        return Ok((boxed(alloc, form)?, rest));
     }
     let (arrow, rest) = skip(tokens, Kind::Arrow)?;
     let (word, rest) = skip(rest, Kind::ChanWord)?;
@@ -249,7 +250,7 @@ fn chan_type(
         word,
         element,
     };
-    Ok((Box::new(alloc, form)?, rest))
+    Ok((boxed(alloc, form)?, rest))
 }
 
 /// Parameters and results. Go specification, "Function types".
@@ -330,7 +331,7 @@ fn struct_type(
         fields,
         close,
     };
-    Ok((Box::new(alloc, form)?, rest))
+    Ok((boxed(alloc, form)?, rest))
 }
 
 /// Fields up to a closing brace.
@@ -402,7 +403,7 @@ fn interface_type(
         elements,
         close,
     };
-    Ok((Box::new(alloc, form)?, rest))
+    Ok((boxed(alloc, form)?, rest))
 }
 
 /// Elements of an interface up to a closing brace.
@@ -444,7 +445,7 @@ fn element_line(
     if begins_with_both(tokens, Kind::Name, Kind::OpenParen) {
         let (name, rest) = skip(tokens, Kind::Name)?;
         let (signature, rest) = signature(alloc, depth, rest)?;
-        let signature = Box::new(alloc, signature)?;
+        let signature = boxed(alloc, signature)?;
         let (semicolon, rest) = line_end(rest, Kind::CloseBrace)?;
         let line = ElementLine::Method {
             name,

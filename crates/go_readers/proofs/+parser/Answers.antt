@@ -1,6 +1,6 @@
 use Rattle.go_ast.specs.declared.token.Kind.TheVariants.{CloseBrace, CloseParen, Comma, ElseWord, IfWord}
 use Rattle.go_grammar.proofs.Forests.{append-empty}
-use Rattle.go_grammar.proofs.Views.{view_element_made, view_expr_unary, view_listed_expr_made}
+use Rattle.go_grammar.proofs.Views.{view_block_made, view_case_clause_made, view_comm_clause_made, view_decl_const, view_decl_type_decl, view_decl_var, view_element_line_embedded, view_element_line_empty, view_element_line_method, view_element_made, view_expr_assertion, view_expr_binary, view_expr_call, view_expr_composite, view_expr_full_slice, view_expr_function, view_expr_index, view_expr_paren, view_expr_selector, view_expr_type_form, view_expr_unary, view_field_line_empty, view_field_line_named, view_listed_expr_made, view_result_form_params, view_stmt_block, view_stmt_defer, view_stmt_for, view_stmt_go, view_stmt_range, view_stmt_return, view_stmt_select, view_stmt_while, view_type_expr_array, view_type_expr_chan, view_type_expr_function, view_type_expr_interface, view_type_expr_map, view_type_expr_open_array, view_type_expr_paren, view_type_expr_pointer, view_type_expr_receive_chan, view_type_expr_slice, view_type_expr_struct}
 use Rattle.go_grammar.specs.ExprReading.{begins_suffix, binary_in, binary_turn, context_of, element_in, is_type_only, primary_in, separated_in, suffix_turn, unary_in, unary_of}
 use Rattle.go_grammar.specs.FileReading.{parsers}
 use Rattle.go_grammar.specs.Forests.{Forest, append, empty}
@@ -11,7 +11,7 @@ use Rattle.go_grammar.specs.Tests.{begins_both, goes_on, not_closed, word_in}
 use Rattle.go_grammar.specs.TypeReading.{entries_in}
 use Rattle.go_grammar.specs.View.{each, one, token_if, view_case_clause, view_comm_clause, view_element, view_element_line, view_expr, view_field_line, view_if_arm, view_label, view_listed_expr, view_stmt_line, view_type_spec, view_value_spec}
 use Rattle.go_readers.proofs.Declarations.{decl_const, decl_type, decl_var, group_alone, group_parens}
-use Rattle.go_readers.proofs.Groupings.{element_alone, element_with_key}
+use Rattle.go_readers.proofs.Groupings.{element_alone, element_with_key, regroup, view_high_slice, view_low_slice}
 use Rattle.go_readers.proofs.Guards.{guarded, no_clauses, no_guard, no_suffix}
 use Rattle.go_fragments.proofs.Loops.{each_push, list_done, list_on, list_over, many_done, many_fails, many_on, many_over, many_start, repeat_done, repeat_fails, repeat_on, repeat_over}
 use Rattle.go_readers.proofs.OperandChoices.{operand_function, operand_int, operand_name, operand_other, operand_paren, operand_rune, operand_text, sign_fails, sign_given, star_fails, star_given}
@@ -19,7 +19,7 @@ use Rattle.go_readers.proofs.ParamEntries.{entries_done, entries_fail, entries_o
 use Rattle.go_readers.proofs.SimpleStmts.{assigned, assigns_nothing, defined, defines_nothing, split_assign, split_define}
 use Rattle.go_readers.proofs.StatementChoices.{compound_block, compound_for, compound_if, compound_select, compound_simple, compound_switch, for_empty, for_ever, for_no_targets, for_no_word, for_range, for_targets, if_without, labels_alone, labels_before, labels_none, labels_wrong, line_empty, line_read, line_seen, memory_alone, rest_clauses, rest_no_condition, rest_no_stmt, rest_range, rest_while, seen_labeled, statement_unlabeled}
 use Rattle.go_fragments.proofs.Statements.{first_push, first_start}
-use Rattle.go_readers.proofs.Statements.{branch_first, compound_last, decl_first, defer_first, exprs_list, go_first, return_first}
+use Rattle.go_readers.proofs.Statements.{arm_made, branch_first, compound_last, decl_first, defer_first, exprs_list, for_made, go_first, items_listed, range_made, return_first}
 use Rattle.go_readers.proofs.Turns.{binary_done, binary_on, binary_start, binary_stops, primary_start, suffix_done, suffix_on, suffix_stops}
 use Rattle.go_readers.proofs.TypeChoices.{long_bare, long_chan, long_function, long_name, long_star, type_long, type_paren}
 use Rattle.go_fragments.specs.Entries.{entries, view_entry}
@@ -36,6 +36,7 @@ use Rattle.std.proofs.Common.{Option, ap, arith, length, refl, rules, sym, ◌-�
 use Rattle.std.specs.Option.{is_some}
 use Rattle.std.specs.Prelude.{None, Some, not}
 use Rattle.go_syntax.specs.declared.exprs.Expr.TheVariants as exprs
+use Rattle.go_fragments.proofs.Lines.{braces_end, maybe_arrow, parens_end}
 use Rattle.go_readers.proofs.+parser.Goals as goal
 
 pub decls::decl-returns-then-is_const : goal.decls::decl-returns-then-is_const
@@ -287,7 +288,7 @@ exprs::unary-returns-in-Some-sign t c =
     view_expr_unary c.in-Some-sign.operator c.in_ok-operand-2.operand in
     sign_given (parsers c.args.depth) (view_context c.args.context) c.args.tokens.now c.in-Some-sign.operator c.in-Some-sign.rest.now c.in_ok-operand-2.rest.now (view_context c.of_operand.result)
     (view_expr c.in_ok-operand-2.operand.value) _ c.in_default.ensures c.in-Some-sign.ensures c.of_operand.ensures c.in_ok-operand-2.ensures
-    (ap (λ (tree : Expr). view_expr tree) c.in_ok-new.ensures.ok ∙ seen)
+    (ap (λ (tree : Expr). view_expr tree) c.in_ok-boxed.ensures.ok ∙ seen)
 
 pub stmts::clauses-loop-init : goal.stmts::clauses-loop-init
 stmts::clauses-loop-init t c = many_start (not_closed CloseBrace) (clause_in (parsers c.args.depth)) (length c.args.tokens.now) 0 (each view_case_clause c.new-clauses.result.items) c.args.tokens.now refl (ap (each view_case_clause) c.new-clauses.ensures.items)
@@ -459,7 +460,7 @@ stmts::statement-returns-in_err-labels t c =
 
 pub stmts::statement-returns-then-ends_statement : goal.stmts::statement-returns-then-ends_statement
 stmts::statement-returns-then-ends_statement t c =
-    labels_alone (parsers c.args.depth) c.args.tokens.now (each view_label c.in_ok-labels.labels.items) c.in_ok-labels.rest.now (sym c.begins_with_both.ensures ∙ c.if-not-begins_with_both.false) c.in_ok-labels.ensures (ap not (sym c.ends_statement.ensures ∙ c.if-ends_statement.true)) ∙ ap (λ (tree : Forest). Some (tree, c.in_ok-labels.rest.now)) (seen_labeled c.in_ok-labels.labels None c.in_ok-new.field-0.value c.in_ok-new.ensures.ok)
+    labels_alone (parsers c.args.depth) c.args.tokens.now (each view_label c.in_ok-labels.labels.items) c.in_ok-labels.rest.now (sym c.begins_with_both.ensures ∙ c.if-not-begins_with_both.false) c.in_ok-labels.ensures (ap not (sym c.ends_statement.ensures ∙ c.if-ends_statement.true)) ∙ ap (λ (tree : Forest). Some (tree, c.in_ok-labels.rest.now)) (seen_labeled c.in_ok-labels.labels None c.in_ok-boxed.field-0.value c.in_ok-boxed.ensures.ok)
 
 pub stmts::statement-returns-in_err-stmt : goal.stmts::statement-returns-in_err-stmt
 stmts::statement-returns-in_err-stmt t c =
@@ -470,7 +471,7 @@ stmts::statement-returns-in_err-stmt t c =
 pub stmts::statement-returns : goal.stmts::statement-returns
 stmts::statement-returns t c =
     labels_before (parsers c.args.depth) c.args.tokens.now (each view_label c.in_ok-labels.labels.items) c.in_ok-labels.rest.now (sym c.begins_with_both.ensures ∙ c.if-not-begins_with_both.false) c.in_ok-labels.ensures (boxed_stmt c.in_ok-stmt.stmt) c.in_ok-stmt.rest.now (ap not (sym c.ends_statement.ensures ∙ c.if-ends_statement.false)) c.in_ok-stmt.ensures
-    ∙ ap (λ (tree : Forest). Some (tree, c.in_ok-stmt.rest.now)) (seen_labeled c.in_ok-labels.labels (Some c.in_ok-stmt.stmt) c.in_ok-new-2.field-0.value c.in_ok-new-2.ensures.ok)
+    ∙ ap (λ (tree : Forest). Some (tree, c.in_ok-stmt.rest.now)) (seen_labeled c.in_ok-labels.labels (Some c.in_ok-stmt.stmt) c.in_ok-boxed-2.field-0.value c.in_ok-boxed-2.ensures.ok)
 
 pub stmts::statement_line-returns-then-begins_with_semicolon : goal.stmts::statement_line-returns-then-begins_with_semicolon
 stmts::statement_line-returns-then-begins_with_semicolon t c =
@@ -644,3 +645,153 @@ types::type_form-returns-then-begins_with t c = rw (type_paren (parsers c.args.d
 
 pub types::type_form-returns : goal.types::type_form-returns
 types::type_form-returns t c = rw (type_long (parsers c.args.depth) c.args.tokens.now (sym c.begins_with.ensures ∙ c.if-begins_with.false)) c.long_type.ensures
+
+pub decls::const_decl-returns : goal.decls::const_decl-returns
+decls::const_decl-returns t c = grind (arith, view_decl_const)
+
+pub decls::type_decl-returns : goal.decls::type_decl-returns
+decls::type_decl-returns t c = grind (arith, view_decl_type_decl)
+
+pub decls::var_decl-returns : goal.decls::var_decl-returns
+decls::var_decl-returns t c = grind (arith, view_decl_var)
+
+pub decls::value_line-returns : goal.decls::value_line-returns
+decls::value_line-returns t c = grind (arith, parens_end)
+
+pub decls::type_line-returns : goal.decls::type_line-returns
+decls::type_line-returns t c = grind (arith, parens_end)
+
+pub exprs::operation-returns : goal.exprs::operation-returns
+exprs::operation-returns t c = grind (arith, view_expr_binary)
+
+pub exprs::paren-returns : goal.exprs::paren-returns
+exprs::paren-returns t c = grind (arith, view_expr_paren)
+
+pub exprs::open_array-returns : goal.exprs::open_array-returns
+exprs::open_array-returns t c = grind (arith, view_type_expr_open_array)
+
+pub exprs::function-returns-then-begins_with_braces : goal.exprs::function-returns-then-begins_with_braces
+exprs::function-returns-then-begins_with_braces t c = grind (arith, view_expr_function)
+
+pub exprs::function-returns : goal.exprs::function-returns
+exprs::function-returns t c = grind (arith, view_expr_type_form, view_type_expr_function)
+
+pub exprs::selector-returns-then-begins_with : goal.exprs::selector-returns-then-begins_with
+exprs::selector-returns-then-begins_with t c = grind (arith, view_expr_assertion)
+
+pub exprs::selector-returns : goal.exprs::selector-returns
+exprs::selector-returns t c = grind (arith, view_expr_selector)
+
+pub exprs::index-returns : goal.exprs::index-returns
+exprs::index-returns t c = grind (arith, view_expr_index)
+
+pub exprs::slice-returns-then-begins_with : goal.exprs::slice-returns-then-begins_with
+exprs::slice-returns-then-begins_with t c = grind (arith, view_low_slice)
+
+pub exprs::slice-returns-then-begins_with-2 : goal.exprs::slice-returns-then-begins_with-2
+exprs::slice-returns-then-begins_with-2 t c = grind (arith, view_high_slice)
+
+pub exprs::slice-returns : goal.exprs::slice-returns
+exprs::slice-returns t c = grind (arith, view_expr_full_slice)
+
+pub exprs::call-returns-then-begins_with : goal.exprs::call-returns-then-begins_with
+exprs::call-returns-then-begins_with t c = grind (arith, view_expr_call)
+
+pub exprs::call-returns : goal.exprs::call-returns
+exprs::call-returns t c = grind (arith, view_expr_call, regroup)
+
+pub exprs::literal-returns : goal.exprs::literal-returns
+exprs::literal-returns t c = grind (arith, view_expr_composite)
+
+pub stmts::block-returns : goal.stmts::block-returns
+stmts::block-returns t c = grind (arith, view_block_made)
+
+pub stmts::block_stmt-returns : goal.stmts::block_stmt-returns
+stmts::block_stmt-returns t c = grind (arith, view_stmt_block)
+
+pub stmts::go_stmt-returns : goal.stmts::go_stmt-returns
+stmts::go_stmt-returns t c = grind (arith, view_stmt_go)
+
+pub stmts::defer_stmt-returns : goal.stmts::defer_stmt-returns
+stmts::defer_stmt-returns t c = grind (arith, view_stmt_defer)
+
+pub stmts::return_stmt-returns-then-ends_statement : goal.stmts::return_stmt-returns-then-ends_statement
+stmts::return_stmt-returns-then-ends_statement t c = grind (arith, view_stmt_return)
+
+pub stmts::return_stmt-returns : goal.stmts::return_stmt-returns
+stmts::return_stmt-returns t c = grind (arith, view_stmt_return)
+
+pub stmts::if_arm-returns : goal.stmts::if_arm-returns
+stmts::if_arm-returns t c = grind (arith, arm_made)
+
+pub stmts::clause-returns-then-begins_with : goal.stmts::clause-returns-then-begins_with
+stmts::clause-returns-then-begins_with t c = grind (arith, view_case_clause_made)
+
+pub stmts::clause-returns : goal.stmts::clause-returns
+stmts::clause-returns t c = grind (arith, items_listed, view_case_clause_made)
+
+pub stmts::select_stmt-returns : goal.stmts::select_stmt-returns
+stmts::select_stmt-returns t c = grind (arith, view_stmt_select)
+
+pub stmts::comm_clause-returns-then-begins_with : goal.stmts::comm_clause-returns-then-begins_with
+stmts::comm_clause-returns-then-begins_with t c = grind (arith, view_comm_clause_made)
+
+pub stmts::comm_clause-returns : goal.stmts::comm_clause-returns
+stmts::comm_clause-returns t c = grind (arith, view_comm_clause_made)
+
+pub stmts::while_stmt-returns : goal.stmts::while_stmt-returns
+stmts::while_stmt-returns t c = grind (arith, view_stmt_while)
+
+pub stmts::for_clauses-returns : goal.stmts::for_clauses-returns
+stmts::for_clauses-returns t c = grind (arith, view_stmt_for, for_made)
+
+pub stmts::range_stmt-returns : goal.stmts::range_stmt-returns
+stmts::range_stmt-returns t c = grind (arith, view_stmt_range, range_made)
+
+pub types::paren_type-returns : goal.types::paren_type-returns
+types::paren_type-returns t c = grind (arith, view_type_expr_paren)
+
+pub types::pointer_type-returns : goal.types::pointer_type-returns
+types::pointer_type-returns t c = grind (arith, view_type_expr_pointer)
+
+pub types::function_type-returns : goal.types::function_type-returns
+types::function_type-returns t c = grind (arith, view_type_expr_function)
+
+pub types::bracket_type-returns-then-begins_with : goal.types::bracket_type-returns-then-begins_with
+types::bracket_type-returns-then-begins_with t c = grind (arith, view_type_expr_slice)
+
+pub types::bracket_type-returns : goal.types::bracket_type-returns
+types::bracket_type-returns t c = grind (arith, view_type_expr_array)
+
+pub types::map_type-returns : goal.types::map_type-returns
+types::map_type-returns t c = grind (arith, view_type_expr_map)
+
+pub types::chan_type-returns-then-begins_with : goal.types::chan_type-returns-then-begins_with
+types::chan_type-returns-then-begins_with t c = grind (arith, view_type_expr_chan, maybe_arrow)
+
+pub types::chan_type-returns : goal.types::chan_type-returns
+types::chan_type-returns t c = grind (arith, view_type_expr_receive_chan)
+
+pub types::signature-returns-then-begins_with : goal.types::signature-returns-then-begins_with
+types::signature-returns-then-begins_with t c = grind (arith, view_result_form_params)
+
+pub types::struct_type-returns : goal.types::struct_type-returns
+types::struct_type-returns t c = grind (arith, view_type_expr_struct)
+
+pub types::interface_type-returns : goal.types::interface_type-returns
+types::interface_type-returns t c = grind (arith, view_type_expr_interface)
+
+pub types::field_line-returns-then-begins_with_semicolon : goal.types::field_line-returns-then-begins_with_semicolon
+types::field_line-returns-then-begins_with_semicolon t c = grind (arith, view_field_line_empty)
+
+pub types::field_line-returns : goal.types::field_line-returns
+types::field_line-returns t c = grind (arith, view_field_line_named, braces_end)
+
+pub types::element_line-returns-then-begins_with_semicolon : goal.types::element_line-returns-then-begins_with_semicolon
+types::element_line-returns-then-begins_with_semicolon t c = grind (arith, view_element_line_empty)
+
+pub types::element_line-returns-then-begins_with_both : goal.types::element_line-returns-then-begins_with_both
+types::element_line-returns-then-begins_with_both t c = grind (arith, view_element_line_method, braces_end)
+
+pub types::element_line-returns : goal.types::element_line-returns
+types::element_line-returns t c = grind (arith, view_element_line_embedded, braces_end)
