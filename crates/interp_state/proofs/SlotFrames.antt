@@ -3,18 +3,18 @@ use mathlib.Core.Bool.{true≢false}
 use mathlib.Core.Logic.{inl, inr}
 use Rattle.std.proofs.lemmas.Bool.{cases_lt}
 use Rattle.std.proofs.Common.{Bool, true, false, ◌≡◌, ℕ, zero, suc, ◌+◌, ◌-◌, ◌^◌, ◌<◌, ◌≤◌, List, [], ◌∷◌, ◌++◌, Option, Some, None, refl, sym, ap}
-use Rattle.std.proofs.Common.{◌∙◌, subst, length, take, drop, map, reverse, replicate, min, Bor, arith, zero-add, append_assoc}
+use Rattle.std.proofs.Common.{◌∙◌, subst, length, take, drop, reverse, replicate, min, Bor, arith, zero-add, append_assoc}
 use Rattle.std.specs.Prelude.{slice_get, slice_set, slice_index_or, option_map, unwrap_or, option_to_list, MatchOption}
 use Rattle.std.specs.Prelude.{option_copied, Result, Ok, Err, is_ok, is_err, OnOk, if◌then◌else◌}
 use Rattle.std.specs.Slice.{IsItemAt}
 use Rattle.std.specs.Option.{option_flatten}
-use Rattle.std.proofs.lemmas.List.{take-map, drop-map, length-map, map-append, reverse-append, length-reverse, take-set-le}
+use Rattle.std.proofs.lemmas.List.{take-map, length-map, map-append, reverse-append, length-reverse, take-set-le}
 use Rattle.std.proofs.lemmas.List.{drop-set-add, map-set, set_past}
 use Rattle.std.proofs.lemmas.Option.{slice_get_past, slice_get-map}
 use Rattle.std.proofs.Math.Nat.{suc-add}
 use Rattle.std.proofs.Math.Seq.{take-append_seam, drop-append_seam}
 use Rattle.interp_state.specs.Frames.{frames_from, seen}
-use Rattle.plan_mean.specs.Slots.{top_of, below_top, with_frame, slot_in, with_slot}
+use Rattle.plan_mean.specs.Slots.{below_top, with_frame, slot_in, with_slot}
 use Rattle.go_value.specs.Values.{Val, value_of}
 use Rattle.go_value.specs.declared.values.Value.{Value}
 

@@ -1,5 +1,7 @@
 //! Frames and goroutines.
 
+ghost use Rattle.std.specs.Prelude.{◌≡◌, ◌∷◌, ◌++◌, [], drop, IsSome, OnOk};
+
 use crate::stack::RegStack;
 use code_plan::{BuiltinForm, PlannedFunction, Role, Step};
 use go_base::{NoMemory, Text};
@@ -113,6 +115,10 @@ pub struct Goroutine<'a> {
 }
 
 impl<'a> Goroutine<'a> {
+    ghost use Rattle.interp_state.specs.Frames.{frames_of};
+    ghost use Rattle.interp_state.specs.States.{frames_in};
+    ghost use Rattle.plan_mean.specs.Slots.{below_top};
+
     /// A goroutine that is to make a call.
     pub fn new(alloc: Global, begin: Option<Later<'a>>) -> Goroutine<'a> {
         Goroutine {
@@ -126,7 +132,11 @@ impl<'a> Goroutine<'a> {
     }
 
     /// Puts a frame on top.
-    pub fn push(&mut self, frame: Frame<'a>) -> Result<(), NoMemory> {
+    #[tactic(auto, using(crate::proofs::Calls::one_more))]
+    pub fn push(&mut self, frame: Frame<'a>) -> Result<(), NoMemory>
+        ensures frames { OnOk result (frames_in self.new ≡ frame.entry ∷ frames_in self.old) }
+        ensures slots { self.new.stack ≡ self.old.stack }
+    {
         if frame.function.role == Role::Source {
             self.sources = self.sources.saturating_add(1);
         }
@@ -136,13 +146,19 @@ impl<'a> Goroutine<'a> {
         }
     }
 
-    fn put_below(&mut self, frame: Frame<'a>) -> Result<(), NoMemory> {
+    fn put_below(&mut self, frame: Frame<'a>) -> Result<(), NoMemory>
+        ensures ok { OnOk result (self.new.below.items ≡ self.old.below.items ++ frame.entry ∷ []) }
+        ensures others { self.new ≡ record self.old { below = self.new.below } }
+    {
         self.below.push(frame)?;
         Ok(())
     }
 
     /// The top frame goes. None where there is none.
-    pub fn pop(&mut self) -> Option<Left> {
+    pub fn pop(&mut self) -> Option<Left>
+        ensures frames { IsSome self.old.top → frames_in self.new ≡ drop 1 (frames_in self.old) }
+        ensures slots { frames_of self.new.stack ≡ below_top (frames_of self.old.stack) }
+    {
         let below = self.below.pop();
         let top = std::mem::replace(&mut self.top, below);
         self.stack.leave();

@@ -1,5 +1,9 @@
 //! The state of a run, and how operands are read and registers written.
 
+ghost use Rattle.std.specs.Prelude.{◌≡◌, ◌<◌, Some, IfOk, IsOk};
+ghost use Rattle.go_value.specs.Values.{value_of};
+ghost use Rattle.go_value.specs.Values as vals;
+
 use crate::error::lost;
 use crate::frames::Goroutine;
 use code_plan::{Arg, MethodName, MethodOf, Plan, PlannedFunction};
@@ -110,6 +114,8 @@ impl From<Fault> for Met {
 }
 
 impl<'a> Machine<'a> {
+    ghost use Rattle.interp_state.specs.States.{HasFrame, looked, Spent, Wrote};
+
     /// A function of the plan.
     pub fn function(&self, number: u32) -> Result<&'a PlannedFunction, NoMemory> {
         let plan: &'a Plan = self.plan;
@@ -120,7 +126,9 @@ impl<'a> Machine<'a> {
     }
 
     /// The value of an operand.
-    pub fn look<'b>(&'b self, arg: &'b Arg) -> Result<&'b Value, NoMemory> {
+    pub fn look<'b>(&'b self, arg: &'b Arg) -> Result<&'b Value, NoMemory>
+        ensures { HasFrame self.now → IfOk result (λ it. looked self.now arg.now ≡ Some (value_of it.now)) }
+    {
         match arg {
             Arg::Slot(slot) => match self.current.stack.get(*slot) {
                 Some(value) => Ok(value),
@@ -132,7 +140,9 @@ impl<'a> Machine<'a> {
     }
 
     /// What the cell holds to which the pointer in a slot points.
-    fn look_in_cell(&self, slot: u32) -> Result<&Value, NoMemory> {
+    fn look_in_cell(&self, slot: u32) -> Result<&Value, NoMemory>
+        ensures { HasFrame self.now → IfOk result (λ it. looked self.now (Arg.Cell slot) ≡ Some (value_of it.now)) }
+    {
         match self.current.stack.get(slot) {
             Some(Value::Pointer(address)) => match self.store.value_at(address) {
                 Some(value) => Ok(value),
@@ -143,12 +153,17 @@ impl<'a> Machine<'a> {
     }
 
     /// A copy of the value of an operand.
-    pub fn read(&self, arg: &Arg) -> Result<Value, NoMemory> {
+    pub fn read(&self, arg: &Arg) -> Result<Value, NoMemory>
+        ensures { HasFrame self.now → IfOk result (λ it. looked self.now arg.now ≡ Some (value_of it)) }
+    {
         self.look(arg)?.copy(self.alloc)
     }
 
     /// The integer that an operand is.
-    pub fn int(&self, arg: &Arg) -> Result<i128, NoMemory> {
+    #[tactic(auto, using(go_value::proofs::Variants::int_is))]
+    pub fn int(&self, arg: &Arg) -> Result<i128, NoMemory>
+        ensures { HasFrame self.now → IfOk result (λ it. looked self.now arg.now ≡ Some (vals.number it)) }
+    {
         match self.look(arg)? {
             Value::Int(number) => Ok(*number),
             _ => Err(lost()),
@@ -156,7 +171,10 @@ impl<'a> Machine<'a> {
     }
 
     /// The truth value that an operand is.
-    pub fn truth(&self, arg: &Arg) -> Result<bool, NoMemory> {
+    #[tactic(auto, using(go_value::proofs::Variants::truth_is))]
+    pub fn truth(&self, arg: &Arg) -> Result<bool, NoMemory>
+        ensures { HasFrame self.now → IfOk result (λ it. looked self.now arg.now ≡ Some (vals.truth it)) }
+    {
         match self.look(arg)? {
             Value::Truth(truth) => Ok(*truth),
             _ => Err(lost()),
@@ -164,7 +182,10 @@ impl<'a> Machine<'a> {
     }
 
     /// The address that an operand is.
-    pub fn address<'b>(&'b self, arg: &'b Arg) -> Result<&'b Address, NoMemory> {
+    #[tactic(auto, using(go_value::proofs::Variants::pointer_is))]
+    pub fn address<'b>(&'b self, arg: &'b Arg) -> Result<&'b Address, NoMemory>
+        ensures { HasFrame self.now → IfOk result (λ it. looked self.now arg.now ≡ Some (vals.pointer it.now)) }
+    {
         match self.look(arg)? {
             Value::Pointer(address) => Ok(address),
             _ => Err(lost()),
@@ -172,7 +193,10 @@ impl<'a> Machine<'a> {
     }
 
     /// The text that an operand is.
-    pub fn text<'b>(&'b self, arg: &'b Arg) -> Result<&'b Rc<Bytes>, NoMemory> {
+    #[tactic(auto, using(go_value::proofs::Variants::text_is))]
+    pub fn text<'b>(&'b self, arg: &'b Arg) -> Result<&'b Rc<Bytes>, NoMemory>
+        ensures { HasFrame self.now → IfOk result (λ it. looked self.now arg.now ≡ Some (vals.text it.now.value)) }
+    {
         match self.look(arg)? {
             Value::Text(bytes) => Ok(bytes),
             _ => Err(lost()),
@@ -180,7 +204,10 @@ impl<'a> Machine<'a> {
     }
 
     /// The slice that an operand is.
-    pub fn slice<'b>(&'b self, arg: &'b Arg) -> Result<&'b SliceValue, NoMemory> {
+    #[tactic(auto, using(go_value::proofs::Variants::slice_is))]
+    pub fn slice<'b>(&'b self, arg: &'b Arg) -> Result<&'b SliceValue, NoMemory>
+        ensures { HasFrame self.now → IfOk result (λ it. looked self.now arg.now ≡ Some (vals.slice it.now)) }
+    {
         match self.look(arg)? {
             Value::Slice(slice) => Ok(slice),
             _ => Err(lost()),
@@ -188,25 +215,37 @@ impl<'a> Machine<'a> {
     }
 
     /// Gives a register a value.
-    pub fn set(&mut self, to: u32, value: Value) {
+    pub fn set(&mut self, to: u32, value: Value)
+        ensures { Wrote to (value_of value) self.old self.new }
+    {
         self.current.stack.set(to, value);
     }
 
     /// Gives a register an integer.
-    pub fn set_int(&mut self, to: u32, number: i128) -> Turn {
+    pub fn set_int(&mut self, to: u32, number: i128) -> Turn
+        ensures goes { result ≡ Turn.Goes }
+        ensures wrote { Wrote to (vals.number number) self.old self.new }
+    {
         self.current.stack.set_int(to, number);
         Turn::Goes
     }
 
     /// Gives a register a truth value.
-    pub fn set_truth(&mut self, to: u32, truth: bool) -> Turn {
+    #[tactic(auto, using(go_value::proofs::Variants::truth_is))]
+    pub fn set_truth(&mut self, to: u32, truth: bool) -> Turn
+        ensures goes { result ≡ Turn.Goes }
+        ensures wrote { Wrote to (vals.truth truth) self.old self.new }
+    {
         self.current.stack.set(to, Value::Truth(truth));
         Turn::Goes
     }
 
     /// Gives a register what an operation gave, or meets its fault.
     #[inline(never)]
-    pub fn give(&mut self, to: u32, outcome: Result<Value, Met>) -> Turn {
+    pub fn give(&mut self, to: u32, outcome: Result<Value, Met>) -> Turn
+        ensures goes { IsOk outcome → result ≡ Turn.Goes }
+        ensures wrote { IfOk outcome (λ it. Wrote to (value_of it) self.old self.new) }
+    {
         match outcome {
             Ok(value) => {
                 self.current.stack.set(to, value);
@@ -217,7 +256,10 @@ impl<'a> Machine<'a> {
     }
 
     /// Goes on after an operation without a register, or meets its fault.
-    pub fn done(&mut self, outcome: Result<(), Met>) -> Turn {
+    pub fn done(&mut self, outcome: Result<(), Met>) -> Turn
+        ensures goes { IsOk outcome → result ≡ Turn.Goes }
+        ensures same { IsOk outcome → self.new ≡ self.old }
+    {
         match outcome {
             Ok(()) => Turn::Goes,
             Err(met) => self.meet(met),
@@ -225,13 +267,19 @@ impl<'a> Machine<'a> {
     }
 
     /// The run ends.
-    pub fn end(&mut self, ending: Ending) -> Turn {
+    pub fn end(&mut self, ending: Ending) -> Turn
+        ensures ends { result ≡ Turn.Ends }
+        ensures ending { self.new ≡ record self.old { ending = Some ending } }
+    {
         self.ending = Some(ending);
         Turn::Ends
     }
 
     /// Spends a tick. The run ends where none is left.
-    pub fn spend(&mut self) -> Turn {
+    pub fn spend(&mut self) -> Turn
+        ensures none { self.old.ticks ≡ 0 → (result ≡ Turn.Ends) × (self.new ≡ record self.old { ending = Some Ending.Bound }) }
+        ensures spent { 0 < self.old.ticks → (result ≡ Turn.Goes) × Spent self.old self.new }
+    {
         if self.ticks == 0 {
             return self.end(Ending::Bound);
         }
@@ -259,7 +307,10 @@ impl<'a> Machine<'a> {
     }
 
     /// The channel that an operand is.
-    pub fn chan(&self, arg: &Arg) -> Result<Option<ChanId>, NoMemory> {
+    #[tactic(auto, using(go_value::proofs::Variants::chan_is))]
+    pub fn chan(&self, arg: &Arg) -> Result<Option<ChanId>, NoMemory>
+        ensures { HasFrame self.now → IfOk result (λ it. looked self.now arg.now ≡ Some (vals.chan_number it)) }
+    {
         match self.look(arg)? {
             Value::Chan(chan) => Ok(*chan),
             _ => Err(lost()),

@@ -15,10 +15,14 @@ abbrev pub in_cell : Stored → Val → Option Val
 in_cell store (pointer at) = loaded store at
 in_cell store _ = None
 
+-- the value of an operand over what the cells hold and the slots of the frames
+abbrev pub look_in : Stored → List (List (Option Val)) → Arg → Option Val
+look_in store slots (arg.Slot slot) = slot_in slots slot
+look_in store slots (arg.Cell slot) = option_and_then (in_cell store) (slot_in slots slot)
+look_in store slots (arg.Held it) = Some (value_of it.value)
+
 abbrev pub look : Machine → Arg → Option Val
-look m (arg.Slot slot) = slot_in m.current.slots slot
-look m (arg.Cell slot) = option_and_then (in_cell m.store) (slot_in m.current.slots slot)
-look m (arg.Held it) = Some (value_of it.value)
+look m it = look_in m.store m.current.slots it
 
 -- the values of operands, where all have one
 abbrev pub look_at_all : Machine → List Arg → Option (List Val)

@@ -1,4 +1,4 @@
-use Rattle.std.proofs.Common.{◌≡◌, ◌∙◌}
+use Rattle.std.proofs.Common.{◌∙◌}
 use Rattle.interp_state.proofs.SlotFrames.{enters, went_well, was_pushed}
 use Rattle.interp_state.proofs.stack.RegStack.enter.Goals as goal
 

@@ -1,4 +1,4 @@
-use Rattle.std.proofs.Common.{◌≡◌, ◌<◌, ◌^◌, length, subst, arith, Option, Bor}
+use Rattle.std.proofs.Common.{◌<◌, ◌^◌, length, subst, arith}
 use Rattle.std.specs.Slice.{IsItemAt}
 use Rattle.interp_state.proofs.SlotFrames.{get_some, get_none}
 use Rattle.interp_state.proofs.stack.RegStack.get.Goals as goal

@@ -1,4 +1,3 @@
-use Rattle.std.proofs.Common.{◌≡◌, ◌∙◌, sym}
 use Rattle.interp_state.proofs.SlotFrames.{left, none_left}
 use Rattle.interp_state.proofs.stack.RegStack.leave.Goals as goal
 

@@ -1,4 +1,4 @@
-use Rattle.std.proofs.Common.{◌≡◌, ◌≤◌, ◌<◌, ◌+◌, length, refl, arith, Some}
+use Rattle.std.proofs.Common.{◌≤◌, ◌+◌, length, refl, arith, Some}
 use Rattle.go_value.specs.Values.{value_of}
 use Rattle.interp_state.proofs.SlotFrames.{set_seen, unset_past, place_is, past_is, not_within}
 use Rattle.interp_state.proofs.stack.RegStack.set.Goals as goal

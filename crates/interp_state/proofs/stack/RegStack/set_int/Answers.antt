@@ -1,4 +1,4 @@
-use Rattle.std.proofs.Common.{◌≡◌, ◌≤◌, ◌<◌, ◌+◌, length, refl, arith, Some, ◌∙◌, ap}
+use Rattle.std.proofs.Common.{◌≤◌, ◌+◌, length, refl, arith, Some, ◌∙◌, ap}
 use Rattle.std.specs.Int.{w128}
 use Rattle.std.proofs.lemmas.Int.{to_z-of_z}
 use Rattle.go_value.specs.Values as vals
