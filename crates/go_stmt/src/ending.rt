@@ -9,7 +9,7 @@ use go_syntax::ImportSpec;
 use go_tree::{FunctionDecl, FunctionForm};
 use indexmap::IndexSet;
 use init_order::{Node, Reliance};
-use stmt_rules::{Holder, Reading, Walker, mentions_from};
+use stmt_rules::{Holder, Reading, Walker, kept, mentions_from};
 
 /// An import, by its index in its file.
 #[derive(Clone, Copy, PartialEq, Eq, Hash)]
@@ -20,11 +20,21 @@ struct ImportKey {
 
 /// Reports the names that are not used.
 pub fn report_unused(walker: &mut Walker<'_>) -> Result<(), NoMemory> {
+    let mut imports = IndexSet::new(walker.alloc);
+    let done = report_but_read(walker, &mut imports);
+    drop(imports);
+    done
+}
+
+/// Reports the names that are not used; the imports that are read come to stand among these.
+fn report_but_read(
+    walker: &mut Walker<'_>,
+    imports: &mut IndexSet<ImportKey>,
+) -> Result<(), NoMemory> {
     let mut used = Vec::new(walker.alloc);
     for _ in walker.scope.variables() {
         used.push(false)?;
     }
-    let mut imports = IndexSet::new(walker.alloc);
     for mention in walker.scope.mentions().as_slice() {
         match mention.what {
             Mentioned::Variable(variable) => {
@@ -38,7 +48,7 @@ pub fn report_unused(walker: &mut Walker<'_>) -> Result<(), NoMemory> {
     }
     walker.needs.mark(&used);
     report_variables(walker);
-    report_imports(walker, &imports)
+    report_imports(walker, imports)
 }
 
 fn report_variables(walker: &mut Walker<'_>) {
@@ -98,15 +108,24 @@ pub fn reliance<'s>(walker: &Walker<'s>, initials: &Initials<'s>) -> Result<Reli
         initials.list.len(),
         walker.scope.functions().len(),
     )?;
+    let done = add_all(walker, initials, &mut reliance);
+    kept(reliance, done)
+}
+
+fn add_all<'s>(
+    walker: &Walker<'s>,
+    initials: &Initials<'s>,
+    reliance: &mut Reliance,
+) -> Result<(), NoMemory> {
     for (index, initial) in initials.list.iter().enumerate() {
         for variable in &initial.variables {
             reliance.add(Node::Variable(variable.number as usize), Node::Step(index))?;
         }
     }
     for reading in &walker.readings {
-        add_reading(walker, &mut reliance, *reading)?;
+        add_reading(walker, reliance, *reading)?;
     }
-    Ok(reliance)
+    Ok(())
 }
 
 fn add_reading(

@@ -10,8 +10,8 @@ use go_syntax::{Decl, DeclLine, ListedExpr, ListedName, ValueSpec};
 use go_tree::Values;
 use std::alloc::Global;
 use std::collections::BTreeMap;
-use stmt_rules::{Holder, Walker, mentions_from};
-use typed_parts::Seen;
+use stmt_rules::{Holder, Walker, kept, mentions_from, push_come};
+use typed_parts::{Seen, beside};
 use typed_primaries::{Into, Listed, values_into};
 
 /// The values of an initialisation.
@@ -50,19 +50,28 @@ pub struct Initials<'s> {
 /// The initialisations of all packages.
 pub fn find_initials<'s>(walker: &Walker<'s>) -> Result<Initials<'s>, NoMemory> {
     let mut places = BTreeMap::new(walker.alloc);
+    let mut initials = Initials {
+        list: Vec::new(walker.alloc),
+        of_variable: Vec::new(walker.alloc),
+    };
+    let done = add_initials(walker, &mut places, &mut initials);
+    drop(places);
+    kept(initials, done)
+}
+
+/// Adds the initialisations of all packages; the variables come to stand among the places.
+fn add_initials<'s>(
+    walker: &Walker<'s>,
+    places: &mut BTreeMap<Pos, usize>,
+    initials: &mut Initials<'s>,
+) -> Result<(), NoMemory> {
     for (index, variable) in walker.scope.variables().iter().enumerate() {
         places.insert(variable.at, index)?;
     }
-    let mut list = Vec::new(walker.alloc);
     for file in files_in_order(walker)? {
-        push_file(walker, &mut list, &places, file)?;
+        push_file(walker, &mut initials.list, places, file)?;
     }
-    let mut initials = Initials {
-        list,
-        of_variable: Vec::new(walker.alloc),
-    };
-    initials.find_variables(walker.package_variables)?;
-    Ok(initials)
+    initials.find_variables(walker.package_variables)
 }
 
 /// The files, in the order of packages and names.
@@ -215,8 +224,8 @@ fn see_initial<'s>(
 ) -> Result<(), NoMemory> {
     let from = walker.scope.mention_count();
     let listed = listed_values(walker, initial)?;
-    initial.values = listed.values;
-    initial.types = listed.types;
+    drop(std::mem::replace(&mut initial.values, listed.values));
+    drop(std::mem::replace(&mut initial.types, listed.types));
     initial.is_seen = true;
     walker.read_by(Holder::Step(index), from)
 }
@@ -225,6 +234,12 @@ fn see_initial<'s>(
 fn listed_values<'s>(walker: &mut Walker<'s>, initial: &Initial<'s>) -> Result<Listed, NoMemory> {
     walker.enter_file(initial.file);
     let values = see_given(walker, initial.given)?;
+    let (intos, values) = beside(intos_of(walker, initial), values)?;
+    values_into(walker.scope.ground(), initial.at, values, &intos, true)
+}
+
+/// Where the values of an initialiser go.
+fn intos_of<'s>(walker: &Walker<'s>, initial: &Initial<'s>) -> Result<Vec<Into>, NoMemory> {
     let mut intos = Vec::new(walker.alloc);
     for variable in &initial.variables {
         intos.push(match walker.scope.variable(*variable) {
@@ -232,15 +247,15 @@ fn listed_values<'s>(walker: &mut Walker<'s>, initial: &Initial<'s>) -> Result<L
             _ => Into::Any,
         })?;
     }
-    values_into(walker.scope.ground(), initial.at, values, &intos, true)
+    Ok(intos)
 }
 
 fn see_given<'s>(walker: &mut Walker<'s>, given: Given<'s>) -> Result<Vec<Seen>, NoMemory> {
     match given {
         Given::One(value) => {
             let mut list = Vec::new(walker.alloc);
-            list.push(walker.see(&value.expr)?)?;
-            Ok(list)
+            let done = push_come(&mut list, walker.see(&value.expr));
+            kept(list, done)
         }
         Given::All(values) => walker.see_list(values),
     }
@@ -254,6 +269,16 @@ fn graph_of_initials<'s>(
     initials: &Initials<'s>,
 ) -> Result<Vec<Vec<usize>>, NoMemory> {
     let mut graph = Vec::new(walker.alloc);
+    let done = push_rows(walker, initials, &mut graph);
+    kept(graph, done)
+}
+
+/// The rows of the variables, and behind them those of the initialisations.
+fn push_rows<'s>(
+    walker: &mut Walker<'s>,
+    initials: &Initials<'s>,
+    graph: &mut Vec<Vec<usize>>,
+) -> Result<(), NoMemory> {
     for variable in 0..walker.package_variables {
         let mut row = Vec::new(walker.alloc);
         if let Some(index) = initials.of(variable) {
@@ -267,11 +292,11 @@ fn graph_of_initials<'s>(
         } else {
             let from = walker.scope.mention_count();
             walker.enter_file(initial.file);
-            let _ = see_given(walker, initial.given)?;
+            drop(see_given(walker, initial.given)?);
             graph.push(named_from(walker, initials, from)?)?;
         }
     }
-    Ok(graph)
+    Ok(())
 }
 
 /// The variables without a written type that were read from a mention on.
@@ -298,18 +323,30 @@ fn in_groups<'s>(
     graph: &[Vec<usize>],
 ) -> Result<(), NoMemory> {
     let (components, cyclic) = groups_of(walker.alloc, graph)?;
+    let done = see_groups(walker, initials, graph, &components, &cyclic);
+    drop((components, cyclic));
+    done
+}
+
+fn see_groups<'s>(
+    walker: &mut Walker<'s>,
+    initials: &mut Initials<'s>,
+    graph: &[Vec<usize>],
+    components: &Components,
+    cyclic: &[bool],
+) -> Result<(), NoMemory> {
     let mut group = Vec::new(walker.alloc);
     let mut last = None;
     for node in &components.order {
         let number = components.of.get(*node).copied();
         if number != last {
-            see_group(walker, initials, graph, &components.of, &cyclic, &group)?;
+            see_group(walker, initials, graph, &components.of, cyclic, &group)?;
             group = Vec::new(walker.alloc);
             last = number;
         }
         group.push(*node)?;
     }
-    see_group(walker, initials, graph, &components.of, &cyclic, &group)
+    see_group(walker, initials, graph, &components.of, cyclic, &group)
 }
 
 /// Types variables whose initialisers name each other.
