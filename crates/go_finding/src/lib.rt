@@ -1,5 +1,5 @@
 //! Finding what a program is made of: go.mod, the Go files of directories, and the packages that imports name. Nothing
-//! here reads a tree of a file, so that it is proved beside the parser.
+//! here parses, so that it is proved beside the parser.
 #![tactic(auto)]
 
 mod error;
