@@ -1,1 +1,4 @@
 pub mod Output
+pub mod Phis
+pub mod Ran
+pub mod Steps

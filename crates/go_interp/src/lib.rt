@@ -9,4 +9,4 @@ mod running;
 mod stepping;
 
 pub use error::RunError;
-pub use running::run;
+pub use running::{run, run_plan};

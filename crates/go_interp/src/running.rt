@@ -1,8 +1,15 @@
 //! The run of a code.
 
-ghost use Rattle.std.specs.Prelude.{◌≡◌, ◌≤◌, IsErrOf};
+ghost use Rattle.std.specs.Prelude.{◌≡◌, ◌≤◌, ◌++◌, ◌∷◌, [], None, Some, IfOk, IsErrOf, OnOk, map};
+ghost use Rattle.std.specs.Io.KnownBytes.{Appends};
 ghost use Rattle.go_base.specs.Devices.{HasFaulted};
-ghost use Rattle.go_interp.specs.Output.{HasWritten};
+ghost use Rattle.go_interp.specs.Output.{HasMoved, HasWritten};
+ghost use Rattle.go_interp.specs.Ran.{HasRun, IsBare, IsFirst, LeadsTo, with_cells};
+ghost use Rattle.go_sched.specs.Goroutines.{state_of};
+ghost use Rattle.go_store.specs.Stores.{made, stored};
+ghost use Rattle.go_value.specs.Values.{value_of};
+ghost use Rattle.interp_state.specs.Machines.{goroutine_of};
+ghost use Rattle.plan_mean.specs.Calls.{new_goroutine};
 
 use crate::error::RunError;
 use crate::stepping::make_steps;
@@ -10,6 +17,7 @@ use code_plan::{Plan, plan};
 use go_base::{Ending, NoMemory, Sink, SinkError};
 use go_sched::Sched;
 use go_store::Store;
+use go_value::Value;
 use indexmap::IndexMap;
 use interp_state::{Goroutine, Machine, Turn, lost};
 use ssa_ir::Code;
@@ -41,8 +49,9 @@ pub fn run<O: Sink>(
     }
 }
 
-/// Runs a code that was planned.
-fn run_plan<O: Sink>(
+/// Runs a plan: its output goes to `out`, and what it writes and how it ends are those of its one run with these choices
+/// and this bound. The types and the names of its values are those of the code. `WriteFault` only where a write failed.
+pub fn run_plan<O: Sink>(
     alloc: Global,
     code: &Code,
     plan: &Plan,
@@ -50,6 +59,7 @@ fn run_plan<O: Sink>(
     bound: u64,
     out: &mut O,
 ) -> Result<Ending, RunError>
+    ensures exact { IfOk result (λ ending. HasRun code.now plan.now choices.now bound ending (O.written out.old) (O.written out.new)) }
     ensures written { HasWritten (O.written out.old) (O.written out.new) }
     ensures fault { IsErrOf result RunError.WriteFault → HasFaulted (O.faults out.old) (O.faults out.new) }
     ensures later { O.faults out.old ≤ O.faults out.new }
@@ -67,6 +77,7 @@ fn run_plan<O: Sink>(
 
 /// Lets a machine go on to its end.
 fn drive<O: Sink>(machine: &mut Machine<'_>, out: &mut O) -> Result<Ending, RunError>
+    ensures exact { IfOk result (λ ending. LeadsTo machine.old ending (O.written out.old) (O.written out.new)) }
     ensures written { HasWritten (O.written out.old) (O.written out.new) }
     ensures fault { IsErrOf result RunError.WriteFault → HasFaulted (O.faults out.old) (O.faults out.new) }
     ensures later { O.faults out.old ≤ O.faults out.new }
@@ -91,9 +102,25 @@ fn start<'a>(
     plan: &'a Plan,
     choices: &[u32],
     bound: u64,
-) -> Result<Machine<'a>, NoMemory> {
+) -> Result<Machine<'a>, NoMemory>
+    ensures { IfOk result (λ it. IsFirst code.now plan.now choices.now bound it) }
+{
     let sched = Sched::new(alloc, choices)?;
-    let mut machine = Machine {
+    let mut machine = bare(alloc, code, plan, sched, bound);
+    match make_ready(&mut machine) {
+        Ok(()) => Ok(machine),
+        Err(NoMemory) => {
+            drop(machine);
+            Err(NoMemory)
+        }
+    }
+}
+
+/// The machine without cells and goroutines.
+fn bare<'a>(alloc: Global, code: &'a Code, plan: &'a Plan, sched: Sched, bound: u64) -> Machine<'a>
+    ensures { IsBare code.now plan.now (state_of sched) bound result }
+{
+    Machine {
         alloc,
         code,
         plan,
@@ -107,30 +134,46 @@ fn start<'a>(
         ending: None,
         waiting: Vec::new(alloc),
         implemented: IndexMap::new(alloc),
-    };
-    match make_ready(&mut machine) {
-        Ok(()) => Ok(machine),
-        Err(NoMemory) => {
-            drop(machine);
-            Err(NoMemory)
-        }
     }
 }
 
 /// Gives the machine the cells of the package variables, and a place for goroutine 0.
-fn make_ready(machine: &mut Machine<'_>) -> Result<(), NoMemory> {
+fn make_ready(machine: &mut Machine<'_>) -> Result<(), NoMemory>
+    ensures cells { OnOk result (stored machine.new.store ≡ with_cells (map value_of machine.old.plan.now.variables.items) (stored machine.old.store)) }
+    ensures goroutine { OnOk result (map goroutine_of machine.new.goroutines.items ≡ map goroutine_of machine.old.goroutines.items ++ new_goroutine None ∷ []) }
+    ensures others { machine.new ≡ record machine.old { store = machine.new.store; goroutines = machine.new.goroutines } }
+{
     let plan = machine.plan;
-    for value in plan.variables.as_slice() {
-        let value = value.copy(machine.alloc)?;
-        machine.store.make_cell(value)?;
-    }
+    make_cells(machine, plan.variables.as_slice())?;
     let first = Goroutine::new(machine.alloc, None);
     machine.goroutines.push(first)?;
     Ok(())
 }
 
+/// Gives the machine the cells of variables.
+fn make_cells(machine: &mut Machine<'_>, variables: &[Value]) -> Result<(), NoMemory>
+    ensures cells { OnOk result (stored machine.new.store ≡ with_cells (map value_of variables.now) (stored machine.old.store)) }
+    ensures others { machine.new ≡ record machine.old { store = machine.new.store } }
+{
+    for value in variables {
+        make_variable(machine, value)?;
+    }
+    Ok(())
+}
+
+/// Gives the machine the cell of a variable.
+fn make_variable(machine: &mut Machine<'_>, value: &Value) -> Result<(), NoMemory>
+    ensures cell { OnOk result (stored machine.new.store ≡ made (stored machine.old.store) (value_of value.now)) }
+    ensures others { machine.new ≡ record machine.old { store = machine.new.store } }
+{
+    let value = value.copy(machine.alloc)?;
+    machine.store.make_cell(value)?;
+    Ok(())
+}
+
 /// Writes the output that is kept, where it is long.
 fn write_piece<O: Sink>(machine: &mut Machine<'_>, out: &mut O) -> Result<(), RunError>
+    ensures moved { OnOk result (HasMoved machine.old machine.new (O.written out.old) (O.written out.new)) }
     ensures written { HasWritten (O.written out.old) (O.written out.new) }
     ensures fault { IsErrOf result RunError.WriteFault → HasFaulted (O.faults out.old) (O.faults out.new) }
     ensures later { O.faults out.old ≤ O.faults out.new }
@@ -143,6 +186,9 @@ fn write_piece<O: Sink>(machine: &mut Machine<'_>, out: &mut O) -> Result<(), Ru
 
 /// Writes the output that is kept.
 fn write<O: Sink>(machine: &mut Machine<'_>, out: &mut O) -> Result<(), RunError>
+    ensures moved { OnOk result (HasMoved machine.old machine.new (O.written out.old) (O.written out.new)) }
+    ensures whole { OnOk result (machine.new.output.items ≡ []) }
+    ensures ending { machine.new.ending ≡ machine.old.ending }
     ensures written { HasWritten (O.written out.old) (O.written out.new) }
     ensures fault { IsErrOf result RunError.WriteFault → HasFaulted (O.faults out.old) (O.faults out.new) }
     ensures later { O.faults out.old ≤ O.faults out.new }
@@ -161,6 +207,7 @@ fn write<O: Sink>(machine: &mut Machine<'_>, out: &mut O) -> Result<(), RunError
 
 /// Writes the rest of the output.
 fn finish<O: Sink>(machine: &mut Machine<'_>, out: &mut O) -> Result<Ending, RunError>
+    ensures whole { IfOk result (λ ending. (machine.old.ending ≡ Some ending) × Appends (O.written out.old) (O.written out.new) machine.old.output.items) }
     ensures written { HasWritten (O.written out.old) (O.written out.new) }
     ensures fault { IsErrOf result RunError.WriteFault → HasFaulted (O.faults out.old) (O.faults out.new) }
     ensures later { O.faults out.old ≤ O.faults out.new }

@@ -1,6 +1,18 @@
 //! One step of the current goroutine.
 
-use code_plan::{Arg, PlannedBlock, PlannedFunction, PlannedPhi, Step};
+ghost use Rattle.std.specs.Prelude.{◌≡◌, ◌==◌, Some, IfOk, OnOk, length, map, option_map};
+ghost use Rattle.std.specs.List.{find};
+ghost use Rattle.go_interp.specs.Phis.{PushesPhi, with_written};
+ghost use Rattle.go_interp.specs.Steps.{HasSteps, runs};
+ghost use Rattle.go_value.specs.Values.{value_of};
+ghost use Rattle.interp_state.specs.Machines.{machine_of};
+ghost use Rattle.interp_state.specs.Turns.{Steps};
+ghost use Rattle.plan_mean.specs.Operands.{look};
+ghost use Rattle.plan_mean.specs.State.{where_there};
+ghost use Rattle.plan_mean.specs.Step.{acts, branches, edge_value, enters_block, jumps, with_phis};
+ghost use Rattle.plan_mean.specs.Step as steps;
+
+use code_plan::{Arg, PlannedBlock, PlannedEdge, PlannedFunction, PlannedPhi, Step};
 use go_base::NoMemory;
 use go_value::Value;
 use interp_builtins::channels;
@@ -12,7 +24,9 @@ use interp_values::{arithmetic, making, places, ranging};
 const TURNS: u32 = 1024;
 
 /// Steps until something else than a step is due, or for some time.
-pub fn make_steps(machine: &mut Machine<'_>) -> Turn {
+pub fn make_steps(machine: &mut Machine<'_>) -> Turn
+    ensures { HasSteps result machine.old machine.new }
+{
     for _ in 0..TURNS {
         match step(machine) {
             Turn::Goes => {}
@@ -23,15 +37,30 @@ pub fn make_steps(machine: &mut Machine<'_>) -> Turn {
 }
 
 /// One step: an instruction, or what a frame that returns or panics does.
-fn step<'a>(machine: &mut Machine<'a>) -> Turn {
-    let Some(top) = &mut machine.current.top else {
-        return calling::begin_or_end(machine);
-    };
-    match &top.state {
-        FrameState::Running => {}
-        _ => return unwinding::unwind(machine),
+fn step<'a>(machine: &mut Machine<'a>) -> Turn
+    ensures { Steps result machine.old machine.new (λ w. steps.step w (machine_of machine.old)) }
+{
+    match &machine.current.top {
+        Some(top) => match &top.state {
+            FrameState::Running => advance(machine),
+            _ => unwinding::unwind(machine),
+        },
+        None => calling::begin_or_end(machine),
     }
+}
+
+/// One step of a frame that runs: it stands behind the step when that is done.
+#[inline(always)]
+fn advance<'a>(machine: &mut Machine<'a>) -> Turn
+    ensures { Steps result machine.old machine.new (λ w. runs w (machine_of machine.old) (machine_of machine.old).current.frames) }
+{
+    let Some(top) = &mut machine.current.top else {
+        return Turn::WantsMemory;
+    };
     let steps: &'a [Step] = top.steps;
+    if top.step >= steps.len() {
+        return Turn::WantsMemory;
+    }
     match steps.get(top.step) {
         Some(step) => {
             top.step = top.step.saturating_add(1);
@@ -41,7 +70,9 @@ fn step<'a>(machine: &mut Machine<'a>) -> Turn {
     }
 }
 
-fn act<'a>(machine: &mut Machine<'a>, step: &'a Step) -> Turn {
+fn act<'a>(machine: &mut Machine<'a>, step: &'a Step) -> Turn
+    ensures { Steps result machine.old machine.new (λ w. acts w (machine_of machine.old) step.now) }
+{
     match step {
         Step::Arithmetic {
             op,
@@ -87,7 +118,9 @@ fn act<'a>(machine: &mut Machine<'a>, step: &'a Step) -> Turn {
 }
 
 #[inline(never)]
-fn act_rarely<'a>(machine: &mut Machine<'a>, step: &'a Step) -> Turn {
+fn act_rarely<'a>(machine: &mut Machine<'a>, step: &'a Step) -> Turn
+    ensures { Steps result machine.old machine.new (λ w. acts w (machine_of machine.old) step.now) }
+{
     match step {
         Step::Shift {
             left,
@@ -141,7 +174,9 @@ fn act_rarely<'a>(machine: &mut Machine<'a>, step: &'a Step) -> Turn {
 
 /// What makes maps, channels and slices, ranges, and what other goroutines or later calls see.
 #[inline(never)]
-fn act_outside<'a>(machine: &mut Machine<'a>, step: &'a Step) -> Turn {
+fn act_outside<'a>(machine: &mut Machine<'a>, step: &'a Step) -> Turn
+    ensures { Steps result machine.old machine.new (λ w. acts w (machine_of machine.old) step.now) }
+{
     match step {
         Step::MakeMap { to } => making::make_map(machine, *to),
         Step::MakeChan { leaves, size, to } => making::make_chan(machine, *leaves, size, *to),
@@ -180,7 +215,9 @@ fn act_outside<'a>(machine: &mut Machine<'a>, step: &'a Step) -> Turn {
     }
 }
 
-fn branch(machine: &mut Machine<'_>, test: &Arg, then_to: u32, else_to: u32) -> Turn {
+fn branch(machine: &mut Machine<'_>, test: &Arg, then_to: u32, else_to: u32) -> Turn
+    ensures { Steps result machine.old machine.new (λ w. where_there (branches (machine_of machine.old) then_to else_to) (look (machine_of machine.old) test.now)) }
+{
     match machine.truth(test) {
         Ok(true) => jump(machine, then_to),
         Ok(false) => jump(machine, else_to),
@@ -188,7 +225,9 @@ fn branch(machine: &mut Machine<'_>, test: &Arg, then_to: u32, else_to: u32) -> 
     }
 }
 
-fn jump<'a>(machine: &mut Machine<'a>, to: u32) -> Turn {
+fn jump<'a>(machine: &mut Machine<'a>, to: u32) -> Turn
+    ensures { Steps result machine.old machine.new (λ w. jumps to (machine_of machine.old)) }
+{
     let Some(top) = &mut machine.current.top else {
         return Turn::WantsMemory;
     };
@@ -202,38 +241,76 @@ fn jump<'a>(machine: &mut Machine<'a>, to: u32) -> Turn {
     }
 }
 
-fn enter_block(machine: &mut Machine<'_>, block: &PlannedBlock, from: u32) -> Turn {
+fn enter_block(machine: &mut Machine<'_>, block: &PlannedBlock, from: u32) -> Turn
+    ensures { Steps result machine.old machine.new (λ w. enters_block from block.now (machine_of machine.old)) }
+{
     if block.phis.is_empty() {
         return Turn::Goes;
     }
-    Turn::after(read_phis(machine, block.phis.as_slice(), from))
+    match read_phis(machine, block.phis.as_slice(), from) {
+        Ok(()) => Turn::Goes,
+        Err(_) => Turn::WantsMemory,
+    }
 }
 
 /// All phis are read before one is written.
 #[inline(never)]
-fn read_phis(machine: &mut Machine<'_>, phis: &[PlannedPhi], from: u32) -> Result<(), NoMemory> {
+fn read_phis(machine: &mut Machine<'_>, phis: &[PlannedPhi], from: u32) -> Result<(), NoMemory>
+    ensures phis { OnOk result (with_phis (machine_of machine.old) from phis.now (machine_of machine.old) ≡ Some (machine_of machine.new)) }
+    ensures others { machine.new ≡ record machine.old { current = record (machine.old.current) { stack = machine.new.current.stack }; waiting = machine.new.waiting } }
+{
     machine.waiting.clear();
     for phi in phis {
-        let value = phi_value(machine, phi, from)?;
-        machine.waiting.push(value)?;
+        push_phi(machine, phi, from)?;
     }
     write_phis(machine, phis)
 }
 
+/// The value of one phi more is on its way.
+#[inline(always)]
+fn push_phi(machine: &mut Machine<'_>, phi: &PlannedPhi, from: u32) -> Result<(), NoMemory>
+    ensures read { OnOk result (PushesPhi (machine_of machine.old) from phi.now machine.old.waiting.items machine.new.waiting.items) }
+    ensures others { machine.new ≡ record machine.old { waiting = machine.new.waiting } }
+{
+    let value = phi_value(machine, phi, from)?;
+    machine.waiting.push(value)?;
+    Ok(())
+}
+
 /// The last phi gets the last value that was read.
-fn write_phis(machine: &mut Machine<'_>, phis: &[PlannedPhi]) -> Result<(), NoMemory> {
-    for phi in phis.iter().rev() {
+fn write_phis(machine: &mut Machine<'_>, phis: &[PlannedPhi]) -> Result<(), NoMemory>
+    ensures phis { length phis.now ≡ length machine.old.waiting.items → OnOk result (machine_of machine.new ≡ with_written phis.now (map value_of machine.old.waiting.items) (machine_of machine.old)) }
+    ensures others { machine.new ≡ record machine.old { current = record (machine.old.current) { stack = machine.new.current.stack }; waiting = machine.new.waiting } }
+{
+    let mut left = phis;
+    while let Some((phi, front)) = left.split_last() {
         match machine.waiting.pop() {
             Some(value) => machine.set(phi.to, value),
             None => return Err(lost()),
         }
+        left = front;
     }
     Ok(())
 }
 
-fn phi_value(machine: &Machine<'_>, phi: &PlannedPhi, from: u32) -> Result<Value, NoMemory> {
-    match phi.edges.iter().find(|edge| edge.from == from) {
+fn phi_value(machine: &Machine<'_>, phi: &PlannedPhi, from: u32) -> Result<Value, NoMemory>
+    ensures { IfOk result (λ it. edge_value (machine_of machine.now) from phi.now ≡ Some (value_of it)) }
+{
+    match edge_from(phi.edges.as_slice(), from) {
         Some(edge) => machine.read(&edge.value),
         None => Err(lost()),
     }
+}
+
+/// The first edge from a block.
+#[inline(always)]
+fn edge_from(edges: &[PlannedEdge], from: u32) -> Option<&PlannedEdge>
+    ensures { option_map (λ it. it.now) result ≡ find (λ edge. edge.from == from) edges.now }
+{
+    for edge in edges {
+        if edge.from == from {
+            return Some(edge);
+        }
+    }
+    None
 }

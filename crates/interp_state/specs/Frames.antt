@@ -1,5 +1,5 @@
 -- The frames of a goroutine's stack of slots.
-use Rattle.std.specs.Prelude.{ℕ, List, [], ◌∷◌, Option, drop, map, option_map, reverse, take}
+use Rattle.std.specs.Prelude.{ℕ, List, [], ◌∷◌, Option, None, drop, map, option_map, reverse, slice_set, take}
 use Rattle.interp_state.specs.declared.stack.RegStack.{RegStack}
 use Rattle.go_value.specs.Values.{Val, value_of}
 use Rattle.go_value.specs.declared.values.Value.{Value}
@@ -17,3 +17,8 @@ seen slots = map (option_map value_of) slots
 -- the slots of the frames, the top frame first
 abbrev pub frames_of : RegStack → List (List (Option Val))
 frames_of stack = frames_from (seen stack.slots.items) stack.base (reverse stack.bases.items)
+
+-- a slot of the top frame is unset
+abbrev pub without_slot : {A : Type 0} → ℕ → List (List (Option A)) → List (List (Option A))
+without_slot slot [] = []
+without_slot slot (top ∷ below) = slice_set top slot None ∷ below

@@ -1,6 +1,6 @@
 //! Frames and goroutines.
 
-ghost use Rattle.std.specs.Prelude.{◌≡◌, ◌∷◌, ◌++◌, [], drop, IsSome, OnOk};
+ghost use Rattle.std.specs.Prelude.{◌≡◌, ◌∷◌, ◌++◌, [], IfSome, IfNone, OnOk, option_map};
 
 use crate::stack::RegStack;
 use code_plan::{BuiltinForm, PlannedFunction, Role, Step};
@@ -80,7 +80,13 @@ pub struct Left {
 }
 
 impl<'a> Frame<'a> {
-    fn left(&self) -> Left {
+    ghost use Rattle.interp_state.specs.Machines.{frame_of};
+    ghost use Rattle.interp_state.specs.States.{left_by};
+    ghost use Rattle.plan_mean.specs.Unwinding.{at_recovery};
+
+    fn left(&self) -> Left
+        ensures { result ≡ left_by self.now }
+    {
         Left {
             role: self.function.role,
             to: self.to,
@@ -88,15 +94,33 @@ impl<'a> Frame<'a> {
     }
 
     /// The state in which the frame was, and is no more.
-    pub fn change(&mut self, state: FrameState) -> FrameState {
+    pub fn change(&mut self, state: FrameState) -> FrameState
+        ensures before { result ≡ self.old.state }
+        ensures after { self.new ≡ record self.old { state = state } }
+    {
         std::mem::replace(&mut self.state, state)
     }
 
     /// The frame stands at the beginning of a block.
-    pub fn stand_at(&mut self, block: u32, steps: &'a [Step]) {
+    pub fn stand_at(&mut self, block: u32, steps: &'a [Step])
+        ensures { self.new ≡ record self.old { block = block; steps = steps.entry; step = 0 } }
+    {
         self.block = block;
         self.steps = steps;
         self.step = 0;
+    }
+
+    /// The frame of a function that can recover stands at the block that gives its results then.
+    pub fn stand_at_recovery(&mut self)
+        ensures frame { frame_of self.new ≡ at_recovery (frame_of self.old) }
+        ensures function { self.new.function ≡ self.old.function }
+    {
+        let function: &'a PlannedFunction = self.function;
+        if let Some(number) = function.recover {
+            if let Some(block) = function.blocks.get(number as usize) {
+                self.stand_at(number, block.steps.as_slice());
+            }
+        }
     }
 }
 
@@ -116,11 +140,16 @@ pub struct Goroutine<'a> {
 
 impl<'a> Goroutine<'a> {
     ghost use Rattle.interp_state.specs.Frames.{frames_of};
-    ghost use Rattle.interp_state.specs.States.{frames_in};
+    ghost use Rattle.interp_state.specs.Machines.{frame_of, goroutine_of, later_of};
+    ghost use Rattle.interp_state.specs.States.{counted, frames_in, left_by};
+    ghost use Rattle.plan_mean.specs.Calls.{new_goroutine};
     ghost use Rattle.plan_mean.specs.Slots.{below_top};
+    ghost use Rattle.plan_mean.specs.Unwinding.{popped};
 
     /// A goroutine that is to make a call.
-    pub fn new(alloc: Global, begin: Option<Later<'a>>) -> Goroutine<'a> {
+    pub fn new(alloc: Global, begin: Option<Later<'a>>) -> Goroutine<'a>
+        ensures { goroutine_of result ≡ new_goroutine (option_map later_of begin.entry) }
+    {
         Goroutine {
             below: Vec::new(alloc),
             top: None,
@@ -131,18 +160,21 @@ impl<'a> Goroutine<'a> {
         }
     }
 
-    /// Puts a frame on top.
-    #[tactic(auto, using(crate::proofs::Calls::one_more))]
+    /// Puts a frame on top. Of more source functions than 4,294,967,295 it counts so many.
     pub fn push(&mut self, frame: Frame<'a>) -> Result<(), NoMemory>
         ensures frames { OnOk result (frames_in self.new ≡ frame.entry ∷ frames_in self.old) }
-        ensures slots { self.new.stack ≡ self.old.stack }
+        ensures sources { self.new.sources ≡ counted frame.entry.function.now.role self.old.sources }
+        ensures others { self.new ≡ record self.old { below = self.new.below; top = self.new.top; sources = self.new.sources } }
     {
         if frame.function.role == Role::Source {
             self.sources = self.sources.saturating_add(1);
         }
         match std::mem::replace(&mut self.top, Some(frame)) {
             Some(below) => self.put_below(below),
-            None => Ok(()),
+            None => {
+                self.below.clear();
+                Ok(())
+            }
         }
     }
 
@@ -156,19 +188,20 @@ impl<'a> Goroutine<'a> {
 
     /// The top frame goes. None where there is none.
     pub fn pop(&mut self) -> Option<Left>
-        ensures frames { IsSome self.old.top → frames_in self.new ≡ drop 1 (frames_in self.old) }
-        ensures slots { frames_of self.new.stack ≡ below_top (frames_of self.old.stack) }
+        ensures left { result ≡ option_map left_by self.old.top }
+        ensures popped { IfSome self.old.top (λ _. goroutine_of self.new ≡ popped (goroutine_of self.old)) }
+        ensures same { IfNone self.old.top (self.new ≡ self.old) }
     {
-        let below = self.below.pop();
-        let top = std::mem::replace(&mut self.top, below);
-        self.stack.leave();
-        let left = top.as_ref().map(Frame::left);
+        let Some(top) = self.top.take() else {
+            return None;
+        };
+        let left = top.left();
         drop(top);
-        if let Some(left) = left {
-            if left.role == Role::Source {
-                self.sources = self.sources.saturating_sub(1);
-            }
+        self.top = self.below.pop();
+        self.stack.leave();
+        if left.role == Role::Source {
+            self.sources = self.sources.saturating_sub(1);
         }
-        left
+        Some(left)
     }
 }

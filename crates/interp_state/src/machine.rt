@@ -1,8 +1,9 @@
 //! The state of a run, and how operands are read and registers written.
 
-ghost use Rattle.std.specs.Prelude.{◌≡◌, ◌<◌, Some, IfOk, IsOk};
-ghost use Rattle.go_value.specs.Values.{value_of};
+ghost use Rattle.std.specs.Prelude.{◌≡◌, ◌<◌, ◌++◌, List, Some, true, IfOk, OnOk, OnErr, map, slice_get};
+ghost use Rattle.go_value.specs.Values.{Val, value_of};
 ghost use Rattle.go_value.specs.Values as vals;
+ghost use Rattle.plan_mean.specs.State.{World};
 
 use crate::error::lost;
 use crate::frames::Goroutine;
@@ -27,7 +28,10 @@ pub enum Turn {
 
 impl Turn {
     /// What a step comes to that may want memory.
-    pub fn after(outcome: Result<(), NoMemory>) -> Turn {
+    pub fn after(outcome: Result<(), NoMemory>) -> Turn
+        ensures ok { OnOk outcome (result ≡ Turn.Goes) }
+        ensures err { OnErr outcome (result ≡ Turn.WantsMemory) }
+    {
         match outcome {
             Ok(()) => Turn::Goes,
             Err(_) => Turn::WantsMemory,
@@ -72,6 +76,11 @@ pub enum Met {
 }
 
 impl From<ValueError> for Met {
+    ghost use Rattle.std.specs.Prelude.{◌≡◌};
+    ghost use Rattle.interp_state.specs.Errors.{met_of};
+
+    ghost from_gives = { λ error met. met ≡ met_of error };
+
     fn from(error: ValueError) -> Met {
         match error {
             ValueError::Fault(fault) => Met::Fault(fault),
@@ -81,24 +90,44 @@ impl From<ValueError> for Met {
 }
 
 impl From<NoMemory> for Met {
+    ghost use Rattle.std.specs.Prelude.{◌≡◌};
+    ghost use Rattle.interp_state.specs.declared.machine.Met.TheVariants.{Memory};
+
+    ghost from_gives = { λ _ met. met ≡ Memory };
+
     fn from(_: NoMemory) -> Met {
         Met::Memory
     }
 }
 
 impl From<AllocError> for Met {
+    ghost use Rattle.std.specs.Prelude.{◌≡◌};
+    ghost use Rattle.interp_state.specs.declared.machine.Met.TheVariants.{Memory};
+
+    ghost from_gives = { λ _ met. met ≡ Memory };
+
     fn from(_: AllocError) -> Met {
         Met::Memory
     }
 }
 
 impl<T: Drop> From<AllocFailed<T>> for Met {
+    ghost use Rattle.std.specs.Prelude.{◌≡◌};
+    ghost use Rattle.interp_state.specs.declared.machine.Met.TheVariants.{Memory};
+
+    ghost from_gives = { λ _ met. met ≡ Memory };
+
     fn from(_: AllocFailed<T>) -> Met {
         Met::Memory
     }
 }
 
 impl From<SchedError> for Met {
+    ghost use Rattle.std.specs.Prelude.{◌≡◌};
+    ghost use Rattle.interp_state.specs.Errors.{met_of_sched};
+
+    ghost from_gives = { λ error met. met ≡ met_of_sched error };
+
     fn from(error: SchedError) -> Met {
         match error {
             SchedError::Fault(fault) => Met::Fault(fault),
@@ -108,16 +137,29 @@ impl From<SchedError> for Met {
 }
 
 impl From<Fault> for Met {
+    ghost use Rattle.std.specs.Prelude.{◌≡◌};
+    ghost use Rattle.interp_state.specs.Errors.{met_of_fault};
+
+    ghost from_gives = { λ error met. met ≡ met_of_fault error };
+
     fn from(fault: Fault) -> Met {
         Met::Fault(fault)
     }
 }
 
 impl<'a> Machine<'a> {
-    ghost use Rattle.interp_state.specs.States.{HasFrame, looked, Spent, Wrote};
+    ghost use Rattle.interp_state.specs.Asked.{AreAsked};
+    ghost use Rattle.interp_state.specs.Machines.{machine_of};
+    ghost use Rattle.interp_state.specs.States.{looked, PushesRead, Spent, Wrote};
+    ghost use Rattle.interp_state.specs.Turns.{Does, Gives, IsIn};
+    ghost use Rattle.plan_mean.specs.Calls.{method_at};
+    ghost use Rattle.plan_mean.specs.Operands.{look_at_all};
+    ghost use Rattle.ssa_mean.specs.Making as making;
 
     /// A function of the plan.
-    pub fn function(&self, number: u32) -> Result<&'a PlannedFunction, NoMemory> {
+    pub fn function(&self, number: u32) -> Result<&'a PlannedFunction, NoMemory>
+        ensures { IfOk result (λ it. slice_get self.now.plan.now.functions.items number ≡ Some it.now) }
+    {
         let plan: &'a Plan = self.plan;
         match plan.functions.get(number as usize) {
             Some(function) => Ok(function),
@@ -127,7 +169,7 @@ impl<'a> Machine<'a> {
 
     /// The value of an operand.
     pub fn look<'b>(&'b self, arg: &'b Arg) -> Result<&'b Value, NoMemory>
-        ensures { HasFrame self.now → IfOk result (λ it. looked self.now arg.now ≡ Some (value_of it.now)) }
+        ensures { IfOk result (λ it. looked self.now arg.now ≡ Some (value_of it.now)) }
     {
         match arg {
             Arg::Slot(slot) => match self.current.stack.get(*slot) {
@@ -141,7 +183,7 @@ impl<'a> Machine<'a> {
 
     /// What the cell holds to which the pointer in a slot points.
     fn look_in_cell(&self, slot: u32) -> Result<&Value, NoMemory>
-        ensures { HasFrame self.now → IfOk result (λ it. looked self.now (Arg.Cell slot) ≡ Some (value_of it.now)) }
+        ensures { IfOk result (λ it. looked self.now (Arg.Cell slot) ≡ Some (value_of it.now)) }
     {
         match self.current.stack.get(slot) {
             Some(Value::Pointer(address)) => match self.store.value_at(address) {
@@ -154,7 +196,7 @@ impl<'a> Machine<'a> {
 
     /// A copy of the value of an operand.
     pub fn read(&self, arg: &Arg) -> Result<Value, NoMemory>
-        ensures { HasFrame self.now → IfOk result (λ it. looked self.now arg.now ≡ Some (value_of it)) }
+        ensures { IfOk result (λ it. looked self.now arg.now ≡ Some (value_of it)) }
     {
         self.look(arg)?.copy(self.alloc)
     }
@@ -162,7 +204,7 @@ impl<'a> Machine<'a> {
     /// The integer that an operand is.
     #[tactic(auto, using(go_value::proofs::Variants::int_is))]
     pub fn int(&self, arg: &Arg) -> Result<i128, NoMemory>
-        ensures { HasFrame self.now → IfOk result (λ it. looked self.now arg.now ≡ Some (vals.number it)) }
+        ensures { IfOk result (λ it. looked self.now arg.now ≡ Some (vals.number it)) }
     {
         match self.look(arg)? {
             Value::Int(number) => Ok(*number),
@@ -173,7 +215,7 @@ impl<'a> Machine<'a> {
     /// The truth value that an operand is.
     #[tactic(auto, using(go_value::proofs::Variants::truth_is))]
     pub fn truth(&self, arg: &Arg) -> Result<bool, NoMemory>
-        ensures { HasFrame self.now → IfOk result (λ it. looked self.now arg.now ≡ Some (vals.truth it)) }
+        ensures { IfOk result (λ it. looked self.now arg.now ≡ Some (vals.truth it)) }
     {
         match self.look(arg)? {
             Value::Truth(truth) => Ok(*truth),
@@ -184,7 +226,7 @@ impl<'a> Machine<'a> {
     /// The address that an operand is.
     #[tactic(auto, using(go_value::proofs::Variants::pointer_is))]
     pub fn address<'b>(&'b self, arg: &'b Arg) -> Result<&'b Address, NoMemory>
-        ensures { HasFrame self.now → IfOk result (λ it. looked self.now arg.now ≡ Some (vals.pointer it.now)) }
+        ensures { IfOk result (λ it. looked self.now arg.now ≡ Some (vals.pointer it.now)) }
     {
         match self.look(arg)? {
             Value::Pointer(address) => Ok(address),
@@ -195,7 +237,7 @@ impl<'a> Machine<'a> {
     /// The text that an operand is.
     #[tactic(auto, using(go_value::proofs::Variants::text_is))]
     pub fn text<'b>(&'b self, arg: &'b Arg) -> Result<&'b Rc<Bytes>, NoMemory>
-        ensures { HasFrame self.now → IfOk result (λ it. looked self.now arg.now ≡ Some (vals.text it.now.value)) }
+        ensures { IfOk result (λ it. looked self.now arg.now ≡ Some (vals.text it.now.value)) }
     {
         match self.look(arg)? {
             Value::Text(bytes) => Ok(bytes),
@@ -206,7 +248,7 @@ impl<'a> Machine<'a> {
     /// The slice that an operand is.
     #[tactic(auto, using(go_value::proofs::Variants::slice_is))]
     pub fn slice<'b>(&'b self, arg: &'b Arg) -> Result<&'b SliceValue, NoMemory>
-        ensures { HasFrame self.now → IfOk result (λ it. looked self.now arg.now ≡ Some (vals.slice it.now)) }
+        ensures { IfOk result (λ it. looked self.now arg.now ≡ Some (vals.slice it.now)) }
     {
         match self.look(arg)? {
             Value::Slice(slice) => Ok(slice),
@@ -243,8 +285,7 @@ impl<'a> Machine<'a> {
     /// Gives a register what an operation gave, or meets its fault.
     #[inline(never)]
     pub fn give(&mut self, to: u32, outcome: Result<Value, Met>) -> Turn
-        ensures goes { IsOk outcome → result ≡ Turn.Goes }
-        ensures wrote { IfOk outcome (λ it. Wrote to (value_of it) self.old self.new) }
+        ensures { Gives to outcome result self.old self.new }
     {
         match outcome {
             Ok(value) => {
@@ -257,8 +298,7 @@ impl<'a> Machine<'a> {
 
     /// Goes on after an operation without a register, or meets its fault.
     pub fn done(&mut self, outcome: Result<(), Met>) -> Turn
-        ensures goes { IsOk outcome → result ≡ Turn.Goes }
-        ensures same { IsOk outcome → self.new ≡ self.old }
+        ensures { Does outcome result self.old self.new }
     {
         match outcome {
             Ok(()) => Turn::Goes,
@@ -288,7 +328,9 @@ impl<'a> Machine<'a> {
     }
 
     /// The function of a method of a dynamic type.
-    pub fn method(&self, receiver: TypeId, method: MethodName) -> Result<u32, NoMemory> {
+    pub fn method(&self, receiver: TypeId, method: MethodName) -> Result<u32, NoMemory>
+        ensures { IfOk result (λ it. (w : World) → IsIn w self.now → method_at w (record { receiver = receiver; method = method }) ≡ Some it) }
+    {
         match self.plan.methods.get(&MethodOf { receiver, method }) {
             Some(function) => Ok(*function),
             None => Err(lost()),
@@ -296,7 +338,11 @@ impl<'a> Machine<'a> {
     }
 
     /// Whether a type implements an interface.
-    pub fn implements(&mut self, of: TypeId, interface: TypeId) -> Result<bool, NoMemory> {
+    pub fn implements(&mut self, of: TypeId, interface: TypeId) -> Result<bool, NoMemory>
+        ensures answer { IfOk result (λ it. (w : World) → IsIn w self.old → it ≡ w.answers.implements of interface) }
+        ensures asked { (w : World) → IsIn w self.old → AreAsked w.answers.implements self.new.implemented }
+        ensures others { self.new ≡ record self.old { implemented = self.new.implemented } }
+    {
         let pair = TypePair { of, interface };
         if let Some(answer) = self.implemented.get(&pair) {
             return Ok(*answer);
@@ -309,7 +355,7 @@ impl<'a> Machine<'a> {
     /// The channel that an operand is.
     #[tactic(auto, using(go_value::proofs::Variants::chan_is))]
     pub fn chan(&self, arg: &Arg) -> Result<Option<ChanId>, NoMemory>
-        ensures { HasFrame self.now → IfOk result (λ it. looked self.now arg.now ≡ Some (vals.chan_number it)) }
+        ensures { IfOk result (λ it. looked self.now arg.now ≡ Some (vals.chan_number it)) }
     {
         match self.look(arg)? {
             Value::Chan(chan) => Ok(*chan),
@@ -318,7 +364,9 @@ impl<'a> Machine<'a> {
     }
 
     /// A value and whether there was one.
-    pub fn with_ok(&self, value: Value, ok: bool) -> Result<Value, NoMemory> {
+    pub fn with_ok(&self, value: Value, ok: bool) -> Result<Value, NoMemory>
+        ensures { IfOk result (λ it. value_of it ≡ making.with_ok true (value_of value) ok) }
+    {
         let mut parts = Vec::new(self.alloc);
         parts.push(Part::plain(value))?;
         parts.push(Part::plain(Value::Truth(ok)))?;
@@ -326,7 +374,9 @@ impl<'a> Machine<'a> {
     }
 
     /// A value, with whether there was one where that is asked.
-    pub fn with_ok_where(&self, asked: bool, value: Value, ok: bool) -> Result<Value, NoMemory> {
+    pub fn with_ok_where(&self, asked: bool, value: Value, ok: bool) -> Result<Value, NoMemory>
+        ensures { IfOk result (λ it. value_of it ≡ making.with_ok asked (value_of value) ok) }
+    {
         if asked {
             self.with_ok(value, ok)
         } else {
@@ -334,12 +384,24 @@ impl<'a> Machine<'a> {
         }
     }
 
-    /// The arguments are on their way.
-    pub fn push_args(&mut self, args: &[Arg]) -> Result<(), NoMemory> {
+    /// The arguments are on their way, behind what was.
+    pub fn push_args(&mut self, args: &[Arg]) -> Result<(), NoMemory>
+        ensures read { IfOk result (λ _. (its : List Val) × ((look_at_all (machine_of self.old) args.now ≡ Some its) × (map value_of self.new.waiting.items ≡ map value_of self.old.waiting.items ++ its))) }
+        ensures others { self.new ≡ record self.old { waiting = self.new.waiting } }
+    {
         for arg in args {
-            let value = self.read(arg)?;
-            self.waiting.push(value)?;
+            self.push_arg(arg)?;
         }
+        Ok(())
+    }
+
+    /// One argument more is on its way.
+    fn push_arg(&mut self, arg: &Arg) -> Result<(), NoMemory>
+        ensures read { OnOk result (PushesRead self.old arg.now self.old.waiting.items self.new.waiting.items) }
+        ensures others { self.new ≡ record self.old { waiting = self.new.waiting } }
+    {
+        let value = self.read(arg)?;
+        self.waiting.push(value)?;
         Ok(())
     }
 }

@@ -14,13 +14,14 @@ pub struct RegStack {
     slots: Vec<Option<Value>>,
     /// Where the frames begin, the top one left out.
     bases: Vec<usize>,
-    /// Where the top frame begins.
+    /// Where the top frame begins; past all slots where there is no frame.
     base: usize,
+    ghost empty: { length bases.items ≡ 0 → base ≡ 18446744073709551615 },
 }
 
 impl RegStack {
     ghost use Rattle.std.specs.Prelude.{[]};
-    ghost use Rattle.interp_state.specs.Frames.{frames_of};
+    ghost use Rattle.interp_state.specs.Frames.{frames_of, without_slot};
     ghost use Rattle.plan_mean.specs.Slots.{below_top, with_frame, slot_in, with_slot};
 
     /// No frames.
@@ -30,7 +31,7 @@ impl RegStack {
         RegStack {
             slots: Vec::new(alloc),
             bases: Vec::new(alloc),
-            base: 0,
+            base: usize::MAX,
         }
     }
 
@@ -57,7 +58,11 @@ impl RegStack {
         ensures { frames_of self.new ≡ below_top (frames_of self.old) }
     {
         self.slots.truncate(self.base);
-        self.base = self.bases.pop().unwrap_or(0);
+        let below = self.bases.pop();
+        self.base = match below {
+            Some(base) if !self.bases.is_empty() => base,
+            _ => usize::MAX,
+        };
     }
 
     /// How many frames there are.
@@ -67,9 +72,9 @@ impl RegStack {
         self.bases.len() as u64
     }
 
-    /// The value of a slot of the top frame, where there is a frame. None where it is unset, or there is no such slot.
+    /// The value of a slot of the top frame. None where it is unset, or there is no such slot or no frame.
     pub fn get(&self, slot: u32) -> Option<&Value>
-        ensures { 0 < length (frames_of self.now) → option_map (λ it. value_of it.now) result ≡ slot_in (frames_of self.now) slot }
+        ensures { option_map (λ it. value_of it.now) result ≡ slot_in (frames_of self.now) slot }
     {
         match self.slots.get(self.base.saturating_add(slot as usize)) {
             Some(place) => place.as_ref(),
@@ -77,11 +82,15 @@ impl RegStack {
         }
     }
 
-    /// The value of a slot of the top frame, to be changed in place.
-    pub fn get_mut(&mut self, slot: u32) -> Option<&mut Value> {
+    /// Takes the value of a slot of the top frame, which is unset then. None where it was, or there is no such slot or no
+    /// frame.
+    pub fn take_slot(&mut self, slot: u32) -> Option<Value>
+        ensures value { option_map value_of result ≡ slot_in (frames_of self.old) slot }
+        ensures slots { frames_of self.new ≡ without_slot slot (frames_of self.old) }
+    {
         match self.slots.get_mut(self.base.saturating_add(slot as usize)) {
-            Some(Some(value)) => Some(value),
-            _ => None,
+            Some(place) => place.take(),
+            None => None,
         }
     }
 

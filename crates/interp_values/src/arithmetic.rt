@@ -1,25 +1,47 @@
 //! Operators. Go specification, "Operators".
 
+ghost use Rattle.std.specs.Prelude.{◌≡◌, ◌-ℤ◌, ◌<ℤ◌, Bool, IfOk, int_div, int_rem, negsuc, pos};
+ghost use Rattle.std.specs.Bool.{beq};
+ghost use Rattle.std.specs.Ordering.{int_cmp};
+ghost use Rattle.code_plan.specs.declared.steps.Step.TheVariants as act;
+ghost use Rattle.go_type.specs.declared.constants.ConstOp.TheVariants as op;
+ghost use Rattle.go_type.specs.declared.operators.CompareOp.{CompareOp as Comparison};
+ghost use Rattle.go_value.specs.Ints.{operated, wrapped};
+ghost use Rattle.go_value.specs.Values.{number, truth};
+ghost use Rattle.interp_state.specs.Machines.{machine_of};
+ghost use Rattle.interp_state.specs.States.{looked};
+ghost use Rattle.interp_state.specs.Turns.{IsGiven, IsIn, Steps};
+ghost use Rattle.interp_values.specs.Given.{IsGivenAs};
+ghost use Rattle.plan_mean.specs.State.{World};
+ghost use Rattle.plan_mean.specs.Step as steps;
+ghost use Rattle.plan_mean.specs.Step.{acts};
+ghost use Rattle.ssa_mean.specs.Arithmetic.{holds};
+ghost use Rattle.ssa_mean.specs.Comes.{to};
+
 use code_plan::Arg;
 use go_base::NoMemory;
 use go_type::{CompareOp, ConstOp, IntKind};
-use go_value::{Fault, Value, concat, convert_int, int_op, shift_op};
+use go_value::{Fault, Value, ValueError, concat, convert_int, int_op, shift_op};
 use interp_state::{Machine, Met, Turn};
 use std::cmp::Ordering;
 
 /// Whether two values that compare so meet a comparison.
-fn holds(op: CompareOp, order: Ordering) -> bool {
+fn holds(op: CompareOp, order: Ordering) -> bool
+    ensures { result ≡ holds op order }
+{
     match op {
-        CompareOp::Equal => order == Ordering::Equal,
-        CompareOp::NotEqual => order != Ordering::Equal,
-        CompareOp::Less => order == Ordering::Less,
-        CompareOp::LessEqual => order != Ordering::Greater,
-        CompareOp::Greater => order == Ordering::Greater,
-        CompareOp::GreaterEqual => order != Ordering::Less,
+        CompareOp::Equal => order.is_eq(),
+        CompareOp::NotEqual => order.is_ne(),
+        CompareOp::Less => order.is_lt(),
+        CompareOp::LessEqual => order.is_le(),
+        CompareOp::Greater => order.is_gt(),
+        CompareOp::GreaterEqual => order.is_ge(),
     }
 }
 
-fn compare(op: CompareOp, a: i128, b: i128) -> bool {
+fn compare(op: CompareOp, a: i128, b: i128) -> bool
+    ensures { result ≡ holds op (int_cmp a b) }
+{
     match op {
         CompareOp::Equal => a == b,
         CompareOp::NotEqual => a != b,
@@ -30,27 +52,54 @@ fn compare(op: CompareOp, a: i128, b: i128) -> bool {
     }
 }
 
-/// An integer operation; division in 64 bits where both operands fit.
-fn operate(kind: IntKind, op: ConstOp, a: i128, b: i128) -> Result<i128, Fault> {
+/// An integer operation.
+fn operate(kind: IntKind, op: ConstOp, a: i128, b: i128) -> Result<i128, Fault>
+    ensures { result ≡ operated kind op a b }
+{
     match op {
-        ConstOp::Div | ConstOp::Rem => match (i64::try_from(a), i64::try_from(b)) {
-            (Ok(a), Ok(b)) if b > 0 => Ok(divide(op, a, b)),
-            _ => int_op(kind, op, a, b),
-        },
+        ConstOp::Div => quotient(kind, a, b),
+        ConstOp::Rem => remainder(kind, a, b),
         _ => int_op(kind, op, a, b),
     }
 }
 
-fn divide(op: ConstOp, a: i64, b: i64) -> i128 {
-    if op == ConstOp::Div {
-        i128::from(a.wrapping_div(b.max(1)))
-    } else {
-        i128::from(a.wrapping_rem(b.max(1)))
+/// A quotient; in 64 bits where both integers fit.
+fn quotient(kind: IntKind, a: i128, b: i128) -> Result<i128, Fault>
+    ensures { result ≡ operated kind op.Div a b }
+{
+    match (i64::try_from(a), i64::try_from(b)) {
+        (Ok(a), Ok(b)) if b > 0 => Ok(convert_int(kind, divided(a, b))),
+        _ => int_op(kind, ConstOp::Div, a, b),
     }
 }
 
+fn divided(a: i64, b: i64) -> i128
+    ensures { pos 0 <ℤ b → result ≡ int_div a b }
+{
+    i128::from(a.wrapping_div(b.max(1)))
+}
+
+/// A remainder; in 64 bits where both integers fit.
+fn remainder(kind: IntKind, a: i128, b: i128) -> Result<i128, Fault>
+    ensures { result ≡ operated kind op.Rem a b }
+{
+    match (i64::try_from(a), i64::try_from(b)) {
+        (Ok(a), Ok(b)) if b > 0 => Ok(convert_int(kind, rest(a, b))),
+        _ => int_op(kind, ConstOp::Rem, a, b),
+    }
+}
+
+fn rest(a: i64, b: i64) -> i128
+    ensures { pos 0 <ℤ b → result ≡ int_rem a b }
+{
+    i128::from(a.wrapping_rem(b.max(1)))
+}
+
 /// Two integers.
-fn ints(machine: &Machine<'_>, left: &Arg, right: &Arg) -> Result<(i128, i128), NoMemory> {
+fn ints(machine: &Machine<'_>, left: &Arg, right: &Arg) -> Result<(i128, i128), NoMemory>
+    ensures first { IfOk result (λ it. looked machine.now left.now ≡ Some (number it.0)) }
+    ensures second { IfOk result (λ it. looked machine.now right.now ≡ Some (number it.1)) }
+{
     Ok((machine.int(left)?, machine.int(right)?))
 }
 
@@ -62,7 +111,9 @@ pub fn calculate(
     left: &Arg,
     right: &Arg,
     to: u32,
-) -> Turn {
+) -> Turn
+    ensures { Steps result machine.old machine.new (λ w. acts w (machine_of machine.old) (act.Arithmetic op kind left.now right.now to)) }
+{
     let Ok((a, b)) = ints(machine, left, right) else {
         return Turn::WantsMemory;
     };
@@ -79,7 +130,9 @@ pub fn compare_ints(
     left: &Arg,
     right: &Arg,
     to: u32,
-) -> Turn {
+) -> Turn
+    ensures { Steps result machine.old machine.new (λ w. acts w (machine_of machine.old) (act.CompareInts op left.now right.now to)) }
+{
     match ints(machine, left, right) {
         Ok((a, b)) => machine.set_truth(to, compare(op, a, b)),
         Err(_) => Turn::WantsMemory,
@@ -94,7 +147,9 @@ pub fn shift(
     value: &Arg,
     count: &Arg,
     to: u32,
-) -> Turn {
+) -> Turn
+    ensures { Steps result machine.old machine.new (λ w. acts w (machine_of machine.old) (act.Shift left kind value.now count.now to)) }
+{
     let Ok((a, count)) = ints(machine, value, count) else {
         return Turn::WantsMemory;
     };
@@ -105,14 +160,21 @@ pub fn shift(
 }
 
 /// Two texts become one.
-pub fn join(machine: &mut Machine<'_>, left: &Arg, right: &Arg, to: u32) -> Turn {
+pub fn join(machine: &mut Machine<'_>, left: &Arg, right: &Arg, to: u32) -> Turn
+    ensures { Steps result machine.old machine.new (λ w. acts w (machine_of machine.old) (act.Join left.now right.now to)) }
+{
     let joined = joined(machine, left, right);
     machine.give(to, joined)
 }
 
-fn joined(machine: &Machine<'_>, left: &Arg, right: &Arg) -> Result<Value, Met> {
-    let text = concat(machine.alloc, machine.text(left)?, machine.text(right)?)?;
-    Ok(Value::text(machine.alloc, text)?)
+fn joined(machine: &Machine<'_>, left: &Arg, right: &Arg) -> Result<Value, Met>
+    ensures { IsGiven result (steps.join (machine_of machine.now) left.now right.now) }
+{
+    match concat(machine.alloc, machine.text(left)?, machine.text(right)?) {
+        Ok(text) => Ok(Value::text(machine.alloc, text)?),
+        Err(ValueError::Fault(Fault::TextTooLong)) => Err(Met::Fault(Fault::TextTooLong)),
+        Err(_) => Err(Met::Memory),
+    }
 }
 
 /// Two texts are compared.
@@ -122,14 +184,18 @@ pub fn compare_texts(
     left: &Arg,
     right: &Arg,
     to: u32,
-) -> Turn {
+) -> Turn
+    ensures { Steps result machine.old machine.new (λ w. acts w (machine_of machine.old) (act.CompareTexts op left.now right.now to)) }
+{
     match text_order(machine, left, right) {
         Ok(order) => machine.set_truth(to, holds(op, order)),
         Err(_) => Turn::WantsMemory,
     }
 }
 
-fn text_order(machine: &Machine<'_>, left: &Arg, right: &Arg) -> Result<Ordering, NoMemory> {
+fn text_order(machine: &Machine<'_>, left: &Arg, right: &Arg) -> Result<Ordering, NoMemory>
+    ensures { IfOk result (λ order. (op : Comparison) → steps.compare_texts (machine_of machine.now) op left.now right.now ≡ to (truth (holds op order))) }
+{
     Ok(
         machine
             .text(left)?
@@ -139,36 +205,58 @@ fn text_order(machine: &Machine<'_>, left: &Arg, right: &Arg) -> Result<Ordering
 }
 
 /// Whether two values of any type are equal, or are not.
-pub fn equal(machine: &mut Machine<'_>, wanted: bool, left: &Arg, right: &Arg, to: u32) -> Turn {
+pub fn equal(machine: &mut Machine<'_>, wanted: bool, left: &Arg, right: &Arg, to: u32) -> Turn
+    ensures { Steps result machine.old machine.new (λ w. acts w (machine_of machine.old) (act.Equal wanted left.now right.now to)) }
+{
     match are_equal(machine, left, right) {
         Ok(equal) => machine.set_truth(to, equal == wanted),
         Err(met) => machine.meet(met),
     }
 }
 
-fn are_equal(machine: &Machine<'_>, left: &Arg, right: &Arg) -> Result<bool, Met> {
+fn are_equal(machine: &Machine<'_>, left: &Arg, right: &Arg) -> Result<bool, Met>
+    ensures { (wanted : Bool) (w : World) → IsIn w machine.now → IsGivenAs (λ same. truth (beq same wanted)) result (steps.are_equal w (machine_of machine.now) wanted left.now right.now) }
+{
     let (a, b) = (machine.look(left)?, machine.look(right)?);
     Ok(go_maps::equal(machine.alloc, &machine.code.types, a, b)?)
 }
 
 /// An integer becomes its negative.
-pub fn negate(machine: &mut Machine<'_>, kind: IntKind, operand: &Arg, to: u32) -> Turn {
+pub fn negate(machine: &mut Machine<'_>, kind: IntKind, operand: &Arg, to: u32) -> Turn
+    ensures { Steps result machine.old machine.new (λ w. acts w (machine_of machine.old) (act.Negate kind operand.now to)) }
+{
     match machine.int(operand) {
-        Ok(number) => machine.set_int(to, convert_int(kind, number.wrapping_neg())),
+        Ok(number) => machine.set_int(to, negative(kind, number)),
         Err(_) => Turn::WantsMemory,
     }
+}
+
+fn negative(kind: IntKind, number: i128) -> i128
+    ensures { result ≡ wrapped kind (pos 0 -ℤ number) }
+{
+    convert_int(kind, number.wrapping_neg())
 }
 
 /// Each bit of an integer turns.
-pub fn complement(machine: &mut Machine<'_>, kind: IntKind, operand: &Arg, to: u32) -> Turn {
+pub fn complement(machine: &mut Machine<'_>, kind: IntKind, operand: &Arg, to: u32) -> Turn
+    ensures { Steps result machine.old machine.new (λ w. acts w (machine_of machine.old) (act.Complement kind operand.now to)) }
+{
     match machine.int(operand) {
-        Ok(number) => machine.set_int(to, convert_int(kind, !number)),
+        Ok(number) => machine.set_int(to, turned(kind, number)),
         Err(_) => Turn::WantsMemory,
     }
 }
 
+fn turned(kind: IntKind, number: i128) -> i128
+    ensures { result ≡ wrapped kind (negsuc 0 -ℤ number) }
+{
+    convert_int(kind, !number)
+}
+
 /// A truth value turns.
-pub fn not(machine: &mut Machine<'_>, operand: &Arg, to: u32) -> Turn {
+pub fn not(machine: &mut Machine<'_>, operand: &Arg, to: u32) -> Turn
+    ensures { Steps result machine.old machine.new (λ w. acts w (machine_of machine.old) (act.Not operand.now to)) }
+{
     match machine.truth(operand) {
         Ok(truth) => machine.set_truth(to, !truth),
         Err(_) => Turn::WantsMemory,

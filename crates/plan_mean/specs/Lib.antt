@@ -1,6 +1,7 @@
 pub mod BuiltIns
 pub mod Calls
 pub mod Channels
+pub mod MapCalls
 pub mod Operands
 pub mod Ranges
 pub mod Runs

@@ -1,7 +1,7 @@
 -- Ranges over strings and maps. Go specification, "For statements with range clause". The state of a range over a map
 -- keeps the numbers of the entries that may still come, the last first.
-use Rattle.std.specs.Prelude.{ℕ, ◌-◌, Bool, true, false, List, [], ◌∷◌, Option, Some, None, is_some, length, slice_index}
-use Rattle.std.specs.Prelude.{if◌then◌else◌, option_map, suc, take, ◌++◌, drop, reverse}
+use Rattle.std.specs.Prelude.{ℕ, ◌-◌, Bool, true, false, List, [], ◌∷◌, Option, Some, None, is_some, length}
+use Rattle.std.specs.Prelude.{slice_index, if◌then◌else◌, option_map, suc, take, ◌++◌, drop, reverse}
 use Rattle.std.specs.List.{filter}
 use Rattle.go_base.specs.declared.ids.MapId.{MapId}
 use Rattle.go_maps.specs.Entries.{entry_at}

@@ -1,5 +1,5 @@
 -- Runs of planned code.
-use Rattle.std.specs.Prelude.{◌≡◌, ℕ, zero, suc, List, [], ◌∷◌, map, false, None}
+use Rattle.std.specs.Prelude.{◌≡◌, ℕ, zero, suc, ◌+◌, List, [], ◌∷◌, ◌++◌, map, false, None}
 use Rattle.go_base.specs.declared.ending.Ending.{Ending}
 use Rattle.go_sched.specs.Goroutines.{started}
 use Rattle.go_value.specs.Values.{value_of}
@@ -42,3 +42,21 @@ OneOutcome =
     (w : World) (choices : List ℕ) (bound : ℕ) (output output' : List ℕ) (ending ending' : Ending) →
     IsPlannedRun w choices bound output ending → IsPlannedRun w choices bound output' ending' →
     (output ≡ output') × (ending ≡ ending')
+
+-- ---- what was written before a run stands in front, and changes nothing
+
+abbrev pub behind : List ℕ → Machine → Machine
+behind front m = record m { output = front ++ m.output }
+
+abbrev pub next_behind : List ℕ → Next → Next
+next_behind front (goes m) = goes (behind front m)
+next_behind front (ends ending output) = ends ending (front ++ output)
+next_behind front stuck = stuck
+
+abbrev pub FrontsStand : Type 0
+FrontsStand =
+    (w : World) (front : List ℕ) (n : ℕ) (m : Machine) → steps n w (behind front m) ≡ next_behind front (steps n w m)
+
+-- some steps, and then more
+abbrev pub StepsFollow : Type 0
+StepsFollow = (w : World) (n k : ℕ) (m : Machine) → steps (n + k) w m ≡ then_step (steps k w) (steps n w m)

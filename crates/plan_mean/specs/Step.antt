@@ -46,6 +46,7 @@ use Rattle.go_value.specs.declared.values.Value.{Value}
 use Rattle.plan_mean.specs.BuiltIns.{built_in_call}
 use Rattle.plan_mean.specs.Calls.{readied, Entry, enters, entry_of, returned, with_new}
 use Rattle.plan_mean.specs.Channels.{received, selected, cases_of, came_to, with_sched}
+use Rattle.plan_mean.specs.MapCalls.{looked_up, updated}
 use Rattle.plan_mean.specs.Operands.{look, look_at_all, with_one, with_two, with_integer, with_bound}
 use Rattle.plan_mean.specs.Ranges.{map_turn, next_of_text}
 use Rattle.plan_mean.specs.Slots.{slot_in}
@@ -58,7 +59,7 @@ use Rattle.ssa_mean.specs.Arithmetic.{holds}
 use Rattle.ssa_mean.specs.BuiltIns.{Done}
 use Rattle.ssa_mean.specs.Comes.{Comes, to, faults, nowhere, of_option, of_result, then_to, where_some}
 use Rattle.ssa_mean.specs.Conversions.{Stores, kept, text_of_items, slice_of_text}
-use Rattle.ssa_mean.specs.MapCalls.{looked_up, updated, made_map}
+use Rattle.ssa_mean.specs.MapCalls.{made_map}
 use Rattle.ssa_mean.specs.Making.{Channels, value_or, assertion, pointers_of, is_nil_of, made_chan, made_slice}
 use Rattle.ssa_mean.specs.Places.{load, assigned, new_pointer, field_of, field_address, index_of}
 use Rattle.ssa_mean.specs.Places.{index_address, part_between}
@@ -269,13 +270,13 @@ calls w m slot it (of_built_in called) = calls_built_in w m slot called it.argum
 calls w m slot it of_nil = meets w fault.NilPointer m
 
 -- a call that is readied is made, or put off
+abbrev pub goes_with_call : World → Machine → (Later → Next) → Comes Later → Next
+goes_with_call w m next (to it) = next it
+goes_with_call w m next (faults it) = meets w it m
+goes_with_call w m next nowhere = stuck
+
 abbrev pub with_later : World → Machine → PlannedCall → (Later → Next) → Next
-with_later w m call next = reached (readied w m call.callee call.arguments.items)
-  where
-    reached : Comes Later → Next
-    reached (to it) = next it
-    reached (faults it) = meets w it m
-    reached nowhere = stuck
+with_later w m call next = goes_with_call w m next (readied w m call.callee call.arguments.items)
 
 abbrev pub puts_off : Later → List Frame → Machine → Next
 puts_off it [] m = stuck

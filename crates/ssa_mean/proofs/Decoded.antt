@@ -61,6 +61,11 @@ narrow : (text : List ℕ) (found : Option ℕ) → 0 < length text
 narrow text (Some c) some = let bounds = piece-bounds text some in (bounds.0, bounds.2)
 narrow text None some = (omega arith, omega (arith, some))
 
+-- the first code point has a byte or more, and none past the end
+pub width_within : (text : List ℕ) → 0 < length text
+    → (1 ≤ (first_rune text).width) × ((first_rune text).width ≤ length text)
+width_within text some = narrow text (decoded text).char some
+
 shorter : (text : List ℕ) (n : ℕ) → 0 < length text → length text ≤ suc n
     → length (drop (first_rune text).width text) ≤ n
 shorter text n some le =

@@ -1,10 +1,10 @@
 pub mod Outcomes
 mod HandMade
-mod Tied
+pub mod Tied
 pub mod Outputs
-mod Fronts
+pub mod Fronts
 mod Sampled
 mod Slotted
-mod Decoded
-mod Mapped
-mod Converted
+pub mod Decoded
+pub mod Mapped
+pub mod Converted

@@ -10,7 +10,7 @@ returns-in-Some c =
     subst (λ xs. IsItemAt xs c.saturating_add.result c.get.result) c.deref.ensures.value c.get.ensures.lookup in
     let small : length slots.items < 2 ^ 63 = omega (arith, slots.ok.0, slots.ok.1, slots.small) in
     get_some slots.items c.args.self.now.base c.args.slot c.saturating_add.result c.args.self.now.bases.items c.get.result
-    c.in-Some.place c.as_ref.result item c.in-Some.is c.as_ref.ensures.value c.saturating_add.ensures small
+    c.in-Some.place c.as_ref.result item c.in-Some.is c.as_ref.ensures.value c.saturating_add.ensures small c.args.self.now.empty
 
 pub returns-in-None : goal.returns-in-None
 returns-in-None c =

@@ -1,0 +1,4 @@
+pub mod Done
+pub mod Operations
+pub mod Received
+pub mod Recovered

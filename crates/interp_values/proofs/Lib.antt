@@ -1,0 +1,9 @@
+pub mod Followed
+pub mod Interfaces
+pub mod Looked
+pub mod Made
+pub mod Operations
+pub mod Outcomes
+pub mod PartValues
+pub mod Stepped
+pub mod Turned

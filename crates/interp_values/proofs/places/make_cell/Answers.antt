@@ -1,0 +1,11 @@
+use Rattle.interp_state.proofs.Turns.{made}
+use Rattle.interp_state.specs.Machines.{machine_of}
+use Rattle.plan_mean.specs.Step.{acts, new_cell}
+use Rattle.ssa_mean.specs.Comes.{to}
+use Rattle.interp_values.proofs.places.make_cell.Goals as goal
+
+pub returns : goal.returns
+unfolding acts
+returns c =
+    made c.args.to c.made_cell-made.result (to (new_cell (machine_of c.args.machine.now) c.args.zero.now)) c.give.result
+    c.args.machine.now c.made_cell-made.new.machine c.give.new.self c.give.ensures c.made_cell-made.ensures

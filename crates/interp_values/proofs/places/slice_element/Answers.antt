@@ -1,0 +1,14 @@
+use Rattle.interp_state.proofs.Turns.{given}
+use Rattle.interp_state.specs.Machines.{machine_of}
+use Rattle.std.proofs.Common.{None}
+use Rattle.plan_mean.specs.Operands.{with_two}
+use Rattle.plan_mean.specs.Step.{acts}
+use Rattle.ssa_mean.specs.Places.{index_address}
+use Rattle.interp_values.proofs.places.slice_element.Goals as goal
+
+pub returns : goal.returns
+unfolding acts
+returns c =
+    given c.args.to c.element_of-element.result
+    (with_two (machine_of c.args.machine.now) c.args.operand.now c.args.index.now (index_address None))
+    c.give.result c.args.machine.now c.give.new.self c.give.ensures c.element_of-element.ensures
