@@ -29,7 +29,7 @@ use Rattle.ssa_ir.specs.declared.ops.Op.TheVariants as op
 use Rattle.ssa_ir.specs.declared.ops.SelectCase.{SelectCase}
 use Rattle.ssa_mean.specs.Answers.{Answers}
 use Rattle.ssa_mean.specs.BuiltIns.{Done, built_in_call}
-use Rattle.ssa_mean.specs.Calls.{Entry, enters, enters_kind, enters_source, enters_external, exits, pushed, entered, entry_of, most_passed}
+use Rattle.ssa_mean.specs.Calls.{Entry, enters, enters_kind, enters_source, enters_external, exits, pushed, fits_entry, entered, entry_of, most_passed}
 use Rattle.ssa_mean.specs.Channels.{woken, all_woken, completed, answered, came_to, received, selected, with_sched, cases_of}
 use Rattle.ssa_mean.specs.Comes.{Comes, to, faults, nowhere}
 use Rattle.ssa_mean.specs.Conversions.{Stores}
@@ -133,13 +133,18 @@ unwound_grows code m g top below returning = goes_grows _ _ (stays m.output)
 
 -- ---- calls
 
-pushed_grows : (frame : Frame) (m : Machine) → Grows m.output (pushed frame m)
-pushed_grows frame m =
-    some_grows m.output (λ (g : Goroutine). goes (with_frames g (frame ∷ g.frames) m)) (current m) (λ g. goes_grows _ _ (stays m.output))
+pushed_grows : (function : Function) (entry : Entry) (m : Machine) → Grows m.output (pushed function entry m)
+pushed_grows function entry m =
+    either_grows m.output (fits_entry function entry) _ _
+    (some_grows m.output (λ (g : Goroutine). goes (with_frames g (entered function entry ∷ g.frames) m)) (current m)
+    (λ g. goes_grows _ _ (stays m.output)))
+    (stuck_grows _)
 
-source_grows : (code : Code) (m : Machine) (g : Goroutine) (frame : Frame) → Grows m.output (enters_source code m g frame)
-source_grows code m g frame =
-    either_grows m.output _ _ _ (ends_grows _ _ _ (stays m.output)) (tick_grows m.ticks m _ (λ k. pushed_grows frame (record m { ticks = k })))
+source_grows : (code : Code) (m : Machine) (g : Goroutine) (function : Function) (entry : Entry)
+    → Grows m.output (enters_source code m g function entry)
+source_grows code m g function entry =
+    either_grows m.output _ _ _ (ends_grows _ _ _ (stays m.output))
+    (tick_grows m.ticks m _ (λ k. pushed_grows function entry (record m { ticks = k })))
 
 exits_grows : (m : Machine) (arguments : List Val) → Grows m.output (exits m arguments)
 exits_grows m [] = stuck_grows _
@@ -153,9 +158,9 @@ external_grows code m function arguments =
 
 kind_grows : (code : Code) (m : Machine) (g : Goroutine) (function : Function) (of : FunctionKind) (entry : Entry)
     → Grows m.output (enters_kind code m g function of entry)
-kind_grows code m g function kind.Source entry = source_grows code m g (entered function entry)
+kind_grows code m g function kind.Source entry = source_grows code m g function entry
 kind_grows code m g function kind.External entry = external_grows code m function entry.arguments
-kind_grows code m g function _ entry = pushed_grows (entered function entry) m
+kind_grows code m g function _ entry = pushed_grows function entry m
 
 enters_grows : (code : Code) (m : Machine) (entry : Entry) → Grows m.output (enters code m entry)
 enters_grows code m entry =

@@ -125,9 +125,17 @@ entered function entry =
       chain = entry.chain;
     })
 
+-- as many arguments as parameters, and a value for each free variable
+abbrev pub fits_entry : Function → Entry → Bool
+fits_entry function entry =
+    (length entry.arguments == length function.params) && (length entry.free == length function.free)
+
 -- a frame on top
-abbrev pub pushed : Frame → Machine → Next
-pushed frame m = where_there (λ g. goes (with_frames g (frame ∷ g.frames) m)) (current m)
+abbrev pub pushed : Function → Entry → Machine → Next
+pushed function entry m =
+    if fits_entry function entry
+    then where_there (λ g. goes (with_frames g (entered function entry ∷ g.frames) m)) (current m)
+    else stuck
 
 -- a goroutine holds at most 100,000 frames of source functions
 abbrev pub most_frames : ℕ
@@ -137,9 +145,9 @@ abbrev pub is_full : Code → Goroutine → Bool
 is_full code g = nat_le most_frames (length (filter (is_source code) g.frames))
 
 -- the limit is asked first, and then a tick is spent
-abbrev pub enters_source : Code → Machine → Goroutine → Frame → Next
-enters_source code m g frame =
-    if is_full code g then ends ending.StackOverflow m.output else spends m (pushed frame)
+abbrev pub enters_source : Code → Machine → Goroutine → Function → Entry → Next
+enters_source code m g function entry =
+    if is_full code g then ends ending.StackOverflow m.output else spends m (pushed function entry)
 
 -- `os.Exit`: its argument modulo 256
 abbrev pub exits : Machine → List Val → Next
@@ -152,9 +160,9 @@ enters_external code m function arguments =
     if bytes_eq function.name (codes "os.Exit") then exits m arguments else switches code point.Yield m
 
 abbrev pub enters_kind : Code → Machine → Goroutine → Function → FunctionKind → Entry → Next
-enters_kind code m g function kind.Source entry = enters_source code m g (entered function entry)
+enters_kind code m g function kind.Source entry = enters_source code m g function entry
 enters_kind code m g function kind.External entry = enters_external code m function entry.arguments
-enters_kind code m g function _ entry = pushed (entered function entry) m
+enters_kind code m g function _ entry = pushed function entry m
 
 abbrev pub enters : Code → Machine → Entry → Next
 enters code m entry =

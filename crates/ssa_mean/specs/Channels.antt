@@ -25,7 +25,7 @@ use Rattle.ssa_ir.specs.declared.ops.SelectCase.{SelectCase}
 use Rattle.ssa_ir.specs.declared.ops.SelectCase.TheVariants as case
 use Rattle.ssa_mean.specs.Making.{value_or}
 use Rattle.ssa_mean.specs.Operands.{function_at, value_of, element_type}
-use Rattle.ssa_mean.specs.State.{Frame, Goroutine, Machine, Next, where_there, with_frames}
+use Rattle.ssa_mean.specs.State.{Frame, FrameState, running, Goroutine, Machine, Next, where_there, with_frames}
 use Rattle.ssa_mean.specs.State.{with_goroutine, with_result, advanced}
 use Rattle.ssa_mean.specs.Unwinding.{meets, switches}
 use Rattle.ssa_mean.specs.Zeros.{zero_where}
@@ -89,18 +89,33 @@ abbrev pub fault_of : How → Option Fault
 fault_of operations.send_on_closed = Some fault.SendOnClosed
 fault_of _ = None
 
+abbrev pub fault_after : How → Option Fault → Option Fault
+fault_after operations.send_on_closed before = fault_of operations.send_on_closed
+fault_after _ before = before
+
 abbrev pub instr_at : Function → Frame → Option Instr
 instr_at function frame = slice_get (instrs_at function frame.block) frame.place
+
+-- one whose channel was closed while it sent gets nothing, and meets a fault as it goes on
+abbrev pub given_by : Code → Function → ℕ → How → Op → Option (Option Val)
+given_by code function index operations.send_on_closed op = Some None
+given_by code function index how op = gives_done code function index (received_by how) op
 
 abbrev pub gone_behind : Code → Function → Woken → Frame → Instr → Option Frame
 gone_behind code function it frame instr =
     option_map (λ value. advanced (with_result instr.register value frame))
-    (gives_done code function it.index (received_by it.how) instr.op)
+    (given_by code function it.index it.how instr.op)
+
+-- only a frame that runs waits
+abbrev pub where_running : {A : Type 0} → FrameState → Option A → Option A
+where_running running it = it
+where_running _ it = None
 
 abbrev pub woken_frame : Code → Woken → Frame → Option Frame
 woken_frame code it frame =
-    option_and_then (λ function. option_and_then (gone_behind code function it frame) (instr_at function frame))
-    (function_at code frame.function)
+    where_running frame.state
+    (option_and_then (λ function. option_and_then (gone_behind code function it frame) (instr_at function frame))
+    (function_at code frame.function))
 
 abbrev pub woken_frames : Code → Woken → List Frame → Option (List Frame)
 woken_frames code it [] = None
@@ -108,7 +123,7 @@ woken_frames code it (top ∷ below) = option_map (λ top. top ∷ below) (woken
 
 abbrev pub woken_goroutine : Code → Woken → Goroutine → Option Goroutine
 woken_goroutine code it g =
-    option_map (λ frames. record { frames = frames; begin = g.begin; fault = fault_of it.how })
+    option_map (λ frames. record g { frames = frames; fault = fault_after it.how g.fault })
     (woken_frames code it g.frames)
 
 abbrev pub woken : Code → Woken → Machine → Option Machine

@@ -11,7 +11,7 @@ use Rattle.go_store.specs.Stores.{Stored}
 use Rattle.go_type.specs.Selector.{is_interface}
 use Rattle.go_type.specs.Sizes.{leaves_to}
 use Rattle.go_type.specs.Table.{Table}
-use Rattle.go_value.specs.Interfaces.{is_interface_type, bound_to, asserted, dynamic_type}
+use Rattle.go_value.specs.Interfaces.{is_interface_type, bound_to, dynamic_type}
 use Rattle.go_value.specs.Values.{Val, none, part, truth, slice, pointer, chan_number, nil_interface, dynamic, closure}
 use Rattle.go_value.specs.Values.{parts}
 use Rattle.go_value.specs.declared.address.Pointer.{Pointer}
@@ -43,15 +43,16 @@ value_or comma_ok None other = with_ok comma_ok other false
 
 -- ---- "Type assertions"
 
--- whether a value of a dynamic type is one of a type
-abbrev pub is_of : Table → Answers → TypeId → TypeId → Bool
-is_of types answers of wanted =
-    if is_interface_type types wanted then answers.implements of wanted else of.number == wanted.number
+-- a value in an interface as one of a type: that of this very type, or itself where the type is an interface that is
+-- implemented
+abbrev pub held_by : Table → Answers → TypeId → Val → TypeId → Option Val
+held_by types answers of it wanted =
+    if of.number == wanted.number then Some it
+    else (if is_interface_type types wanted
+    then (if answers.implements of wanted then Some (dynamic of it) else None) else None)
 
--- a value in an interface as one of a type, where it is one
 abbrev pub held_as : Table → Answers → Val → TypeId → Option Val
-held_as types answers (dynamic of it) wanted =
-    if is_of types answers of wanted then Some (asserted types (dynamic of it) wanted) else None
+held_as types answers (dynamic of it) wanted = held_by types answers of it wanted
 held_as types answers _ wanted = None
 
 abbrev pub assertion : Bool → Val → TypeId → Option Val → Val → Comes Val

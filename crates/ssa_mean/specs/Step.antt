@@ -185,11 +185,12 @@ abbrev pub phi_value : Site → Op → Option Val
 phi_value s (op.Phi edges) = edge_value s edges
 phi_value s _ = None
 
--- the frame with the values of the phis among the instructions
+-- the frame with the values of the phis among the instructions; the first is written last
 abbrev pub with_phis : Site → List Instr → Frame → Option Frame
 with_phis s [] frame = Some frame
 with_phis s (instr ∷ instrs) frame =
-    option_and_then (λ it. with_phis s instrs (with_result instr.register (Some it) frame)) (phi_value s instr.op)
+    option_and_then (λ it. option_map (with_result instr.register (Some it)) (with_phis s instrs frame))
+    (phi_value s instr.op)
 
 abbrev pub front_phis : List Instr → List Instr
 front_phis [] = []
@@ -258,6 +259,11 @@ with_later s nowhere next = stuck
 abbrev pub defers_call : Site → Later → Next
 defers_call s it =
     goes (with_frames s.goroutine (advanced (record (s.frame) { defers = it ∷ s.frame.defers }) ∷ s.below) s.machine)
+
+-- a frame that put calls off makes them now
+abbrev pub returning_where : Frame → List Later → Frame
+returning_where frame [] = frame
+returning_where frame (it ∷ others) = record frame { state = returning }
 
 abbrev pub starts_call : Site → Later → Next
 starts_call s it = switches s.code point.After (with_new it (behind_call s))
@@ -348,7 +354,7 @@ acts s register (op.Call call) =
 acts s register (op.Go call) = with_later s (readied s.code s.function s.frame call) (starts_call s)
 acts s register (op.Defer call) = with_later s (readied s.code s.function s.frame call) (defers_call s)
 acts s register op.RunDefers =
-    goes (with_frames s.goroutine (advanced (record (s.frame) { state = returning }) ∷ s.below) s.machine)
+    goes (with_frames s.goroutine (advanced (returning_where s.frame s.frame.defers) ∷ s.below) s.machine)
 acts s register (op.Send channel it) =
     where_there (λ channel. where_there (send_on s channel) (value s it)) (value s channel)
 acts s register (op.Receive channel comma_ok) =
