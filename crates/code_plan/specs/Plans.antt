@@ -1,5 +1,5 @@
 -- The plan of a code: each instruction as a step, each function with its blocks.
-use Rattle.std.specs.Prelude.{ℕ, ◌+◌, ◌<◌, Bool, true, List, [], ◌∷◌, ◌++◌, Option, Some, None, drop, length, map}
+use Rattle.std.specs.Prelude.{ℕ, ◌+◌, ◌<◌, Bool, true, false, List, [], ◌∷◌, ◌++◌, Option, Some, None, drop, length, map}
 use Rattle.std.specs.Prelude.{if◌then◌else◌, codes}
 use Rattle.std.specs.List.{AllZip, find}
 use Rattle.std.specs.Option.{option_map, option_map_or}
@@ -43,7 +43,7 @@ pub data Goes (code : Code) (function : Function) (marks : Marks) : Pending → 
   -- a load that is made later makes no step
   late : (pending last : Pending) (instr : Instr) (instrs : List Instr) (steps : List Step) (register cell : ℕ)
       → instr.op ≡ op.Load (operand.Register cell) → instr.register ≡ Some register
-      → marks.late register ≡ true → marks.cell cell ≡ true
+      → marks.late register ≡ true → marks.cell cell ≡ true → marks.late cell ≡ false
       → Goes code function marks (pending ++ (register, cell) ∷ []) instrs steps last
       → Goes code function marks pending (instr ∷ instrs) steps last
   made : (pending last : Pending) (instr : Instr) (instrs : List Instr) (step : Step) (steps : List Step)

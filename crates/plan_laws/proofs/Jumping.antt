@@ -1,0 +1,2 @@
+-- Jumps.
+use Rattle.std.specs.Prelude.{ℕ}

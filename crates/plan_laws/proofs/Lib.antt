@@ -1,0 +1,12 @@
+pub mod Acting
+pub mod Alike
+pub mod Calling
+pub mod Going
+pub mod Jumping
+pub mod Laws
+pub mod Reading
+pub mod Stepping
+pub mod Throwing
+pub mod Unwinding
+pub mod Values
+pub mod Waiting

@@ -1,0 +1,2 @@
+-- Steps.
+use Rattle.std.specs.Prelude.{ℕ}
