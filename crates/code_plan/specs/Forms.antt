@@ -1,5 +1,6 @@
 -- The steps of instructions: of each the form that its types ask for.
 use Rattle.std.specs.Prelude.{ℕ, suc, Bool, true, false, List, [], ◌∷◌, Option, Some, None, is_some}
+use Rattle.std.specs.Prelude.{◌≡◌}
 use Rattle.std.specs.List.{AllZip}
 use Rattle.std.specs.Option.{option_and_then, option_map}
 use Rattle.code_plan.specs.Calls.{IsCall, counted_leaves}

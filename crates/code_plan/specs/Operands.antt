@@ -1,5 +1,6 @@
 -- Operands of instructions, as a plan has them.
 use Rattle.std.specs.Prelude.{ℕ, ◌<◌, false, true, List, Option, Some, None, length}
+use Rattle.std.specs.Prelude.{◌≡◌, []}
 use Rattle.std.specs.List.{AllZip}
 use Rattle.std.specs.Option.{option_map}
 use Rattle.code_plan.specs.Registers.{Site, late_at, free_slot, register_slot}

@@ -1,4 +1,5 @@
 -- Where both machines act: the frame that runs stands at an instruction, and the planned frame at the step made of it.
+use Rattle.std.specs.Prelude.{◌≡◌}
 use Rattle.std.specs.Prelude.{ℕ, Bool, true, false, List, [], ◌∷◌, Option, Some, None, slice_get}
 use Rattle.std.specs.Option.{option_map}
 use Rattle.code_plan.specs.Registers as registers
@@ -77,10 +78,15 @@ pub record IsActing (k : Known) (a : Acting) (step : Step) : Type 0 where
 
 -- ---- what a register may get
 
-abbrev pub MayHold : registers.Marks → Option ℕ → Option Val → Type 0
-MayHold marks (Some register) (Some it) =
-    (marks.late register ≡ false) × (marks.cell register ≡ true → IsWhole it)
-MayHold marks _ _ = Unit {0}
+-- one that points to a cell gets a pointer to a cell, and no loads are pending then
+abbrev pub MayPoint : Bool → Pending → Val → Type 0
+MayPoint false pending it = Unit {0}
+MayPoint true pending it = IsWhole it × (pending ≡ [])
+
+abbrev pub MayHold : registers.Marks → Pending → Option ℕ → Option Val → Type 0
+MayHold marks pending (Some register) (Some it) =
+    (marks.late register ≡ false) × MayPoint (marks.cell register) pending it
+MayHold marks pending _ _ = Unit {0}
 
 -- the slot of a register, where there is one
 abbrev pub IsSlot : Function → Option ℕ → Option ℕ → Type 0
@@ -140,3 +146,6 @@ abbrev pub FollowsWhere : Known → Option codes.Machine → Option plans.Machin
 FollowsWhere k None it = Unit {0}
 FollowsWhere k it None = Unit {0}
 FollowsWhere k (Some m) (Some q) = IsMachine k [] m q
+
+pub settled_machine : (k : Known) (m : codes.Machine) (q : plans.Machine) → IsSettled k m q → IsMachine k [] m q
+settled_machine = ?

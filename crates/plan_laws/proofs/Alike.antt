@@ -1,4 +1,5 @@
 -- A machine that runs a code, and one that runs its plan, side by side.
+use Rattle.std.specs.Prelude.{◌≡◌}
 use Rattle.std.specs.Prelude.{ℕ, ◌+◌, ◌<◌, ◌≤◌, ◌==◌, Bool, true, false, List, [], ◌∷◌, Option, Some, None}
 use Rattle.std.specs.Prelude.{drop, filter, is_none, is_some, length, map, reverse, slice_get, if◌then◌else◌}
 use Rattle.std.specs.List.{AllZip}
@@ -194,7 +195,7 @@ MayGet marks (Some register) = (marks.late register ≡ false) × (marks.cell re
 
 -- where the results go
 pub record IsResult (k : Known) (register slot : Option ℕ) (caller : codes.Frame) : Type 0 where
-  pub slot : option_and_then (λ function. option_map (register_slot function) register)
+  pub goes_to : option_and_then (λ function. option_map (register_slot function) register)
       (function_at k.code caller.function) ≡ slot
   pub may : MayGet (k.marks caller.function.number) register
 

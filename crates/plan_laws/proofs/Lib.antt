@@ -3,7 +3,7 @@ pub mod Alike
 pub mod Calling
 pub mod Going
 pub mod Jumping
-pub mod Laws
+pub mod Ends
 pub mod Reading
 pub mod Stepping
 pub mod Throwing

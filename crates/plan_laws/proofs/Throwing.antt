@@ -1,5 +1,5 @@
 -- Panics in both machines.
-use Rattle.std.specs.Prelude.{ℕ, ◌≡◌, List, ◌∷◌, Option}
+use Rattle.std.specs.Prelude.{ℕ, ◌≡◌, List, [], ◌∷◌, Option}
 use Rattle.code_plan.specs.declared.steps.Step.{Step}
 use Rattle.go_value.specs.Values.{Val}
 use Rattle.go_value.specs.declared.faults.Fault.{Fault}
@@ -30,3 +30,7 @@ faults_alike = ?
 pub panics_alike : (k : Known) → IsKnown k → (a : Acting) (step : Step) → IsActing k a step → (it : Val)
     → Follows k (steps.panics_with k.code a.m it) (planned.panics_with k.w (acting_on a) it)
 panics_alike = ?
+
+pub panics_on_alike : (k : Known) → IsKnown k → (m : codes.Machine) (q : plans.Machine) → IsMachine k [] m q → (it : Val)
+    → Follows k (steps.panics_with k.code m it) (planned.panics_with k.w q it)
+panics_on_alike = ?

@@ -5,7 +5,7 @@ use Rattle.go_sched.specs.declared.scheduling.Point.{Point}
 use Rattle.go_value.specs.Values.{Val}
 use Rattle.plan_laws.proofs.Acting.{IsSettled, FollowsWhere}
 use Rattle.plan_laws.proofs.Alike.{Known, IsKnown, IsMachine, Follows}
-use Rattle.plan_laws.proofs.Values.{IsAlike}
+use Rattle.plan_laws.proofs.Values.{IsAlike, IsAlikeStaying}
 use Rattle.plan_mean.specs.Channels as planned_channels
 use Rattle.plan_mean.specs.State as plans
 use Rattle.plan_mean.specs.Step as planned
@@ -29,18 +29,18 @@ woken_alike = ?
 
 -- a close by a call: the machine as it is where the call faults, and as it goes on; in the plan both are one
 pub close_alike : (k : Known) → IsKnown k → (m next : codes.Machine) (q : plans.Machine) → IsMachine k [] next q
-    → (Follows-fault : (it : _) → Follows k (unwinding.meets k.code m it) (planned_unwinding.meets k.w it q))
+    → (faulted : (it : _) → Follows k (unwinding.meets k.code m it) (planned_unwinding.meets k.w it q))
     → m.sched ≡ next.sched → (arguments : List Val)
     → Follows k (steps.close_of k.code m next arguments) (planned.close_of k.w q arguments)
 close_alike = ?
 
-pub send_alike : (channel it : Operand) → IsAlike (op.Send channel it)
+pub send_alike : (channel it : Operand) → IsAlikeStaying (op.Send channel it)
 send_alike = ?
 
-pub receive_alike : (channel : Operand) (comma_ok : Bool) → IsAlike (op.Receive channel comma_ok)
+pub receive_alike : (channel : Operand) (comma_ok : Bool) → IsAlikeStaying (op.Receive channel comma_ok)
 receive_alike = ?
 
-pub select_alike : (blocking : Bool) (cases : List SelectCase) → IsAlike (op.Select blocking cases)
+pub select_alike : (blocking : Bool) (cases : List SelectCase) → IsAlikeStaying (op.Select blocking cases)
 select_alike = ?
 
 pub go_alike : (call : Call) → IsAlike (op.Go call)

@@ -98,7 +98,9 @@ instr_at function frame = slice_get (instrs_at function frame.block) frame.place
 
 -- one whose channel was closed while it sent gets nothing, and meets a fault as it goes on
 abbrev pub given_by : Code → Function → ℕ → How → Op → Option (Option Val)
-given_by code function index operations.send_on_closed op = Some None
+given_by code function index operations.send_on_closed (op.Send channel value) = Some None
+given_by code function index operations.send_on_closed (op.Select blocking cases) = Some None
+given_by code function index operations.send_on_closed op = None
 given_by code function index how op = gives_done code function index (received_by how) op
 
 abbrev pub gone_behind : Code → Function → Woken → Frame → Instr → Option Frame
