@@ -146,6 +146,3 @@ abbrev pub FollowsWhere : Known → Option codes.Machine → Option plans.Machin
 FollowsWhere k None it = Unit {0}
 FollowsWhere k it None = Unit {0}
 FollowsWhere k (Some m) (Some q) = IsMachine k [] m q
-
-pub settled_machine : (k : Known) (m : codes.Machine) (q : plans.Machine) → IsSettled k m q → IsMachine k [] m q
-settled_machine = ?

@@ -229,11 +229,20 @@ AreFrames k pending (frame ∷ below) rows (planned ∷ others) =
     IsTopFrame k pending frame (top_of rows) planned below × AreBelow k below (below_top rows) others
 AreFrames k pending _ rows _ = ⊥
 
+-- loads are pending in a frame that runs alone
+abbrev pub RunsWhere : Pending → codes.Frame → Type 0
+RunsWhere [] frame = Unit {0}
+RunsWhere (load ∷ loads) frame = frame.state ≡ running
+
+pub runs_where : (pending : Pending) (frame : codes.Frame) → frame.state ≡ running → RunsWhere pending frame
+runs_where [] frame runs = tt
+runs_where (load ∷ loads) frame runs = runs
+
 -- what is pending in the top frame
 abbrev pub ArePendingIn : Known → Stored → Pending → List codes.Frame → Type 0
 ArePendingIn k store pending [] = Unit {0}
 ArePendingIn k store pending (frame ∷ below) =
-    ArePending (k.marks frame.function.number) store pending frame
+    ArePending (k.marks frame.function.number) store pending frame × RunsWhere pending frame
 
 abbrev pub sources_in : Known → List codes.Frame → ℕ
 sources_in k frames = length (filter (is_source k.code) frames)
