@@ -19,7 +19,7 @@ use Rattle.ssa_mean.specs.Comes.{Comes, to, nowhere, and_then, then_to, of_optio
 use Rattle.ssa_mean.specs.Making.{pair_of}
 use Rattle.ssa_mean.specs.MapCalls.{entries_of}
 use Rattle.ssa_mean.specs.Places.{load, followed, index_address}
-use Rattle.ssa_mean.specs.Ranges.{Turn, range_of, text_turn, turn_among, standing}
+use Rattle.ssa_mean.specs.Ranges.{Turn, range_of, text_turn, map_turn}
 use Rattle.go_mean.specs.Expressions.{pointed_length}
 use Rattle.go_mean.specs.Places.{array_length}
 use Rattle.go_mean.specs.State.{Into, at_new, Piece, evaluate, begin_body, turn_values, RangeLoop}
@@ -87,7 +87,7 @@ abbrev pub produces : Stored → State → Val → Sought
 produces store sched (text_range bytes next) =
     if nat_lt next (length bytes) then taken_of (text_turn sched bytes next) else is_over
 produces store sched (map_range id left) =
-    sought_in (turn_among id (entries_of store id) None None sched (standing (entries_of store id) left))
+    sought_in (map_turn id (entries_of store id) None None sched left)
 produces store sched _ = is_lost
 
 abbrev pub sought : Stored → State → Ranging → Sought

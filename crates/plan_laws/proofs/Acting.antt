@@ -8,8 +8,7 @@ use Rattle.code_plan.specs.declared.steps.Step.{Step}
 use Rattle.go_sched.specs.Goroutines.{State}
 use Rattle.go_store.specs.Stores.{Stored}
 use Rattle.go_value.specs.Values.{Val}
-use Rattle.go_value.specs.declared.faults.Fault.{Fault}
-use Rattle.plan_laws.proofs.Alike.{IsMachine, IsGoroutine, Known, IsFrame, IsPlaced, ArePending, AreBelow, IsAround, IsLaterWhere, GetsResult, IsWhole, sources_in}
+use Rattle.plan_laws.proofs.Alike.{IsMachine, Known, IsFrame, IsPlaced, ArePending, AreBelow, IsAround, IsLaterWhere, GetsResult, IsWhole, sources_in}
 use Rattle.plan_mean.specs.Slots.{top_of, below_top}
 use Rattle.plan_mean.specs.State as plans
 use Rattle.ssa_ir.specs.declared.code.Function.{Function}
@@ -127,7 +126,6 @@ AgreeBy R _ _ = ⊥
 
 pub record IsChange (k : Known) (a : Acting) (step : Step) (c : Change) : Type 0 where
   pub current : c.sched.current ≡ a.m.sched.current
-  pub maps : c.store.maps ≡ []
   pub kept : ArePending (k.marks a.frame.function.number) c.store (behind step a.pending) a.frame
 
 -- ---- machines in which all frames stand where both go on, and nothing is pending

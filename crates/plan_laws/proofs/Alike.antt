@@ -1,7 +1,7 @@
 -- A machine that runs a code, and one that runs its plan, side by side.
 use Rattle.std.specs.Prelude.{◌≡◌}
-use Rattle.std.specs.Prelude.{ℕ, ◌+◌, ◌<◌, ◌≤◌, ◌==◌, Bool, true, false, List, [], ◌∷◌, Option, Some, None}
-use Rattle.std.specs.Prelude.{drop, filter, is_none, is_some, length, map, reverse, slice_get, if◌then◌else◌}
+use Rattle.std.specs.Prelude.{ℕ, ◌+◌, ◌<◌, ◌≤◌, Bool, true, false, List, [], ◌∷◌, Option, Some, None}
+use Rattle.std.specs.Prelude.{drop, filter, is_none, is_some, length, map, reverse, slice_get}
 use Rattle.std.specs.List.{AllZip}
 use Rattle.std.specs.Option.{option_and_then, option_flatten, option_map}
 use Rattle.code_plan.specs.Calls.{meant_by, with_counted}
@@ -14,12 +14,10 @@ use Rattle.code_plan.specs.declared.steps.PlannedFunction.{PlannedFunction}
 use Rattle.go_store.specs.Stores.{Stored, loaded}
 use Rattle.go_value.specs.Values.{Val, pointer}
 use Rattle.go_value.specs.declared.address.Pointer.{Pointer}
-use Rattle.plan_mean.specs.Calls as planned_calls
 use Rattle.plan_mean.specs.Slots.{top_of, below_top}
 use Rattle.plan_mean.specs.State as plans
 use Rattle.plan_mean.specs.State.{World}
 use Rattle.plan_mean.specs.Unwinding.{shown}
-use Rattle.plan_laws.specs.Runs.{MakesNoMaps}
 use Rattle.ssa_ir.specs.Blocks.{instrs_at}
 use Rattle.ssa_ir.specs.declared.code.Code.{Code}
 use Rattle.ssa_ir.specs.declared.code.Function.{Function}
@@ -50,7 +48,6 @@ pub record IsKnown (k : Known) : Type 0 where
       ≡ option_map (λ id. id.number) (method_of k.code it.receiver it.method.name it.method.«package»)
   pub error_string : k.w.plan.error_string ≡ error_string k.code
   pub naming : naming_of k.code ≡ k.w.naming
-  pub mapless : MakesNoMaps k.code
 
 -- ---- what is called
 
@@ -274,7 +271,6 @@ pub record IsAround (k : Known) (m : codes.Machine) (q : plans.Machine) : Type 0
   pub count : length q.others ≡ length m.goroutines
   pub starts : map (λ id. id.number) m.starts ≡ drop q.started k.w.plan.starts.items
   pub store : q.store ≡ m.store
-  pub mapless : m.store.maps ≡ []
   pub sched : q.sched ≡ m.sched
   pub ticks : q.ticks ≡ m.ticks
   pub output : q.output ≡ m.output

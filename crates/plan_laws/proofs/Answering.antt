@@ -77,7 +77,7 @@ with_sched sched m = record { store = m.store; sched = sched; ticks = m.ticks; o
 module _ (k : Known) (known : IsKnown k) (a : Acting) (step : Step) (acting : IsActing k a step) (sched : State)
     (kept : sched.current ≡ a.m.sched.current) where
   change : IsChange k a step (with_sched sched a.m)
-  change = record { current = kept; maps = acting.top.around.mapless; kept = kept_behind k a step acting }
+  change = record { current = kept; kept = kept_behind k a step acting }
 
   there : slice_get a.m.goroutines sched.current.number ≡ Some a.g
   there = ap (λ (id : GoId). slice_get a.m.goroutines id.number) kept ∙ acting.top.there
@@ -99,7 +99,7 @@ module _ (k : Known) (known : IsKnown k) (a : Acting) (step : Step) (acting : Is
   stays_at is_placed =
       record {
         around = around_current k (code_with (with_sched sched a.m) a.m) (plan_with (with_sched sched a.m) a.q)
-            (around_changed k a.m a.q acting.top.around (with_sched sched a.m) kept acting.top.around.mapless)
+            (around_changed k a.m a.q acting.top.around (with_sched sched a.m) kept)
             (record (a.q.current) { frames = a.planned ∷ a.others });
         g = a.g;
         there = there;
@@ -134,7 +134,7 @@ module _ (k : Known) (known : IsKnown k) (a : Acting) (step : Step) (acting : Is
           result = acting.top.result;
           below = acting.top.below;
           around =
-              around_changed k a.m a.q acting.top.around (with_sched sched a.m) kept acting.top.around.mapless;
+              around_changed k a.m a.q acting.top.around (with_sched sched a.m) kept;
           there = there;
           frames = acting.top.frames;
           begin = acting.top.begin;

@@ -1,6 +1,6 @@
 -- All but the goroutine that runs stays as it was, where that changes.
-use Rattle.std.proofs.Common.{◌≡◌, ℕ, List, Option, Some, ap, refl, sym, subst, ◌∙◌}
-use Rattle.std.specs.Prelude.{length, slice_get, slice_set}
+use Rattle.std.proofs.Common.{◌≡◌, Option, Some, sym, subst, ◌∙◌}
+use Rattle.std.specs.Prelude.{slice_get}
 use Rattle.plan_laws.proofs.Alike.{Known, IsAround, IsOther}
 use Rattle.plan_laws.proofs.Lists.{get_set, get_set_other, length_set}
 use Rattle.plan_mean.specs.State as plans
@@ -11,12 +11,11 @@ pub around_with : (k : Known) (m : codes.Machine) (q : plans.Machine) → IsArou
 around_with k m q around g current =
     record {
       others = λ n other. subst (λ (x : Option codes.Goroutine). IsOther k x (slice_get q.others n))
-      (sym (get_set_other m.goroutines m.sched.current.number n g other)) (around.others n other);
+          (sym (get_set_other m.goroutines m.sched.current.number n g other)) (around.others n other);
       holder = around.holder;
       count = around.count ∙ sym (length_set m.goroutines m.sched.current.number g);
       starts = around.starts;
       store = around.store;
-      mapless = around.mapless;
       sched = around.sched;
       ticks = around.ticks;
       output = around.output;
@@ -37,7 +36,6 @@ around_current k m q around current =
       count = around.count;
       starts = around.starts;
       store = around.store;
-      mapless = around.mapless;
       sched = around.sched;
       ticks = around.ticks;
       output = around.output;

@@ -1,10 +1,10 @@
 -- A goroutine without frames: it begins, goes on with what it is to call, or ends.
-use Rattle.std.proofs.Common.{◌≡◌, ℕ, suc, Bool, true, false, List, [], ◌∷◌, Option, Some, None, ap, refl, sym, subst, ◌∙◌}
+use Rattle.std.proofs.Common.{◌≡◌, ℕ, suc, Bool, true, false, List, [], ◌∷◌, Option, Some, None, ap, refl, sym, subst}
 use Rattle.std.specs.Prelude.{◌==◌, drop, if◌then◌else◌, map, slice_get}
 use Rattle.go_base.specs.declared.ids.FuncId.{FuncId}
 use Rattle.go_sched.specs.declared.scheduling.Point.TheVariants as point
 use Rattle.plan_laws.proofs.Acting.{IsSettled}
-use Rattle.plan_laws.proofs.Alike.{Known, IsKnown, IsMachine, Follows, IsAround, IsLaterWhere, IsLater, sources_in}
+use Rattle.plan_laws.proofs.Alike.{Known, IsKnown, Follows, IsAround, IsLaterWhere}
 use Rattle.plan_laws.proofs.Around.{around_current, around_with, there_with}
 use Rattle.plan_laws.proofs.Calling.{makes_alike, enters_alike}
 use Rattle.plan_laws.proofs.Lists.{at_drop, past_drop}
@@ -53,7 +53,6 @@ next_start k m q g is id others same =
         count = is.around.count;
         starts = sym same;
         store = is.around.store;
-        mapless = is.around.mapless;
         sched = is.around.sched;
         ticks = is.around.ticks;
         output = is.around.output;

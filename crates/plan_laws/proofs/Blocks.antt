@@ -1,13 +1,12 @@
 -- Functions and blocks of a code, and what is planned of them.
-use Rattle.std.proofs.Common.{◌≡◌, ℕ, List, [], Option, Some, None, ap, refl, sym, subst, ◌∙◌}
+use Rattle.std.proofs.Common.{◌≡◌, ℕ, List, [], Option, Some, None, ap, refl, sym, subst}
 use Rattle.std.specs.Prelude.{drop, slice_get}
 use Rattle.std.specs.Option.{IsSomeAnd, MatchOption}
 use Rattle.std.proofs.lemmas.Slice.Zip.{AllZip-left, AllZip-right}
 use Rattle.code_plan.specs.Plans.{Goes, IsBlock, IsFunction}
-use Rattle.code_plan.specs.Registers.{Marks, Pending}
+use Rattle.code_plan.specs.Registers.{Marks}
 use Rattle.code_plan.specs.declared.steps.PlannedBlock.{PlannedBlock}
 use Rattle.code_plan.specs.declared.steps.PlannedFunction.{PlannedFunction}
-use Rattle.go_base.specs.declared.ids.FuncId.{FuncId}
 use Rattle.plan_laws.proofs.Alike.{Known, IsKnown, IsFunctionAt, IsFrame}
 use Rattle.plan_mean.specs.State as plans
 use Rattle.ssa_ir.specs.Blocks.{instrs_at, instrs_in}

@@ -22,7 +22,7 @@ use Rattle.go_value.specs.declared.faults.Fault.TheVariants as fault
 use Rattle.plan_laws.proofs.Settled.{settled_machine}
 use Rattle.plan_laws.proofs.Acting.{Acting, Agree, IsActing, IsSlot, MayHold, site_of, acting_on}
 use Rattle.plan_laws.proofs.Alike.{Known, IsKnown, IsLater, IsCalled, IsResult, Follows, MayGet}
-use Rattle.plan_laws.proofs.BuiltIns.{plain_of, built_ins_agree, call_no_maps, HasNoMaps}
+use Rattle.plan_laws.proofs.BuiltIns.{plain_of, built_ins_agree}
 use Rattle.plan_laws.proofs.Frames.{frame_moved, placed_as}
 use Rattle.plan_laws.proofs.Giving.{FinishesWell, finishes_alike, may_hold}
 use Rattle.plan_laws.proofs.Lists.{same_count}
@@ -122,14 +122,13 @@ finishes_usual s register (plain builtin.Recover) h arguments = cc
 finishes_usual s register _ h arguments = refl
 
 finishes_well : (k : Known) (a : Acting) (call : PlannedCall) (register slot : Option ℕ) → IsCalling k a call register slot
-    → (it : Comes Done) → HasNoMaps it → FinishesWell k a (act.Call call slot) register it
-finishes_well k a call register slot in_it (to it) maps =
+    → (it : Comes Done) → FinishesWell k a (act.Call call slot) register it
+finishes_well k a call register slot in_it (to it) =
     record {
-      maps = maps;
       kept = none_pending (k.marks a.frame.function.number) it.store a.frame;
       may = gets_call (k.marks a.frame.function.number) [] register in_it.hold it.value;
     }
-finishes_well k a call register slot in_it _ maps = tt
+finishes_well k a call register slot in_it _ = tt
 
 usual_alike : (k : Known) (a : Acting) (call : PlannedCall) (register slot : Option ℕ) → IsCalling k a call register slot
     → (it : BuiltIn) (of : BuiltinForm) → with_counted it ≡ meant_by of → is_usual (meant_by of) ≡ true → (arguments : List Val)
@@ -144,8 +143,8 @@ usual_alike k a call register slot in_it it of same usual arguments =
     (finishes_alike k in_it.known a (act.Call call slot) in_it.acting register slot in_it.to given _
     (subst (λ (x : Comes Done). Agree given x)
     (λ i. planned_built_ins.built_in_call k.w.answers (sym around.store i) (sym around.sched i) of arguments)
-    (built_ins_agree k.w.answers a.m.store a.m.sched around.mapless it of same arguments))
-    (finishes_well k a call register slot in_it given (call_no_maps k.w.answers a.m.store a.m.sched around.mapless it arguments)))
+    (built_ins_agree k.w.answers a.m.store a.m.sched it of same arguments))
+    (finishes_well k a call register slot in_it given))
 
 panic_alike : (k : Known) → IsKnown k → (a : Acting) (step : Step) → IsActing k a step → (arguments : List Val)
     → Follows k (steps.panic_of k.code a.m arguments) (planned.panic_of k.w (acting_on a) arguments)

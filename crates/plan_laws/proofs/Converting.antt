@@ -171,7 +171,6 @@ kept_well : (k : Known) (a : Acting) (step : Step) → IsActing k a step → (re
     → StoresWell k a step register (to (kept a.m.store it))
 kept_well k a step acting register may it =
     record {
-      maps = acting.top.around.mapless;
       kept = kept_behind k a step acting;
       may = may_hold (k.marks a.frame.function.number) (behind step a.pending) register it may;
     }
@@ -197,7 +196,6 @@ made_well : (k : Known) (a : Acting) (step : Step) → IsActing k a step → beh
     (of_result made_slice))
 made_well k a step acting nothing register may ints (Ok it) =
     record {
-      maps = acting.top.around.mapless;
       kept =
           subst (λ pending. ArePending (k.marks a.frame.function.number) (made a.m.store (array_of (map number ints)))
           pending a.frame) (sym nothing)

@@ -1,9 +1,9 @@
 -- Both machines come to one end.
-use Rattle.std.proofs.Common.{◌≡◌, ℕ, false, zero, suc, List, [], ◌∷◌, Option, Some, None, ap, refl, sym, subst, ◌∙◌}
+use Rattle.std.proofs.Common.{◌≡◌, ℕ, false, zero, suc, List, [], ◌∷◌, Some, None, ap, refl, sym, subst, ◌∙◌}
 use Rattle.std.specs.Prelude.{map, slice_get}
 use Rattle.std.specs.List.{AllZip}
 use Rattle.std.specs.Option.{option_map}
-use Rattle.code_plan.specs.Plans.{IsFunction, IsFunctionOf, IsPlanOf}
+use Rattle.code_plan.specs.Plans.{IsFunctionOf, IsPlanOf}
 use Rattle.code_plan.specs.Registers.{Marks, Pending}
 use Rattle.code_plan.specs.declared.steps.PlannedFunction.{PlannedFunction}
 use Rattle.go_base.specs.declared.ending.Ending.{Ending}
@@ -12,7 +12,7 @@ use Rattle.go_value.specs.Values.{Val, value_of}
 use Rattle.plan_laws.proofs.Alike.{Known, IsKnown, IsFunctionAt, IsMachine, IsOther, Follows}
 use Rattle.plan_laws.proofs.Lists.{some_same}
 use Rattle.plan_laws.proofs.Stepping.{Moves, waits, follows, step_alike}
-use Rattle.plan_laws.specs.Runs.{OneRun, IsWorldOf, MakesNoMaps}
+use Rattle.plan_laws.specs.Runs.{OneRun, IsWorldOf}
 use Rattle.plan_mean.specs.Calls as planned_calls
 use Rattle.plan_mean.specs.Runs as planned_runs
 use Rattle.plan_mean.specs.State as plans
@@ -49,15 +49,14 @@ known_of : (code : Code) (w : plans.World) → IsPlanOf code w.plan → Known
 known_of code w plan =
     record { code = code; w = w; marks = marks_of code code.functions w.plan.functions.items plan.functions }
 
-is_known : (code : Code) (w : plans.World) → (is : IsWorldOf code w) → MakesNoMaps code → IsKnown (known_of code w is.plan)
+is_known : (code : Code) (w : plans.World) → (is : IsWorldOf code w) → IsKnown (known_of code w is.plan)
 unfolding known_of
-is_known code w is mapless =
+is_known code w is =
     record {
       functions = functions_at code code.functions w.plan.functions.items is.plan.functions;
       methods = is.plan.methods;
       error_string = is.plan.error_string;
       naming = is.naming;
-      mapless = mapless;
     }
 
 -- ---- steps
@@ -118,9 +117,10 @@ after_both : (k : Known) (n j : ℕ) → IsOneEnd k n → (next : codes.Next) (n
     → planned_runs.then_step (planned_runs.steps j k.w) next' ≡ plans.ends e' o' → (o' ≡ o) × (e' ≡ e)
 unfolding has_ended planned_ended ending_of output_of planned_ending planned_output
 after_both k n j rest (codes.goes m) (plans.goes q) alike e e' o o' h h' = rest j alike.0 m q alike.1 e e' o o' h h'
-after_both k n j rest (codes.ends e1 o1) (plans.ends e2 o2) alike e e' o o' h h' =
-    (sym (ap (planned_output o2) h') ∙ alike.1 ∙ ap (output_of o1) h,
-    sym (ap (planned_ending e2) h') ∙ alike.0 ∙ ap (ending_of e1) h)
+after_both k n j rest (codes.ends e1 o1) (plans.ends e2 o2) alike e e' o o' h h' = (
+  sym (ap (planned_output o2) h') ∙ alike.1 ∙ ap (output_of o1) h,
+  sym (ap (planned_ending e2) h') ∙ alike.0 ∙ ap (ending_of e1) h,
+)
 after_both k n j rest codes.stuck next' alike e e' o o' h h' = absurd (subst has_ended (sym h) tt)
 after_both k n j rest (codes.goes m) plans.stuck alike e e' o o' h h' = absurd (subst planned_ended (sym h') tt)
 after_both k n j rest (codes.ends e1 o1) plans.stuck alike e e' o o' h h' = absurd (subst planned_ended (sym h') tt)
@@ -171,7 +171,6 @@ first_alike code w is choices bound =
         count = refl;
         starts = sym is.plan.starts;
         store = refl;
-        mapless = refl;
         sched = refl;
         ticks = refl;
         output = refl;
@@ -192,11 +191,11 @@ first_is code choices bound cells first found begins =
 
 pub one_run_lem : OneRun
 unfolding known_of
-one_run_lem code w choices bound output output' ending ending' is mapless run planned_run =
+one_run_lem code w choices bound output output' ending ending' is run planned_run =
     let answers : run.answers ≡ w.answers = same_answers code.types run.answers w.answers run.told is.answers in
     let first : first_code code choices bound (map value_of w.plan.variables.items) ≡ run.first =
     first_is code choices bound (map value_of w.plan.variables.items) run.first is.plan.variables run.begins in
-    one_end (known_of code w is.plan) (is_known code w is mapless) run.count planned_run.count []
+    one_end (known_of code w is.plan) (is_known code w is) run.count planned_run.count []
     (first_code code choices bound (map value_of w.plan.variables.items)) (planned_runs.first_machine w choices bound)
     (first_alike code w is choices bound) ending ending' output output'
     (subst (λ m. runs.steps run.count w.answers code m ≡ codes.ends ending output) (sym first)

@@ -1,6 +1,6 @@
 -- The slots of a new frame: its arguments, the values of its free variables, and registers that are not written yet.
 use Rattle.std.proofs.Common.{◌≡◌, ℕ, zero, suc, ◌+◌, ◌<◌, ◌≤◌, List, [], ◌∷◌, Option, Some, None, ap, refl, sym}
-use Rattle.std.proofs.Common.{subst, ◌∙◌, arith}
+use Rattle.std.proofs.Common.{◌∙◌, arith}
 use Rattle.std.proofs.lemmas.List.{length-replicate}
 use Rattle.std.specs.Prelude.{length, replicate, slice_get, slice_set}
 use Rattle.std.specs.Option.{option_flatten}

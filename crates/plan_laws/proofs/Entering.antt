@@ -195,7 +195,6 @@ with_ticks k m q settled n =
         count = settled.around.count;
         starts = settled.around.starts;
         store = settled.around.store;
-        mapless = settled.around.mapless;
         sched = settled.around.sched;
         ticks = refl;
         output = settled.around.output;

@@ -5,7 +5,7 @@ use Rattle.std.specs.List.{AllZip}
 use Rattle.code_plan.specs.Registers.{Pending}
 use Rattle.code_plan.specs.declared.steps.Step.{Step}
 use Rattle.go_value.specs.Values.{Val}
-use Rattle.plan_laws.proofs.Alike.{Known, IsFrame, IsPlaced, standing, on_way, HasSlots, IsLater, Recovers, shown_state}
+use Rattle.plan_laws.proofs.Alike.{Known, IsFrame, IsPlaced, standing, on_way, IsLater, Recovers, shown_state}
 use Rattle.plan_mean.specs.State as plans
 use Rattle.ssa_ir.specs.declared.code.Function.{Function}
 use Rattle.ssa_mean.specs.State as codes

@@ -1,11 +1,11 @@
 -- A register of a frame gets a value, and the slot of the planned frame.
-use Rattle.std.proofs.Common.{◌≡◌, ℕ, pred, suc, Bool, true, false, List, [], ◌∷◌, Option, Some, None, ap, refl, sym, subst, ◌∙◌}
-use Rattle.std.specs.Prelude.{filter, if◌then◌else◌, length, slice_get}
+use Rattle.std.proofs.Common.{◌≡◌, ℕ, pred, Bool, true, false, List, [], ◌∷◌, Option, Some, None, ap, refl, sym, subst, ◌∙◌}
+use Rattle.std.specs.Prelude.{filter, if◌then◌else◌, length}
 use Rattle.std.specs.Option.{option_and_then, option_map, option_map_or}
-use Rattle.code_plan.specs.Registers.{Marks, Pending, register_slot}
+use Rattle.code_plan.specs.Registers.{Pending, register_slot}
 use Rattle.go_value.specs.Values.{Val}
 use Rattle.plan_laws.proofs.Acting.{MayPoint}
-use Rattle.plan_laws.proofs.Alike.{Known, IsKnown, IsFrame, HasSlots, IsPlaced, standing, on_way, IsBelow, AreBelow, GetsResult, IsResult, MayGet, IsTop, placed, IsTopFrame, sources_in}
+use Rattle.plan_laws.proofs.Alike.{Known, IsFrame, HasSlots, IsPlaced, standing, on_way, AreBelow, GetsResult, IsResult, MayGet, sources_in}
 use Rattle.plan_laws.proofs.Lists.{same_count}
 use Rattle.plan_laws.proofs.Slots.{top_with, below_with, slots_with, cells_with}
 use Rattle.plan_mean.specs.Slots.{top_of, below_top, with_slot}
@@ -143,16 +143,17 @@ below_given k [] rows (planned ∷ others) alike register slot gets it = absurd 
 below_given k (frame ∷ below) rows [] alike register slot gets it = absurd alike
 below_given k (frame ∷ below) rows (planned ∷ others) alike register slot gets it =
     subst (λ slot. AreBelow k (codes.with_result register it frame ∷ below) (slots_after slot it rows) (planned ∷ others))
-    (slot_is k register slot frame gets alike.0.function alike.0.is.there)
-    (record {
-      function = alike.0.function;
-      is = frame_given k alike.0.function frame rows planned alike.0.is register it gets.may;
-      placed = placed_given k alike.0.function frame planned alike.0.placed register it;
-      result = subst (λ result. GetsResult k result planned.result below) (sym (same_result register it frame))
-          alike.0.result;
-    },
-    subst (λ rows. AreBelow k below rows others)
-    (sym (below_after (option_map (register_slot alike.0.function) register) it rows)) alike.1)
+    (slot_is k register slot frame gets alike.0.function alike.0.is.there) (
+      record {
+        function = alike.0.function;
+        is = frame_given k alike.0.function frame rows planned alike.0.is register it gets.may;
+        placed = placed_given k alike.0.function frame planned alike.0.placed register it;
+        result = subst (λ result. GetsResult k result planned.result below) (sym (same_result register it frame))
+            alike.0.result;
+      },
+      subst (λ rows. AreBelow k below rows others)
+          (sym (below_after (option_map (register_slot alike.0.function) register) it rows)) alike.1,
+    )
 
 -- ---- how many frames of source functions there are
 

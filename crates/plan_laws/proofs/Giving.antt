@@ -98,7 +98,6 @@ faults_settled k known a step acting it =
 
 pub record GivesWell (k : Known) (a : Acting) (step : Step) (register : Option ℕ) (it : Option Val) (store : Stored) :
     Type 0 where
-  pub maps : store.maps ≡ []
   pub kept : ArePending (k.marks a.frame.function.number) store (behind step a.pending) a.frame
   pub may : MayHold (k.marks a.frame.function.number) (behind step a.pending) register it
 
@@ -119,7 +118,7 @@ stores_one k a step acting register slot same it it' e well =
     Follows k (steps.goes_behind (site_of k a) register (Some given.value) (record (a.m) { store = given.store }))
     (plans.goes (plans.with_value slot it'.value (record (plan_at a) { store = it'.store })))) e
     (goes_alike k a step acting (with_store it'.store a.m)
-    (record { current = refl; maps = well.maps; kept = well.kept }) register (Some slot) same (Some it'.value) well.may)
+    (record { current = refl; kept = well.kept }) register (Some slot) same (Some it'.value) well.may)
 
 pub gives_stored_alike : (k : Known) → IsKnown k → (a : Acting) (step : Step) → IsActing k a step
     → (register : Option ℕ) (slot : ℕ) → IsSlot a.function register (Some slot) → (x y : Comes Stores) → Agree x y
@@ -154,7 +153,7 @@ value_well : (k : Known) (a : Acting) (step : Step) → IsActing k a step → (r
     → ((it : Val) → MayHold (k.marks a.frame.function.number) (behind step a.pending) register (Some it))
     → (x : Comes Val) → StoresWell k a step register (then_to (kept a.m.store) x)
 value_well k a step acting register may (to it) =
-    record { maps = acting.top.around.mapless; kept = kept_behind k a step acting; may = may it }
+    record { kept = kept_behind k a step acting; may = may it }
 value_well k a step acting register may (faults it) = tt
 value_well k a step acting register may nowhere = tt
 
@@ -183,7 +182,7 @@ store_one k a step acting store store' e well =
     Follows k (steps.goes_behind (site_of k a) None None (record (a.m) { store = store }))
     (plans.goes (record (plan_at a) { store = given }))) (sym e)
     (goes_alike k a step acting (with_store store a.m)
-    (record { current = refl; maps = well.maps; kept = well.kept }) None None refl None tt)
+    (record { current = refl; kept = well.kept }) None None refl None tt)
 
 pub changes_alike : (k : Known) → IsKnown k → (a : Acting) (step : Step) → IsActing k a step
     → (x y : Comes Stored) → Agree x y → ChangesWell k a step x
@@ -216,7 +215,7 @@ channel_one k a step acting register slot same may it it' e current =
     (plans.goes (plans.with_value slot it'.value (channels.with_sched it'.sched (plan_at a))))) e
     (goes_alike k a step acting
     (record { store = a.m.store; sched = it'.sched; ticks = a.m.ticks; output = a.m.output })
-    (record { current = current; maps = acting.top.around.mapless; kept = kept_behind k a step acting })
+    (record { current = current; kept = kept_behind k a step acting })
     register (Some slot) same (Some it'.value)
     (may_hold (k.marks a.frame.function.number) (behind step a.pending) register it'.value may))
 
@@ -257,7 +256,7 @@ done_one k a step acting register slot same it it' e well =
     (record (plan_at a) { store = given.store; output = a.m.output ++ given.written })))) (sym e)
     (goes_alike k a step acting
     (record { store = it.store; sched = a.m.sched; ticks = a.m.ticks; output = a.m.output ++ it.written })
-    (record { current = refl; maps = well.maps; kept = well.kept }) register slot same it.value well.may)
+    (record { current = refl; kept = well.kept }) register slot same it.value well.may)
 
 pub finishes_settled : (k : Known) → IsKnown k → (a : Acting) (step : Step) → IsActing k a step
     → (register slot : Option ℕ) → IsSlot a.function register slot → (x y : Comes Done) → Agree x y

@@ -1,5 +1,5 @@
 -- An instruction is done in both machines: its register gets a value, or nothing; or a fault is met.
-use Rattle.std.proofs.Common.{ℕ, ◌≡◌, List, [], ◌∷◌, Option, Some, None, refl, sym, ap, subst, ◌∙◌}
+use Rattle.std.proofs.Common.{ℕ, ◌≡◌, List, ◌∷◌, Option, Some, None, refl, sym, ap, subst, ◌∙◌}
 use Rattle.std.specs.Prelude.{slice_get, slice_set}
 use Rattle.code_plan.specs.Registers.{behind, register_slot}
 use Rattle.code_plan.specs.declared.steps.Step.{Step}
@@ -15,7 +15,6 @@ use Rattle.plan_laws.proofs.Slots.{slots_as, slots_with, cells_with, pending_as,
 use Rattle.plan_mean.specs.Slots.{top_of, below_top, with_slot}
 use Rattle.plan_mean.specs.State as plans
 use Rattle.ssa_ir.specs.declared.code.Function.{Function}
-use Rattle.ssa_mean.specs.Comes.{to}
 use Rattle.ssa_mean.specs.State as codes
 use Rattle.ssa_mean.specs.Step as steps
 use Rattle.ssa_mean.specs.Unwinding.{is_source}
@@ -23,8 +22,8 @@ use Rattle.ssa_mean.specs.Unwinding.{is_source}
 -- ---- what is around, with a change that both machines make
 
 pub around_changed : (k : Known) (m : codes.Machine) (q : plans.Machine) → IsAround k m q → (c : Change)
-    → c.sched.current ≡ m.sched.current → c.store.maps ≡ [] → IsAround k (code_with c m) (plan_with c q)
-around_changed k m q around c same mapless =
+    → c.sched.current ≡ m.sched.current → IsAround k (code_with c m) (plan_with c q)
+around_changed k m q around c same =
     record {
       others = λ n other. around.others n (λ is. other (is ∙ ap (λ (id : GoId). id.number) (sym same)));
       holder =
@@ -32,7 +31,6 @@ around_changed k m q around c same mapless =
       count = around.count;
       starts = around.starts;
       store = refl;
-      mapless = mapless;
       sched = refl;
       ticks = refl;
       output = refl;
@@ -97,7 +95,7 @@ machine_with k a step acting c change registers slots has cells are same =
     record {
       around =
           around_with k (code_with c a.m) (plan_with c a.q)
-          (around_changed k a.m a.q acting.top.around c change.current change.maps) goroutine current;
+          (around_changed k a.m a.q acting.top.around c change.current) goroutine current;
       g = goroutine;
       there = there_with (code_with c a.m) goroutine a.g there;
       is = record {

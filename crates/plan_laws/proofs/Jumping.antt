@@ -1,7 +1,7 @@
 -- Jumps: all phis are read before one is written.
 use Rattle.std.proofs.Common.{◌≡◌, arith, ℕ, suc, Bool, true, false, List, [], ◌∷◌, Option, Some, None, ap, refl, sym, subst, ◌∙◌}
 use Rattle.std.proofs.lemmas.Option.{none-some}
-use Rattle.std.specs.Prelude.{◌==◌, ◌&&◌, not, drop, if◌then◌else◌, length, slice_get}
+use Rattle.std.specs.Prelude.{◌==◌, ◌&&◌, not, if◌then◌else◌, slice_get}
 use Rattle.std.specs.List.{AllZip, find}
 use Rattle.std.specs.Option.{option_and_then, option_map}
 use Rattle.code_plan.specs.Forms.{LeadsOn, here, on, next_of, jump_of}
@@ -16,9 +16,9 @@ use Rattle.code_plan.specs.declared.steps.Step.{Step}
 use Rattle.code_plan.specs.declared.steps.Step.TheVariants as act
 use Rattle.go_base.specs.declared.ids.BlockId.{BlockId}
 use Rattle.go_value.specs.Values.{Val, truth}
-use Rattle.plan_laws.proofs.Acting.{Acting, IsOnTop, IsActing, site_of, plan_site, acting_on}
-use Rattle.plan_laws.proofs.Alike.{Known, IsKnown, IsFrame, IsPlaced, standing, on_way, IsTop, placed, Follows, AreFrames, AreBelow, MayGet, IsMachine, IsTopFrame}
-use Rattle.plan_laws.proofs.Blocks.{function_of, planned_block, code_block, begins, BlockAt}
+use Rattle.plan_laws.proofs.Acting.{Acting, IsActing, site_of, plan_site, acting_on}
+use Rattle.plan_laws.proofs.Alike.{Known, IsKnown, IsFrame, IsPlaced, standing, on_way, placed, Follows, AreBelow, MayGet, IsMachine}
+use Rattle.plan_laws.proofs.Blocks.{function_of, planned_block, begins, BlockAt}
 use Rattle.plan_laws.proofs.Given.{frame_given}
 use Rattle.plan_laws.proofs.Giving.{follows_stuck}
 use Rattle.plan_laws.proofs.Frames.{frame_moved}
@@ -26,7 +26,7 @@ use Rattle.plan_laws.proofs.Lists.{same_count, some_same}
 use Rattle.plan_laws.proofs.Throwing.{at_there}
 use Rattle.plan_laws.proofs.Unwinding.{machine_with}
 use Rattle.plan_laws.proofs.Reading.{one_value}
-use Rattle.plan_laws.proofs.Slots.{none_pending, top_with, below_with}
+use Rattle.plan_laws.proofs.Slots.{none_pending, below_with}
 use Rattle.plan_laws.proofs.Values.{IsAlike}
 use Rattle.plan_mean.specs.Operands.{look}
 use Rattle.plan_mean.specs.Slots.{top_of, below_top, with_slot}
@@ -242,22 +242,24 @@ entered_machine k known a step acting n at frame q are =
     (subst (λ q. IsMachine k [] (codes.with_frames a.g (steps_of.at_block a.function n (kept_frame) ∷ a.below) a.m) q)
     (sym are.machine)
     (machine_with k a.m a.q acting.top.around a.g acting.top.there (steps_of.at_block a.function n kept_frame ∷ a.below)
-    (record (a.q.current) { frames = top ∷ a.others; slots = are.slots })
-    (record {
-      function = a.function;
-      is = frame_moved k a.function kept_frame (top_of are.slots) a.planned is n (phis_first (instrs_at a.function n))
-      a.frame.state a.frame.defers n at.it.steps.items 0 a.planned.state a.planned.defers acting.top.is.state
-      acting.top.is.defers acting.top.is.recovers;
-      top = placed (standing [] _ _ (record {
-        same = refl;
-        block = at.it;
-        is = at.planned_there;
-        steps = refl;
-        last = at.is.last;
-        goes = begins k.code (k.marks a.frame.function.number) a.function a.planned.function n at;
-      }));
-      result = acting.top.result;
-    }, subst (λ rows. AreBelow k a.below rows a.others) (sym are.lower) acting.top.below)
+    (record (a.q.current) { frames = top ∷ a.others; slots = are.slots }) (
+      record {
+        function = a.function;
+        is = frame_moved k a.function kept_frame (top_of are.slots) a.planned is n (phis_first (instrs_at a.function n))
+            a.frame.state a.frame.defers n at.it.steps.items 0 a.planned.state a.planned.defers acting.top.is.state
+            acting.top.is.defers acting.top.is.recovers;
+        top = placed (standing [] _ _ (record {
+          same = refl;
+          block = at.it;
+          is = at.planned_there;
+          steps = refl;
+          last = at.is.last;
+          goes = begins k.code (k.marks a.frame.function.number) a.function a.planned.function n at;
+        }));
+        result = acting.top.result;
+      },
+      subst (λ rows. AreBelow k a.below rows a.others) (sym are.lower) acting.top.below,
+    )
     acting.top.begin acting.top.fault
     (acting.top.sources
     ∙ same_count (steps_of.is_source k.code) a.frame (steps_of.at_block a.function n kept_frame) a.below refl)))
@@ -335,30 +337,34 @@ way_entered k known a step acting n to next jumps phis leads at =
     (codes.goes (codes.with_frames a.g (steps_of.at_block a.function n a.frame ∷ a.below) a.m))
     (plans.where_there plans.goes (planned.with_phis (with_top a top) a.planned.block its (with_top a top))))
     (sym (planned_no_phis k.code (k.marks a.frame.function.number) a.function a.planned.function to at
-    (leads_no_phis a.function next.number to leads phis)))
-    ([], machine_with k a.m a.q acting.top.around a.g acting.top.there (steps_of.at_block a.function n a.frame ∷ a.below)
-    (record (a.q.current) { frames = top ∷ a.others })
-    (record {
-      function = a.function;
-      is = frame_moved k a.function a.frame (top_of a.q.current.slots) a.planned acting.top.is n (phis_first (instrs_at a.function n))
-      a.frame.state a.frame.defers to at.it.steps.items 0 a.planned.state a.planned.defers acting.top.is.state
-      acting.top.is.defers acting.top.is.recovers;
-      top = placed (on_way _ _ (record {
-        first = jump_no_phis (instrs_at a.function n) next jumps;
-        number = next.number;
-        next = ap (option_map (λ it. it.number)) jumps;
-        phis = phis;
-        leads = leads;
-        block = at.it;
-        is = at.planned_there;
-        steps = refl;
-        begin = refl;
-      }));
-      result = acting.top.result;
-    }, acting.top.below)
-    acting.top.begin acting.top.fault
-    (acting.top.sources
-    ∙ same_count (steps_of.is_source k.code) a.frame (steps_of.at_block a.function n a.frame) a.below refl))))
+    (leads_no_phis a.function next.number to leads phis))) (
+      [],
+      machine_with k a.m a.q acting.top.around a.g acting.top.there (steps_of.at_block a.function n a.frame ∷ a.below)
+          (record (a.q.current) { frames = top ∷ a.others }) (
+            record {
+              function = a.function;
+              is = frame_moved k a.function a.frame (top_of a.q.current.slots) a.planned acting.top.is n (phis_first (instrs_at a.function n))
+                  a.frame.state a.frame.defers to at.it.steps.items 0 a.planned.state a.planned.defers acting.top.is.state
+                  acting.top.is.defers acting.top.is.recovers;
+              top = placed (on_way _ _ (record {
+                first = jump_no_phis (instrs_at a.function n) next jumps;
+                number = next.number;
+                next = ap (option_map (λ it. it.number)) jumps;
+                phis = phis;
+                leads = leads;
+                block = at.it;
+                is = at.planned_there;
+                steps = refl;
+                begin = refl;
+              }));
+              result = acting.top.result;
+            },
+            acting.top.below,
+          )
+          acting.top.begin acting.top.fault
+          (acting.top.sources
+          ∙ same_count (steps_of.is_source k.code) a.frame (steps_of.at_block a.function n a.frame) a.below refl),
+    )))
   where
     top : plans.Frame
     top = record (plans.advanced a.planned) { block = to; steps = at.it.steps.items; step = 0 }

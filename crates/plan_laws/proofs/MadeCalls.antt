@@ -12,7 +12,7 @@ use Rattle.go_value.specs.declared.faults.Fault.TheVariants as fault
 use Rattle.plan_laws.proofs.Settled.{settled_machine}
 use Rattle.plan_laws.proofs.Acting.{Agree, IsSettled}
 use Rattle.plan_laws.proofs.Alike.{Known, IsKnown, IsLater, IsCalled, Follows}
-use Rattle.plan_laws.proofs.BuiltIns.{plain_of, built_ins_agree, call_no_maps, HasNoMaps}
+use Rattle.plan_laws.proofs.BuiltIns.{plain_of, built_ins_agree}
 use Rattle.plan_laws.proofs.Entering.{IsEntry, enters_alike}
 use Rattle.plan_laws.proofs.Readying.{follows_stuck}
 use Rattle.plan_laws.proofs.Settling.{no_result, same_deferral, settled_written}
@@ -81,16 +81,16 @@ alone_usual answers code m _ h arguments = refl
 -- ---- what one gives that is made alone
 
 wrote_alike : (k : Known) → IsKnown k → (m : codes.Machine) (q : plans.Machine) → IsSettled k m q → (one other : Comes Done)
-    → Agree one other → HasNoMaps one → Follows k (steps.wrote k.code m one) (planned.finishes k.w q None other)
-wrote_alike k known m q settled (to it) (to other) same maps =
+    → Agree one other → Follows k (steps.wrote k.code m one) (planned.finishes k.w q None other)
+wrote_alike k known m q settled (to it) (to other) same =
     subst (λ (x : Done). Follows k (steps.wrote k.code m (to it)) (planned.finishes k.w q None (to x))) (sym same)
-    ([], settled_machine k _ _ (settled_written k m q settled it.store maps it.written))
-wrote_alike k known m q settled (faults it) (faults other) same maps =
+    ([], settled_machine k _ _ (settled_written k m q settled it.store it.written))
+wrote_alike k known m q settled (faults it) (faults other) same =
     subst (λ x. Follows k (unwinding.meets k.code m it) (planned_unwinding.meets k.w x q)) (sym same)
     (meets_alike k known m q (settled_machine k m q settled) it)
-wrote_alike k known m q settled nowhere other same maps = tt
-wrote_alike k known m q settled one nowhere same maps = follows_stuck k (steps.wrote k.code m one)
-wrote_alike k known m q settled _ _ same maps = absurd same
+wrote_alike k known m q settled nowhere other same = tt
+wrote_alike k known m q settled one nowhere same = follows_stuck k (steps.wrote k.code m one)
+wrote_alike k known m q settled _ _ same = absurd same
 
 usual_alike : (k : Known) → IsKnown k → (m : codes.Machine) (q : plans.Machine) → IsSettled k m q → (it : BuiltIn)
     → (of : BuiltinForm) → with_counted it ≡ meant_by of → is_usual (meant_by of) ≡ true → (arguments : List Val)
@@ -103,8 +103,7 @@ usual_alike k known m q settled it of same usual arguments =
     (wrote_alike k known m q settled (built_ins.built_in_call k.w.answers m.store m.sched it arguments) _
     (subst (λ (x : Comes Done). Agree (built_ins.built_in_call k.w.answers m.store m.sched it arguments) x)
     (λ i. planned_built_ins.built_in_call k.w.answers (sym settled.around.store i) (sym settled.around.sched i) of arguments)
-    (built_ins_agree k.w.answers m.store m.sched settled.around.mapless it of same arguments))
-    (call_no_maps k.w.answers m.store m.sched settled.around.mapless it arguments))
+    (built_ins_agree k.w.answers m.store m.sched it of same arguments)))
 
 panic_alike : (k : Known) → IsKnown k → (m : codes.Machine) (q : plans.Machine) → IsSettled k m q → (arguments : List Val)
     → Follows k (steps.panic_of k.code m arguments) (planned.panic_of k.w q arguments)

@@ -15,6 +15,7 @@ use Rattle.code_plan.specs.declared.steps.Step.TheVariants as act
 use Rattle.go_base.specs.declared.ids.TypeId.{TypeId}
 use Rattle.go_sched.specs.Goroutines.{State, with_new_chan}
 use Rattle.go_store.specs.Slices.{most_elements, make_fault, with_zeros, slice_of_new}
+use Rattle.go_store.specs.MapCalls.{made_map}
 use Rattle.go_store.specs.Stores.{Stored, made}
 use Rattle.go_value.specs.Values.{Val, number, pointer, slice, chan_number}
 use Rattle.go_value.specs.Values.{value_of as held_value}
@@ -76,7 +77,6 @@ new_settled of k known a register (act.New zero slot) may is acting =
     (to (planned.new_cell (plan_at a) zero))
     (cell_agrees a.m.store (zero_of k.code of) (held_value zero.value) is.0)
     (record {
-      maps = acting.top.around.mapless;
       kept = none_pending (k.marks a.frame.function.number) (made a.m.store (held_value zero.value)) a.frame;
       may = points (k.marks a.frame.function.number) of register a.m.store may;
     })
@@ -84,6 +84,22 @@ new_settled of k known a register _ may is acting = absurd is
 
 pub new_alike : (of : TypeId) → IsAlike (op.New of)
 new_alike of = alike_from (op.New of) (new_settled of)
+
+make_map_settled : (of : TypeId) → IsAlikeSettled (op.MakeMap of)
+unfolding acts planned_acts
+make_map_settled of k known a register (act.MakeMap slot) may is acting =
+    gives_stored_alike k known a (act.MakeMap slot) acting register slot is (to (steps.new_map (site_of k a)))
+    (to (planned.new_map (plan_at a)))
+    (agree_same (to (steps.new_map (site_of k a))) (to (planned.new_map (plan_at a))) refl)
+    (record {
+      kept = none_pending (k.marks a.frame.function.number) (made_map a.m.store) a.frame;
+      may =
+          may_hold (k.marks a.frame.function.number) [] register (planned.new_map (plan_at a)).value may;
+    })
+make_map_settled of k known a register _ may is acting = absurd is
+
+pub make_map_alike : (of : TypeId) → IsAlike (op.MakeMap of)
+make_map_alike of = alike_from (op.MakeMap of) (make_map_settled of)
 
 -- ---- more leaves than a slice has are as many
 
@@ -217,7 +233,6 @@ slice_well : (k : Known) (a : Acting) (step : Step) → IsActing k a step → be
 slice_well k a step acting nothing register may zero n m (Some it) = tt
 slice_well k a step acting nothing register may zero n m None =
     record {
-      maps = acting.top.around.mapless;
       kept =
           subst (λ pending. ArePending (k.marks a.frame.function.number) (with_zeros a.m.store zero m) pending a.frame)
           (sym nothing) (none_pending (k.marks a.frame.function.number) (with_zeros a.m.store zero m) a.frame);

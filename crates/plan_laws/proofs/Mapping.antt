@@ -1,14 +1,10 @@
--- Instructions on maps, where all maps are nil; ranges as they begin; and ticks.
-use Rattle.std.proofs.Common.{ℕ, zero, suc, ◌≡◌, Bool, List, [], Option, Some, None, refl, sym, ap, ap₂, subst, ◌∙◌}
+-- Instructions on maps, ranges as they begin, and ticks.
+use Rattle.std.proofs.Common.{ℕ, zero, suc, ◌≡◌, Bool, [], Option, Some, None, refl, sym, ap, subst, ◌∙◌}
 use Rattle.code_plan.specs.Registers.{behind}
 use Rattle.code_plan.specs.declared.steps.Step.{Step}
 use Rattle.code_plan.specs.declared.steps.Step.TheVariants as act
-use Rattle.go_base.specs.declared.ids.MapId.{MapId}
-use Rattle.go_base.specs.declared.ids.TypeId.{TypeId}
-use Rattle.go_maps.specs.Entries.{value_of_key, with_pair, with_pair_at}
-use Rattle.go_maps.specs.Finds.{first_equal}
-use Rattle.go_maps.specs.Keys.{unhashable}
-use Rattle.go_maps.specs.Maps.{Map, map_in, with_map, put_fault}
+use Rattle.go_maps.specs.Entries.{with_pair}
+use Rattle.go_maps.specs.Maps.{put_fault}
 use Rattle.go_store.specs.MapCalls.{map_changed}
 use Rattle.go_store.specs.Stores.{Stored}
 use Rattle.go_value.specs.Values.{Val, map_number}
@@ -22,7 +18,6 @@ use Rattle.plan_laws.proofs.Giving.{plan_at, IsAlikeSettled, alike_from, changes
 use Rattle.plan_laws.proofs.Going.{goes_alike}
 use Rattle.plan_laws.proofs.Slots.{none_pending}
 use Rattle.plan_laws.proofs.Values.{IsAlike}
-use Rattle.plan_mean.specs.MapCalls as planned_maps
 use Rattle.plan_mean.specs.Operands.{look}
 use Rattle.plan_mean.specs.State as plans
 use Rattle.plan_mean.specs.Step as planned
@@ -32,7 +27,7 @@ use Rattle.ssa_ir.specs.declared.operands.Operand.{Operand}
 use Rattle.ssa_ir.specs.declared.ops.Op.TheVariants as op
 use Rattle.ssa_mean.specs.Comes.{of_option, then_to, where_some}
 use Rattle.ssa_mean.specs.Making.{value_or}
-use Rattle.ssa_mean.specs.MapCalls.{looked_up, unless_fault, value_of_equal}
+use Rattle.ssa_mean.specs.MapCalls.{looked_up, unless_fault}
 use Rattle.ssa_mean.specs.Operands.{value_of, element_type}
 use Rattle.ssa_mean.specs.Ranges.{range_of}
 use Rattle.ssa_mean.specs.Step as steps
@@ -40,49 +35,18 @@ use Rattle.ssa_mean.specs.Step.{acts}
 use Rattle.ssa_mean.specs.Unwinding as unwinding
 use Rattle.ssa_mean.specs.Zeros.{zero_where}
 
--- ---- where there are no maps, nothing is found and nothing changes
-
-no_entries : (id : Option MapId) → map_in [] id ≡ []
-no_entries None = refl
-no_entries (Some id) = refl
-
-pub none_in : (maps : List Map) → maps ≡ [] → (id : Option MapId) → map_in maps id ≡ []
-none_in maps is id = ap (λ maps. map_in maps id) is ∙ no_entries id
-
-no_change : (change : Map → Map) (id : Option MapId) → with_map change [] id ≡ []
-no_change change None = refl
-no_change change (Some id) = refl
-
-pub none_changed : (change : Map → Map) (store : Stored) → store.maps ≡ [] → (id : Option MapId)
-    → (map_changed change store id).maps ≡ []
-none_changed change store is id = ap (λ maps. with_map change maps id) is ∙ no_change change id
-
-pub looked_up_same : (comparable : TypeId → Bool) (store : Stored) → store.maps ≡ [] → (id : Option MapId) (key : Val)
-    → planned_maps.looked_up comparable store id key ≡ looked_up comparable store id key
-looked_up_same comparable store is id key =
-    ap (λ entries. unless_fault (unhashable comparable key) (value_of_key key entries)) (none_in store.maps is id)
-    ∙ sym (ap (λ entries. unless_fault (unhashable comparable key) (value_of_equal comparable key entries))
-    (none_in store.maps is id))
-
-pub map_changed_same : (change change' : Map → Map) (store : Stored) → store.maps ≡ [] → (id : Option MapId)
-    → map_changed change' store id ≡ map_changed change store id
-map_changed_same change change' store is id =
-    ap (λ maps. record store { maps = maps })
-    (none_changed change' store is id ∙ sym (none_changed change store is id))
-
 -- ---- look-ups
 
-look_up_agrees : (k : Known) (a : Acting) → a.m.store.maps ≡ [] → (it : Operand) (comma_ok with_ok : Bool)
+look_up_agrees : (k : Known) (a : Acting) → (it : Operand) (comma_ok with_ok : Bool)
     → with_ok ≡ comma_ok → (absent : Val) → zero_where k.code (element_type k.code a.function it) ≡ Some absent → (u v : Val)
     → Agree (steps.look_up (site_of k a) it comma_ok u v) (planned.look_up k.w a.m.store absent with_ok u v)
-look_up_agrees k a is it comma_ok with_ok same absent is_zero (map_number id) key =
+look_up_agrees k a it comma_ok with_ok same absent is_zero (map_number id) key =
     agree_same (steps.look_up (site_of k a) it comma_ok (map_number id) key)
     (planned.look_up k.w a.m.store absent with_ok (map_number id) key)
-    (ap₂ (λ ok it. then_to (λ found. value_or ok found absent) it) same
-    (looked_up_same k.w.answers.comparable a.m.store is id key)
+    (ap (λ ok. then_to (λ found. value_or ok found absent) (looked_up k.w.answers.comparable a.m.store id key)) same
     ∙ ap (where_some (λ other. then_to (λ found. value_or comma_ok found other)
     (looked_up k.w.answers.comparable a.m.store id key))) (sym is_zero))
-look_up_agrees k a is it comma_ok with_ok same absent is_zero u v =
+look_up_agrees k a it comma_ok with_ok same absent is_zero u v =
     agree_nowhere (steps.look_up (site_of k a) it comma_ok u v)
 
 lookup_settled : (it key : Operand) (comma_ok : Bool) → IsAlikeSettled (op.Lookup it key comma_ok)
@@ -90,7 +54,7 @@ unfolding acts planned_acts
 lookup_settled it key comma_ok k known a register (act.Lookup one other absent with_ok slot) may is acting =
     gives_two k known a (act.Lookup one other absent with_ok slot) acting register slot is.4 may it key one other is.0 is.1
     (steps.look_up (site_of k a) it comma_ok) (planned.look_up k.w a.m.store (held_value absent.value) with_ok)
-    (look_up_agrees k a acting.top.around.mapless it comma_ok with_ok is.3 (held_value absent.value) is.2)
+    (look_up_agrees k a it comma_ok with_ok is.3 (held_value absent.value) is.2)
 lookup_settled it key comma_ok k known a register _ may is acting = absurd is
 
 pub lookup_alike : (it key : Operand) (comma_ok : Bool) → IsAlike (op.Lookup it key comma_ok)
@@ -98,29 +62,22 @@ lookup_alike it key comma_ok = alike_from (op.Lookup it key comma_ok) (lookup_se
 
 -- ---- "Assignment statements": an entry
 
-update_agrees : (k : Known) (a : Acting) → a.m.store.maps ≡ [] → (u v new : Val)
+update_agrees : (k : Known) (a : Acting) → (u v new : Val)
     → Agree (steps.update (site_of k a) u v new) (planned.update k.w a.m.store u v new)
-update_agrees k a is (map_number id) key new =
+update_agrees k a (map_number id) key new =
     agree_same (steps.update (site_of k a) (map_number id) key new)
-    (planned.update k.w a.m.store (map_number id) key new)
-    (ap (unless_fault (put_fault k.w.answers.comparable id key))
-    (map_changed_same (λ entries. with_pair_at (first_equal k.w.answers.comparable key entries) key new entries)
-    (with_pair key new) a.m.store is id))
-update_agrees k a is u v new = agree_nowhere (steps.update (site_of k a) u v new)
+    (planned.update k.w a.m.store (map_number id) key new) refl
+update_agrees k a u v new = agree_nowhere (steps.update (site_of k a) u v new)
 
 update_well : (k : Known) (a : Acting) (step : Step) → IsActing k a step → behind step a.pending ≡ [] → (u v new : Val)
     → ChangesWell k a step (steps.update (site_of k a) u v new)
 update_well k a step acting nothing (map_number id) key new =
-    unless (put_fault k.w.answers.comparable id key)
-    (map_changed (λ entries. with_pair_at (first_equal k.w.answers.comparable key entries) key new entries) a.m.store id)
-    (none_changed (λ entries. with_pair_at (first_equal k.w.answers.comparable key entries) key new entries) a.m.store
-    acting.top.around.mapless id)
+    unless (put_fault k.w.answers.comparable id key) (map_changed (with_pair key new) a.m.store id)
   where
-    unless : (found : Option Fault) (store : Stored) → store.maps ≡ [] → ChangesWell k a step (unless_fault found store)
-    unless (Some it) store is = tt
-    unless None store is =
+    unless : (found : Option Fault) (store : Stored) → ChangesWell k a step (unless_fault found store)
+    unless (Some it) store = tt
+    unless None store =
         record {
-          maps = is;
           kept =
               subst (λ pending. ArePending (k.marks a.frame.function.number) store pending a.frame) (sym nothing)
               (none_pending (k.marks a.frame.function.number) store a.frame);
@@ -138,7 +95,7 @@ update_settled it key new k known a register (act.Update one other third) may is
     (two_agree (λ u v. where_some (steps.update (site_of k a) u v) (value_of k.code a.frame new))
     (λ u v. where_some (planned.update k.w a.m.store u v) (look (plan_at a) third))
     (λ u v. one_agrees (steps.update (site_of k a) u v) (planned.update k.w a.m.store u v)
-    (update_agrees k a acting.top.around.mapless u v) (value_of k.code a.frame new) (look (plan_at a) third)
+    (update_agrees k a u v) (value_of k.code a.frame new) (look (plan_at a) third)
     (one_read k a (act.Update one other third) acting new third is.2))
     (value_of k.code a.frame it) (value_of k.code a.frame key) (look (plan_at a) one) (look (plan_at a) other)
     (one_read k a (act.Update one other third) acting it one is.0)
@@ -175,7 +132,7 @@ ticked k a acting zero = (refl, refl)
 ticked k a acting (suc n) =
     goes_alike k a act.Tick acting
     (record { store = a.m.store; sched = a.m.sched; ticks = n; output = a.m.output })
-    (record { current = refl; maps = acting.top.around.mapless; kept = kept_behind k a act.Tick acting })
+    (record { current = refl; kept = kept_behind k a act.Tick acting })
     None None refl None tt
 
 tick_settled : IsAlikeSettled op.Tick

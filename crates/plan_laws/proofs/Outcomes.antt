@@ -7,7 +7,7 @@ use Rattle.go_base.specs.declared.ids.ChanId.{ChanId}
 use Rattle.go_sched.specs.Channels.{Chan, Case, Sending, send, receive, has_room}
 use Rattle.go_sched.specs.Choices.{chosen, picked, noted, used_up}
 use Rattle.go_sched.specs.Goroutines.{State, changed, gone_on, with_chan}
-use Rattle.go_sched.specs.Operations.{Answer, Outcome, Woken, blocks, done, default, sends, sent_on, given, receives}
+use Rattle.go_sched.specs.Operations.{Answer, Outcome, Woken, blocks, default, sends, sent_on, given, receives}
 use Rattle.go_sched.specs.Operations.{received_from, taken, closes, closed_at, all_gone_on, served_by_close, shut}
 use Rattle.go_sched.specs.Operations.{selects, selects_among, ready_from, acts, acts_at, none_ready, all_entered}
 use Rattle.go_sched.specs.Operations.{entered, first_receives, first_sends}
@@ -144,7 +144,7 @@ none_kept state cases false = all_kept 0 cases state
 noted_kept : (number : ℕ) (state : State) → Keeps state (noted number state)
 noted_kept number state = kept_either state _ state (state.records && nat_lt 0 state.spare) refl refl
 
-picked_kept : (n : ℕ) (state : State) → Keeps state (picked n state)
+pub picked_kept : (n : ℕ) (state : State) → Keeps state (picked n state)
 picked_kept n state =
     kept_either state state _ (nat_le n 1) refl (noted_kept (chosen n state) (used_up state))
 

@@ -1,5 +1,5 @@
 -- Instructions on cells and on parts of values.
-use Rattle.std.proofs.Common.{ℕ, ◌≡◌, ℤ, Bool, true, false, Option, Some, None, refl, sym, ap, ◌∙◌}
+use Rattle.std.proofs.Common.{ℕ, ◌≡◌, ℤ, Bool, true, false, Option, Some, None, refl, sym, ap}
 use Rattle.std.specs.Prelude.{is_none, if◌then◌else◌}
 use Rattle.code_plan.specs.Forms.{IsCut}
 use Rattle.code_plan.specs.Operands.{IsArg, IsArgWhere, AreBounds}
@@ -10,8 +10,7 @@ use Rattle.code_plan.specs.declared.steps.CutForm.{CutForm}
 use Rattle.code_plan.specs.declared.steps.CutForm.TheVariants as cut
 use Rattle.code_plan.specs.declared.steps.Step.{Step}
 use Rattle.code_plan.specs.declared.steps.Step.TheVariants as act
-use Rattle.go_base.specs.declared.ids.CellId.{CellId}
-use Rattle.go_store.specs.Stores.{Stored, put_in}
+use Rattle.go_store.specs.Stores.{put_in}
 use Rattle.go_value.specs.Values.{Val, number, text, pointer, slice}
 use Rattle.go_value.specs.declared.address.Pointer.{Pointer}
 use Rattle.go_value.specs.declared.faults.Fault.TheVariants as fault
@@ -45,19 +44,12 @@ load_settled at k known a register _ may is acting = absurd is
 pub load_alike : (at : Operand) → IsAlike (op.Load at)
 load_alike at = alike_from (op.Load at) (load_settled at)
 
--- a store makes no maps
-maps_put : (it : Val) (store : Stored) (at : Pointer) → (cell : Option CellId) → at.cell ≡ cell
-    → (put_in it store at).maps ≡ store.maps
-maps_put it store at None is = ap (λ cell. (put_in it store (record at { cell = cell })).maps) is
-maps_put it store at (Some cell) is = ap (λ cell. (put_in it store (record at { cell = cell })).maps) is
-
 put_well : (k : Known) (a : Acting) (one other : Arg) → IsActing k a (act.Store one other) → (it : Val)
     → (at : Pointer) (is_nil : Bool) → ChangesWell k a (act.Store one other)
     (if is_nil then faults fault.NilPointer else to (put_in it a.m.store at))
 put_well k a one other acting it at true = tt
 put_well k a one other acting it at false =
     record {
-      maps = maps_put it a.m.store at at.cell refl ∙ acting.top.around.mapless;
       kept = none_pending (k.marks a.frame.function.number) (put_in it a.m.store at) a.frame;
       may = tt;
     }

@@ -1,7 +1,7 @@
 -- The turns of ranges: two registers get values, the range its new state and another what the turn gives.
-use Rattle.std.proofs.Common.{ℕ, ◌≡◌, Bool, true, false, List, [], ◌∷◌, Option, Some, None, refl, sym, ap, ap₂, subst}
+use Rattle.std.proofs.Common.{ℕ, ◌≡◌, Bool, true, false, List, ◌∷◌, Option, Some, None, refl, sym, ap, subst}
 use Rattle.std.proofs.Common.{subst₂, ◌∙◌}
-use Rattle.std.proofs.Common.{filter, length, reverse, if◌then◌else◌, nat_lt, is_some}
+use Rattle.std.proofs.Common.{filter, option_map, length, if◌then◌else◌, nat_lt}
 use Rattle.std.proofs.lemmas.Option.{none-some, same_Some}
 use Rattle.std.specs.Prelude.{slice_set}
 use Rattle.std.specs.Global.{Box}
@@ -12,7 +12,7 @@ use Rattle.code_plan.specs.Registers.{Marks, may_give, behind, register_slot}
 use Rattle.code_plan.specs.declared.steps.Step.{Step}
 use Rattle.code_plan.specs.declared.steps.Step.TheVariants as act
 use Rattle.go_base.specs.declared.ids.MapId.{MapId}
-use Rattle.go_maps.specs.Entries.{entry_at}
+use Rattle.go_maps.specs.Entries.{Map, Pair, entry_at}
 use Rattle.go_sched.specs.Choices.{is_spent, picked}
 use Rattle.go_sched.specs.Goroutines.{State}
 use Rattle.go_type.specs.declared.term.TypeTerm.{TypeTerm}
@@ -24,7 +24,7 @@ use Rattle.plan_laws.proofs.Acting.{acting_on, code_with, plan_with}
 use Rattle.plan_laws.proofs.Alike.{Known, IsKnown, Follows, HasSlots, IsMachine, register_of, slot_of}
 use Rattle.plan_laws.proofs.Giving.{plan_at, IsAlikeSettled, alike_from, may_hold, kept_behind}
 use Rattle.plan_laws.proofs.Going.{machine_with}
-use Rattle.plan_laws.proofs.Mapping.{none_in}
+use Rattle.plan_laws.proofs.Outcomes.{picked_kept}
 use Rattle.plan_laws.proofs.Slots.{slots_with, cells_with, pending_with, top_with, below_with}
 use Rattle.plan_laws.proofs.Values.{IsAlike}
 use Rattle.plan_mean.specs.Ranges as planned_ranges
@@ -37,7 +37,7 @@ use Rattle.ssa_ir.specs.declared.operands.Operand.TheVariants as operand
 use Rattle.ssa_ir.specs.declared.ops.Op.TheVariants as op
 use Rattle.ssa_mean.specs.MapCalls.{entries_of}
 use Rattle.ssa_mean.specs.Operands.{term_of}
-use Rattle.ssa_mean.specs.Ranges.{Turn, turn_of, next_turn, turn_among, standing, ranged, key_in, value_in}
+use Rattle.ssa_mean.specs.Ranges.{Turn, drawn, entry_turn, is_standing, next_turn, ranged, key_in, sched_after, turn_with, value_in}
 use Rattle.ssa_mean.specs.State as codes
 use Rattle.ssa_mean.specs.Step as steps
 use Rattle.ssa_mean.specs.Step.{acts}
@@ -98,7 +98,7 @@ turned k a step acting n (Some register) range slot is same may it current = (
       (plans.with_value slot it.value (plans.with_value range it.range (plan_with c (acting_on a)))))
       (sym is.0) (same_Some (register_slot a.function register) slot same)
       (twice_written k a step acting c
-      (record { current = current; maps = acting.top.around.mapless; kept = kept_behind k a step acting })
+      (record { current = current; kept = kept_behind k a step acting })
       n register it.range it.value
       (is.1, subst (λ is_cell. MayPoint is_cell (behind step a.pending) it.range) (sym is.2) tt)
       (may_hold (k.marks a.frame.function.number) (behind step a.pending) (Some register) it.value may)),
@@ -180,55 +180,49 @@ text_settled k known a register (operand.Register n) range slot may is same acti
     of_value (Some v) = texts_turn k a over v
 text_settled k known a register _ range slot may is same acting = absurd is
 
--- ---- over maps, which have no entries
+-- ---- over maps
 
-none_stand : (left : List ℕ) → filter (λ n. is_some (entry_at [] n)) left ≡ []
-none_stand [] = refl
-none_stand (n ∷ left) = none_stand left
+-- an entry is drawn as the code draws it; the last turn has zero values
+same_turn : (sched : State) (id : Option MapId) (entries : Map) (key it : Val) (entry : Option ℕ) (left : List ℕ)
+    → planned_ranges.turn_with sched id entries key it (record { entry = entry; left = left })
+    ≡ turn_with sched id entries (Some key) (Some it) (record { entry = entry; left = left })
+same_turn sched id entries key it None left = refl
+same_turn sched id entries key it (Some n) left = refl
 
-first_none : (left : List ℕ) → planned_ranges.first_drawn [] left ≡ record { entry = None; left = [] }
-first_none [] = refl
-first_none (n ∷ left) = first_none left
-
-abbrev ended : Option MapId → Val → Val → State → Turn
-ended id key it sched = record { value = turn_of false key it; range = map_range id []; sched = sched }
-
-code_ended : (id : Option MapId) (key it : Val) (sched : State) (left : List ℕ)
-    → turn_among id [] (Some key) (Some it) sched (standing [] left) ≡ Some (ended id key it sched)
-code_ended id key it sched left =
-    ap (λ numbers. turn_among id [] (Some key) (Some it) sched (reverse numbers)) (none_stand left)
-
-plan_ended : (id : Option MapId) (key it : Val) (sched : State) (left : List ℕ)
-    → planned_ranges.turn_with (planned_ranges.sched_after sched [] left) id [] key it
-    (planned_ranges.drawn sched [] left) ≡ Some (ended id key it sched)
-plan_ended id key it sched left = by_spent (is_spent sched)
+sched_kept : (sched : State) (entries : Map) (left : List ℕ) → (sched_after sched entries left).current ≡ sched.current
+sched_kept sched entries left = by_spent (is_spent sched)
   where
     by_spent : (spent : Bool)
-        → planned_ranges.turn_with
-        (if spent then sched else picked (length (filter (planned_ranges.is_standing []) left)) sched) id [] key it
-        (if spent then planned_ranges.first_drawn [] (reverse left)
-        else planned_ranges.drawn_among sched (filter (planned_ranges.is_standing []) left))
-        ≡ Some (ended id key it sched)
-    by_spent true = ap (planned_ranges.turn_with sched id [] key it) (first_none (reverse left))
-    by_spent false =
-        ap (λ numbers. planned_ranges.turn_with (picked (length numbers) sched) id [] key it
-        (planned_ranges.drawn_among sched numbers)) (none_stand left)
+        → (if spent then sched else picked (length (filter (is_standing entries) left)) sched).current ≡ sched.current
+    by_spent true = refl
+    by_spent false = picked_kept (length (filter (is_standing entries) left)) sched
 
-maps_turn : (k : Known) (a : Acting) → a.m.store.maps ≡ [] → (over : Option TypeTerm) (key it : Val)
+-- a turn of the code leaves the goroutine that runs
+turn_current : (a : Acting) (sched : State) (id : Option MapId) (entries : Map) (key it : Val) (entry : Option ℕ) (left : List ℕ)
+    → sched.current ≡ a.m.sched.current
+    → AreOneTurn a (turn_with sched id entries (Some key) (Some it) (record { entry = entry; left = left }))
+    (turn_with sched id entries (Some key) (Some it) (record { entry = entry; left = left }))
+turn_current a sched id entries key it None left same = (refl, same)
+turn_current a sched id entries key it (Some n) left same = by_pair (entry_at entries n)
+  where
+    by_pair : (pair : Option Pair)
+        → AreOneTurn a (option_map (entry_turn sched id left) pair) (option_map (entry_turn sched id left) pair)
+    by_pair None = tt
+    by_pair (Some pair) = (refl, same)
+
+maps_turn : (k : Known) (a : Acting) → (over : Option TypeTerm) (key it : Val)
     → zero_where k.code (key_in over) ≡ Some key → zero_where k.code (value_in over) ≡ Some it → (v : Val)
     → AreOneTurn a (next_turn k.code a.m.store a.m.sched over v) (planned_ranges.map_turn a.m.store a.m.sched key it v)
-maps_turn k a is over key it is_key is_value (map_range id left) =
-    subst₂ (AreOneTurn a)
-    (sym (ap₂ (λ key it. turn_among id (entries_of a.m.store id) key it a.m.sched (standing (entries_of a.m.store id) left))
-    is_key is_value
-    ∙ ap (λ entries. turn_among id entries (Some key) (Some it) a.m.sched (standing entries left))
-    (none_in a.m.store.maps is id)
-    ∙ code_ended id key it a.m.sched left))
-    (sym (ap (λ entries. planned_ranges.turn_with (planned_ranges.sched_after a.m.sched entries left) id entries key it
-    (planned_ranges.drawn a.m.sched entries left)) (none_in a.m.store.maps is id)
-    ∙ plan_ended id key it a.m.sched left))
-    (refl, refl)
-maps_turn k a is over key it is_key is_value v = no_turn a (next_turn k.code a.m.store a.m.sched over v)
+maps_turn k a over key it is_key is_value (map_range id left) =
+    let entries = entries_of a.m.store id in
+    let sched = sched_after a.m.sched entries left in
+    let found = drawn a.m.sched entries left in
+    subst₂ (λ key' it'. AreOneTurn a (turn_with sched id entries key' it' found)
+    (planned_ranges.turn_with sched id entries key it found)) (sym is_key) (sym is_value)
+    (subst (AreOneTurn a (turn_with sched id entries (Some key) (Some it) found))
+    (sym (same_turn sched id entries key it found.entry found.left))
+    (turn_current a sched id entries key it found.entry found.left (sched_kept a.m.sched entries left)))
+maps_turn k a over key it is_key is_value v = no_turn a (next_turn k.code a.m.store a.m.sched over v)
 
 map_settled : (k : Known) → IsKnown k → (a : Acting) (register : Option ℕ) (on : Operand) (range slot : ℕ)
     (key it : Box Value)
@@ -258,7 +252,7 @@ map_settled k known a register (operand.Register n) range slot key it may is is_
         → AreOneTurn a (option_and_then (next_turn k.code a.m.store a.m.sched over) found) (option_and_then turn found)
     of_value None = tt
     of_value (Some v) =
-        maps_turn k a acting.top.around.mapless over (held_value key.value) (held_value it.value) is_key is_value v
+        maps_turn k a over (held_value key.value) (held_value it.value) is_key is_value v
 map_settled k known a register _ range slot key it may is is_key is_value same acting = absurd is
 
 next_settled : (it : Operand) → IsAlikeSettled (op.Next it)

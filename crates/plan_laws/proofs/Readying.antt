@@ -18,7 +18,6 @@ use Rattle.code_plan.specs.declared.steps.Role.TheVariants as role
 use Rattle.code_plan.specs.declared.steps.Step.{Step}
 use Rattle.go_base.specs.declared.ids.FuncId.{FuncId}
 use Rattle.go_base.specs.declared.ids.NameId.{NameId}
-use Rattle.go_type.specs.declared.operators.Builtin.{Builtin}
 use Rattle.go_value.specs.Values as vals
 use Rattle.go_value.specs.Values.{Val}
 use Rattle.go_value.specs.declared.values.BoundTarget.TheVariants as target

@@ -191,7 +191,7 @@ given_alike k a step acting register slot same it may =
     subst (λ (q : plans.Machine). Follows k (steps.goes_behind (site_of k a) register (Some it) a.m)
     (plans.goes (plans.with_result slot (Some it) q))) (sym (settled k a step acting))
     (goes_alike k a step acting (unchanged a.m)
-    (record { current = refl; maps = acting.top.around.mapless; kept = kept_behind k a step acting }) register slot same (Some it)
+    (record { current = refl; kept = kept_behind k a step acting }) register slot same (Some it)
     may)
 
 recovers_true : (k : Known) → IsKnown k → (a : Acting) (step : Step) → IsActing k a step → (register slot : Option ℕ)

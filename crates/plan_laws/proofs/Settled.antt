@@ -1,5 +1,5 @@
 -- Settled frames as frames of which the top one may be anywhere.
-use Rattle.std.proofs.Common.{◌≡◌, List, [], ◌∷◌, Option}
+use Rattle.std.proofs.Common.{List, [], ◌∷◌, Option}
 use Rattle.std.proofs.lemmas.Option.{none-some}
 use Rattle.go_store.specs.Stores.{Stored}
 use Rattle.go_value.specs.Values.{Val}
@@ -13,13 +13,15 @@ pub as_frames : (k : Known) (frames : List codes.Frame) (rows : List (List (Opti
 as_frames k [] rows [] alike = tt
 as_frames k [] rows (planned ∷ others) alike = absurd alike
 as_frames k (frame ∷ below) rows [] alike = absurd alike
-as_frames k (frame ∷ below) rows (planned ∷ others) alike =
-    (record {
-      function = alike.0.function;
-      is = alike.0.is;
-      top = placed alike.0.placed;
-      result = alike.0.result;
-    }, alike.1)
+as_frames k (frame ∷ below) rows (planned ∷ others) alike = (
+  record {
+    function = alike.0.function;
+    is = alike.0.is;
+    top = placed alike.0.placed;
+    result = alike.0.result;
+  },
+  alike.1,
+)
 
 pub held_nothing : (k : Known) (frames : List codes.Frame) (store : Stored) → ArePendingIn k store [] frames
 held_nothing k [] store = tt

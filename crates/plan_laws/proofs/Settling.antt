@@ -110,10 +110,10 @@ settled_behind k a step acting none =
 -- ---- what was written
 
 pub settled_written : (k : Known) (m : codes.Machine) (q : plans.Machine) → IsSettled k m q → (store : Stored)
-    → store.maps ≡ [] → (written : List ℕ)
+    → (written : List ℕ)
     → IsSettled k (record m { store = store; output = m.output ++ written })
     (record q { store = store; output = q.output ++ written })
-settled_written k m q settled store maps written =
+settled_written k m q settled store written =
     record {
       around = record {
         others = settled.around.others;
@@ -121,7 +121,6 @@ settled_written k m q settled store maps written =
         count = settled.around.count;
         starts = settled.around.starts;
         store = refl;
-        mapless = maps;
         sched = settled.around.sched;
         ticks = settled.around.ticks;
         output = ap (λ its. its ++ written) settled.around.output;

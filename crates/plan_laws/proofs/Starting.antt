@@ -45,7 +45,6 @@ new_around k m q around later it alike =
       count = count_more m.goroutines q.others (new_goroutine later) (planned_calls.new_goroutine (Some it)) around.count;
       starts = around.starts;
       store = around.store;
-      mapless = around.mapless;
       sched = ap spawned around.sched;
       ticks = around.ticks;
       output = around.output;
@@ -70,7 +69,7 @@ behind_call : (k : Known) (a : Acting) (call : PlannedCall) → IsActing k a (ac
 behind_call k a call acting =
     subst (IsMachine k [] (steps.behind_call (site_of k a))) (sym (settled k a (act.Go call) acting))
     (behind_machine k a (act.Go call) acting (unchanged a.m)
-    (record { current = refl; maps = acting.top.around.mapless; kept = kept_behind k a (act.Go call) acting })
+    (record { current = refl; kept = kept_behind k a (act.Go call) acting })
     None None refl None tt)
 
 pub go_alike : (call : Call) → IsAlike (op.Go call)

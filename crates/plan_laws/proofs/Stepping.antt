@@ -1,8 +1,8 @@
 -- Steps: the code's machine makes one, and the plan's one or none.
-use Rattle.std.proofs.Common.{◌≡◌, arith, ℕ, suc, Bool, true, false, List, [], ◌∷◌, ◌++◌, Option, Some, None, ap, refl, sym, subst, ◌∙◌}
+use Rattle.std.proofs.Common.{◌≡◌, ℕ, suc, Bool, true, false, List, [], ◌∷◌, ◌++◌, Option, Some, None, ap, refl, sym, subst, ◌∙◌}
 use Rattle.std.proofs.lemmas.Bool.{eqb-true, eq-eqb}
 use Rattle.std.proofs.lemmas.Option.{none-some}
-use Rattle.std.specs.Prelude.{◌==◌, ◌<◌, drop, if◌then◌else◌, length, map, slice_get}
+use Rattle.std.specs.Prelude.{◌==◌, ◌<◌, drop, if◌then◌else◌, length, slice_get}
 use Rattle.std.specs.Option.{option_map}
 use Rattle.code_plan.specs.Forms as forms
 use Rattle.code_plan.specs.Forms.{IsStep, LeadsOn, on, jump_of, next_of}
@@ -12,12 +12,11 @@ use Rattle.code_plan.specs.declared.steps.PlannedBlock.{PlannedBlock}
 use Rattle.code_plan.specs.declared.steps.Step.{Step}
 use Rattle.code_plan.specs.declared.steps.Step.TheVariants as act
 use Rattle.go_base.specs.declared.ids.BlockId.{BlockId}
-use Rattle.go_sched.specs.declared.scheduling.Point.TheVariants as point
 use Rattle.go_store.specs.Stores.{Stored, loaded}
 use Rattle.go_value.specs.Values.{Val, pointer}
 use Rattle.go_value.specs.declared.address.Pointer.{Pointer}
 use Rattle.go_value.specs.declared.faults.Fault.TheVariants as fault
-use Rattle.plan_laws.proofs.Acting.{Acting, IsOnTop, IsActing, site_of, plan_site, acting_on}
+use Rattle.plan_laws.proofs.Acting.{Acting, IsActing, site_of, plan_site, acting_on}
 use Rattle.plan_laws.proofs.Alike.{Known, IsKnown, IsMachine, Follows, IsAround, AreFrames, ArePendingIn, RunsWhere, IsLaterWhere, IsTopFrame, AreBelow}
 use Rattle.plan_laws.proofs.Alike.{IsPlaced, IsAt, IsOnWay, standing, on_way, IsTop, placed, lost, sources_in, shown_state, is_panicking}
 use Rattle.plan_laws.proofs.Alike.{HasSlots, ArePending, IsHeld, register_of}
@@ -32,7 +31,7 @@ use Rattle.plan_laws.proofs.Beginning.{begins_alike}
 use Rattle.plan_laws.proofs.Blocks.{function_of, planned_block, begins}
 use Rattle.plan_laws.proofs.Frames.{frame_moved}
 use Rattle.plan_laws.proofs.Jumping.{jump_alike, if_alike, no_front}
-use Rattle.plan_laws.proofs.Making.{new_alike, make_chan_alike, make_slice_alike}
+use Rattle.plan_laws.proofs.Making.{new_alike, make_chan_alike, make_map_alike, make_slice_alike}
 use Rattle.plan_laws.proofs.Operators.{binary_alike, unary_alike}
 use Rattle.plan_laws.proofs.Places.{load_alike, store_alike, field_alike, extract_alike, field_address_alike, index_alike, index_address_alike, slice_alike}
 use Rattle.plan_laws.proofs.Reading.{one_value}
@@ -41,7 +40,6 @@ use Rattle.plan_laws.proofs.Throwing.{panics_alike}
 use Rattle.plan_laws.proofs.Unwinding.{machine_with, return_alike, run_defers_alike}
 use Rattle.plan_laws.proofs.Values.{IsAlike}
 use Rattle.plan_laws.proofs.Waiting.{send_alike, receive_alike, select_alike}
-use Rattle.plan_laws.specs.Runs.{makes_map}
 use Rattle.plan_mean.specs.Unwinding as planned_unwinding
 use Rattle.ssa_ir.specs.declared.operands.Operand.{Operand}
 use Rattle.ssa_mean.specs.Operands.{value_of}
@@ -50,7 +48,7 @@ use Rattle.plan_laws.proofs.Alike.{IsFrame, GetsResult, IsWholeWhere, runs_where
 use Rattle.plan_laws.proofs.Around.{around_with, there_with}
 use Rattle.plan_laws.proofs.Lists.{same_count}
 use Rattle.plan_laws.proofs.Slots.{cells_with, none_pending, pending_as, placed_with, put_here, put_other, slots_as}
-use Rattle.plan_laws.proofs.Unwinding.{IsUnwinding, unwinds_alike}
+use Rattle.plan_laws.proofs.Unwinding.{unwinds_alike}
 use Rattle.plan_mean.specs.Slots.{top_of, below_top}
 use Rattle.plan_mean.specs.State as plans
 use Rattle.plan_mean.specs.Step as planned
@@ -60,7 +58,6 @@ use Rattle.ssa_ir.specs.declared.operands.Operand.TheVariants as operand
 use Rattle.ssa_ir.specs.declared.ops.Instr.{Instr}
 use Rattle.ssa_ir.specs.declared.ops.Op.{Op}
 use Rattle.ssa_ir.specs.declared.ops.Op.TheVariants as op
-use Rattle.ssa_mean.specs.Operands.{function_at}
 use Rattle.ssa_mean.specs.State as codes
 use Rattle.ssa_mean.specs.State.{FrameState, running, returning, panicking}
 use Rattle.ssa_mean.specs.Comes.{faults, where_some, of_option}
@@ -208,36 +205,41 @@ late_machine k pending m q g function frame below it others is register cell at 
       g = record g { frames = after ∷ below };
       there = there_with m (record g { frames = after ∷ below }) g is.there;
       is = record {
-        frames = (record {
-          function = function;
-          is = record {
-            there = is.is.there;
-            planned_there = is.is.planned_there;
-            slots = slots_as function (k.marks frame.function.number) given after (top_of q.current.slots)
-                (record { parameters = refl; free = refl; registers = refl })
-                (late_slots function (k.marks frame.function.number) frame (top_of q.current.slots) is.is.slots register value
-                is_late);
-            cells = cells_with (k.marks frame.function.number) pending frame is.is.cells register value
-                (subst (λ b. MayPoint b pending value) (sym no_cell) tt);
-            deferred = is.is.deferred;
-            state = is.is.state;
-            chain = is.is.chain;
-            passed = is.is.passed;
-            defers = is.is.defers;
-            recovers = is.is.recovers;
-          };
-          top = placed (placed_with k function (pending ++ (register, cell) ∷ []) (codes.advanced frame) it
-              (codes.with_register register value frame).registers place);
-          result = is.result;
-        }, is.lower);
+        frames = (
+          record {
+            function = function;
+            is = record {
+              there = is.is.there;
+              planned_there = is.is.planned_there;
+              slots = slots_as function (k.marks frame.function.number) given after (top_of q.current.slots)
+                  (record { parameters = refl; free = refl; registers = refl })
+                  (late_slots function (k.marks frame.function.number) frame (top_of q.current.slots) is.is.slots register value
+                  is_late);
+              cells = cells_with (k.marks frame.function.number) pending frame is.is.cells register value
+                  (subst (λ b. MayPoint b pending value) (sym no_cell) tt);
+              deferred = is.is.deferred;
+              state = is.is.state;
+              chain = is.is.chain;
+              passed = is.is.passed;
+              defers = is.is.defers;
+              recovers = is.is.recovers;
+            };
+            top = placed (placed_with k function (pending ++ (register, cell) ∷ []) (codes.advanced frame) it
+                (codes.with_register register value frame).registers place);
+            result = is.result;
+          },
+          is.lower,
+        );
         begin = is.begin;
         fault = is.fault;
         sources = is.sources ∙ same_count (is_source k.code) frame after below refl;
       };
-      held = (pending_as (k.marks frame.function.number) m.store (pending ++ (register, cell) ∷ []) given after refl
-      (late_pending function (k.marks frame.function.number) m.store pending frame is.held register cell at value
-      (subst (λ n. register < n) (sym is.is.slots.registers) within) is_late is_cell slotted points loads),
-      runs_where (pending ++ (register, cell) ∷ []) after is.runs);
+      held = (
+        pending_as (k.marks frame.function.number) m.store (pending ++ (register, cell) ∷ []) given after refl
+            (late_pending function (k.marks frame.function.number) m.store pending frame is.held register cell at value
+            (subst (λ n. register < n) (sym is.is.slots.registers) within) is_late is_cell slotted points loads),
+        runs_where (pending ++ (register, cell) ∷ []) after is.runs,
+      );
     }
   where
     given : codes.Frame
@@ -393,48 +395,48 @@ may_wait (op.Select blocking cases) = true
 may_wait _ = false
 
 -- each instruction that is no late load
-acts_alike : (k : Known) → IsKnown k → (a : Acting) (register : Option ℕ) (it : Op) (step : Step) → makes_map it ≡ false
+acts_alike : (k : Known) → IsKnown k → (a : Acting) (register : Option ℕ) (it : Op) (step : Step)
     → may_give (k.marks a.frame.function.number) it register ≡ true → IsStep (plan_site k a) register it step
     → IsActing k a step → (may_wait it ≡ true → IsPlaced k a.function [] a.frame a.planned)
     → Follows k (steps.acts (site_of k a) register it) (planned.acts k.w (acting_on a) step)
 unfolding steps.acts
-acts_alike k known a register (op.New of) step no_map may is acting stays = new_alike of k known a register step may is acting
-acts_alike k known a register (op.Phi edges) step no_map may is acting stays = tt
-acts_alike k known a register (op.Binary o left right) step no_map may is acting stays = binary_alike o left right k known a register step may is acting
-acts_alike k known a register (op.Unary o it) step no_map may is acting stays = unary_alike o it k known a register step may is acting
-acts_alike k known a register (op.Load at) step no_map may is acting stays = load_alike at k known a register step may is acting
-acts_alike k known a register (op.Store at it) step no_map may is acting stays = store_alike at it k known a register step may is acting
-acts_alike k known a register (op.Field it field) step no_map may is acting stays = field_alike it field k known a register step may is acting
-acts_alike k known a register (op.FieldAddress it field) step no_map may is acting stays = field_address_alike it field k known a register step may is acting
-acts_alike k known a register (op.Index it index) step no_map may is acting stays = index_alike it index k known a register step may is acting
-acts_alike k known a register (op.IndexAddress it index) step no_map may is acting stays = index_address_alike it index k known a register step may is acting
-acts_alike k known a register (op.Lookup it key comma_ok) step no_map may is acting stays = lookup_alike it key comma_ok k known a register step may is acting
-acts_alike k known a register (op.Update it key new) step no_map may is acting stays = update_alike it key new k known a register step may is acting
-acts_alike k known a register (op.Slice it low high max) step no_map may is acting stays = slice_alike it low high max k known a register step may is acting
-acts_alike k known a register (op.Convert of it) step no_map may is acting stays = convert_alike of it k known a register step may is acting
-acts_alike k known a register (op.ChangeType of it) step no_map may is acting stays = change_type_alike of it k known a register step may is acting
-acts_alike k known a register (op.MakeInterface of it) step no_map may is acting stays = make_interface_alike of it k known a register step may is acting
-acts_alike k known a register (op.ChangeInterface of it) step no_map may is acting stays = change_interface_alike of it k known a register step may is acting
-acts_alike k known a register (op.MakeClosure id captured) step no_map may is acting stays = make_closure_alike id captured k known a register step may is acting
-acts_alike k known a register (op.MakeMap of) step no_map may is acting stays = let clash : true ≡ false = no_map in absurd cc
-acts_alike k known a register (op.MakeChan of size) step no_map may is acting stays = make_chan_alike of size k known a register step may is acting
-acts_alike k known a register (op.MakeSlice of len cap) step no_map may is acting stays = make_slice_alike of len cap k known a register step may is acting
-acts_alike k known a register (op.TypeAssert it of comma_ok) step no_map may is acting stays = assert_alike it of comma_ok k known a register step may is acting
-acts_alike k known a register (op.Call call) step no_map may is acting stays = call_alike call k known a register step may is acting
-acts_alike k known a register (op.Go call) step no_map may is acting stays = go_alike call k known a register step may is acting
-acts_alike k known a register (op.Defer call) step no_map may is acting stays = defer_alike call k known a register step may is acting
-acts_alike k known a register op.RunDefers step no_map may is acting stays = run_defers_alike k known a register step may is acting
-acts_alike k known a register (op.Send channel it) step no_map may is acting stays = send_alike channel it k known a register step may is acting (stays refl)
-acts_alike k known a register (op.Receive channel comma_ok) step no_map may is acting stays = receive_alike channel comma_ok k known a register step may is acting (stays refl)
-acts_alike k known a register (op.Select blocking cases) step no_map may is acting stays = select_alike blocking cases k known a register step may is acting (stays refl)
-acts_alike k known a register (op.Range it) step no_map may is acting stays = range_alike it k known a register step may is acting
-acts_alike k known a register (op.Next it) step no_map may is acting stays = next_alike it k known a register step may is acting
-acts_alike k known a register (op.Extract it part) step no_map may is acting stays = extract_alike it part k known a register step may is acting
-acts_alike k known a register op.Tick step no_map may is acting stays = tick_alike k known a register step may is acting
-acts_alike k known a register (op.Jump block) step no_map may is acting stays = jump_alike block k known a register step may is acting
-acts_alike k known a register (op.If test one other) step no_map may is acting stays = if_alike test one other k known a register step may is acting
-acts_alike k known a register (op.Return results) step no_map may is acting stays = return_alike results k known a register step may is acting
-acts_alike k known a register (op.Panic it) step no_map may is acting stays = panic_alike it k known a register step may is acting
+acts_alike k known a register (op.New of) step may is acting stays = new_alike of k known a register step may is acting
+acts_alike k known a register (op.Phi edges) step may is acting stays = tt
+acts_alike k known a register (op.Binary o left right) step may is acting stays = binary_alike o left right k known a register step may is acting
+acts_alike k known a register (op.Unary o it) step may is acting stays = unary_alike o it k known a register step may is acting
+acts_alike k known a register (op.Load at) step may is acting stays = load_alike at k known a register step may is acting
+acts_alike k known a register (op.Store at it) step may is acting stays = store_alike at it k known a register step may is acting
+acts_alike k known a register (op.Field it field) step may is acting stays = field_alike it field k known a register step may is acting
+acts_alike k known a register (op.FieldAddress it field) step may is acting stays = field_address_alike it field k known a register step may is acting
+acts_alike k known a register (op.Index it index) step may is acting stays = index_alike it index k known a register step may is acting
+acts_alike k known a register (op.IndexAddress it index) step may is acting stays = index_address_alike it index k known a register step may is acting
+acts_alike k known a register (op.Lookup it key comma_ok) step may is acting stays = lookup_alike it key comma_ok k known a register step may is acting
+acts_alike k known a register (op.Update it key new) step may is acting stays = update_alike it key new k known a register step may is acting
+acts_alike k known a register (op.Slice it low high max) step may is acting stays = slice_alike it low high max k known a register step may is acting
+acts_alike k known a register (op.Convert of it) step may is acting stays = convert_alike of it k known a register step may is acting
+acts_alike k known a register (op.ChangeType of it) step may is acting stays = change_type_alike of it k known a register step may is acting
+acts_alike k known a register (op.MakeInterface of it) step may is acting stays = make_interface_alike of it k known a register step may is acting
+acts_alike k known a register (op.ChangeInterface of it) step may is acting stays = change_interface_alike of it k known a register step may is acting
+acts_alike k known a register (op.MakeClosure id captured) step may is acting stays = make_closure_alike id captured k known a register step may is acting
+acts_alike k known a register (op.MakeMap of) step may is acting stays = make_map_alike of k known a register step may is acting
+acts_alike k known a register (op.MakeChan of size) step may is acting stays = make_chan_alike of size k known a register step may is acting
+acts_alike k known a register (op.MakeSlice of len cap) step may is acting stays = make_slice_alike of len cap k known a register step may is acting
+acts_alike k known a register (op.TypeAssert it of comma_ok) step may is acting stays = assert_alike it of comma_ok k known a register step may is acting
+acts_alike k known a register (op.Call call) step may is acting stays = call_alike call k known a register step may is acting
+acts_alike k known a register (op.Go call) step may is acting stays = go_alike call k known a register step may is acting
+acts_alike k known a register (op.Defer call) step may is acting stays = defer_alike call k known a register step may is acting
+acts_alike k known a register op.RunDefers step may is acting stays = run_defers_alike k known a register step may is acting
+acts_alike k known a register (op.Send channel it) step may is acting stays = send_alike channel it k known a register step may is acting (stays refl)
+acts_alike k known a register (op.Receive channel comma_ok) step may is acting stays = receive_alike channel comma_ok k known a register step may is acting (stays refl)
+acts_alike k known a register (op.Select blocking cases) step may is acting stays = select_alike blocking cases k known a register step may is acting (stays refl)
+acts_alike k known a register (op.Range it) step may is acting stays = range_alike it k known a register step may is acting
+acts_alike k known a register (op.Next it) step may is acting stays = next_alike it k known a register step may is acting
+acts_alike k known a register (op.Extract it part) step may is acting stays = extract_alike it part k known a register step may is acting
+acts_alike k known a register op.Tick step may is acting stays = tick_alike k known a register step may is acting
+acts_alike k known a register (op.Jump block) step may is acting stays = jump_alike block k known a register step may is acting
+acts_alike k known a register (op.If test one other) step may is acting stays = if_alike test one other k known a register step may is acting
+acts_alike k known a register (op.Return results) step may is acting stays = return_alike results k known a register step may is acting
+acts_alike k known a register (op.Panic it) step may is acting stays = panic_alike it k known a register step may is acting
 
 -- an instruction at which a goroutine may wait is planned with nothing pending, whatever was
 waits_at : (k : Known) (function : Function) (pending last : Pending) (frame : codes.Frame) (it : plans.Frame) (first : Instr)
@@ -497,7 +499,7 @@ does_alike k known pending m q g function frame below it others is at all its p 
     let both = at_drop (instrs_at function frame.block) frame.place instr rest instrs in
     let planned_both = at_drop it.steps it.step step more steps_are in
     let is_step' : IsStep (record { code = k.code; function = function; marks = k.marks frame.function.number; pending = before instr.op pending })
-        instr.register instr.op step =
+    instr.register instr.op step =
     subst (λ (p : Pending). IsStep (record { code = k.code; function = function; marks = k.marks frame.function.number; pending = before instr.op p })
     instr.register instr.op step) same is_step in
     let goes' : Goes k.code function (k.marks frame.function.number) (behind step (before instr.op pending)) rest more last =
@@ -511,7 +513,7 @@ does_alike k known pending m q g function frame below it others is at all its p 
     (planned.does k.w (planned_on q it others) it others found))
     (sym planned_both.0)
     (acts_alike k known (acting_at m q g function frame below it others (before instr.op pending)) instr.register instr.op step
-    (known.mapless frame.function.number frame.block frame.place function instr is.is.there both.0) may is_step'
+    may is_step'
     (is_acting k pending m q g function frame below it others is instr.op step
     (standing (behind step (before instr.op pending)) _ _ (record {
       same = at.same;
@@ -578,15 +580,17 @@ way_machine : (k : Known) → IsKnown k → (m : codes.Machine) (q : plans.Machi
     → IsMachine k [] (codes.with_frames g (steps_of.at_block function way.number frame ∷ below) m) (planned_on q it others)
 way_machine k known m q g function frame below it others is way =
     machine_with k m q is.around g is.there (steps_of.at_block function way.number frame ∷ below)
-    (record (q.current) { frames = it ∷ others })
-    (record {
-      function = function;
-      is = frame_moved k function frame (top_of q.current.slots) it is.is way.number (phis_first (instrs_at function way.number))
-      frame.state frame.defers it.block it.steps it.step it.state it.defers is.is.state is.is.defers is.is.recovers;
-      top = placed (way_placed k known function frame (top_of q.current.slots) it is.is way.number it.block way.leads way.phis
-      way.block way.is way.steps way.begin refl);
-      result = is.result;
-    }, is.lower)
+    (record (q.current) { frames = it ∷ others }) (
+      record {
+        function = function;
+        is = frame_moved k function frame (top_of q.current.slots) it is.is way.number (phis_first (instrs_at function way.number))
+            frame.state frame.defers it.block it.steps it.step it.state it.defers is.is.state is.is.defers is.is.recovers;
+        top = placed (way_placed k known function frame (top_of q.current.slots) it is.is way.number it.block way.leads way.phis
+            way.block way.is way.steps way.begin refl);
+        result = is.result;
+      },
+      is.lower,
+    )
     is.begin is.fault
     (is.sources ∙ same_count (is_source k.code) frame (steps_of.at_block function way.number frame) below refl)
 

@@ -1,10 +1,9 @@
 -- Panics in both machines.
-use Rattle.std.proofs.Common.{◌≡◌, ℕ, suc, Bool, true, false, List, [], ◌∷◌, Option, Some, None, ap, refl, sym, subst, ◌∙◌}
+use Rattle.std.proofs.Common.{◌≡◌, ℕ, suc, true, false, List, [], ◌∷◌, Option, Some, None, ap, refl, sym, subst, ◌∙◌}
 use Rattle.std.proofs.lemmas.Option.{none-some}
-use Rattle.std.specs.Prelude.{◌<◌, length, drop, is_some, map, reverse, slice_get}
-use Rattle.std.specs.List.{AllZip}
+use Rattle.std.specs.Prelude.{◌<◌, length, is_some, slice_get}
 use Rattle.std.specs.Option.{option_map, option_map_or}
-use Rattle.code_plan.specs.Plans.{Goes, IsFunction, IsWithin}
+use Rattle.code_plan.specs.Plans.{IsFunction, IsWithin}
 use Rattle.code_plan.specs.declared.steps.PlannedBlock.{PlannedBlock}
 use Rattle.code_plan.specs.declared.steps.Step.{Step}
 use Rattle.go_base.specs.declared.ending.Ending.TheVariants as ending
@@ -13,8 +12,8 @@ use Rattle.go_value.specs.Values.{Val, nil_interface}
 use Rattle.go_value.specs.declared.faults.Fault.{Fault}
 use Rattle.go_value.specs.declared.faults.Fault.TheVariants as fault
 use Rattle.plan_laws.proofs.Acting.{Acting, IsOnTop, IsActing, acting_on}
-use Rattle.plan_laws.proofs.Alike.{Known, IsKnown, IsMachine, Follows, IsAround, AreFrames, AreBelow, IsTopFrame, IsFrame, IsTop, placed, lost}
-use Rattle.plan_laws.proofs.Alike.{IsPlaced, standing, on_way, IsLaterWhere, GetsResult, Recovers, IsGoroutine, sources_in}
+use Rattle.plan_laws.proofs.Alike.{Known, IsKnown, IsMachine, Follows, IsAround, AreFrames, AreBelow, IsTopFrame, IsFrame, placed, lost}
+use Rattle.plan_laws.proofs.Alike.{standing, IsLaterWhere, GetsResult, Recovers, sources_in}
 use Rattle.plan_laws.proofs.Around.{around_current, around_with, there_with}
 use Rattle.plan_laws.proofs.Frames.{frame_moved}
 use Rattle.plan_laws.proofs.Lists.{item_below, same_count}
@@ -25,7 +24,7 @@ use Rattle.plan_mean.specs.Unwinding as planned
 use Rattle.plan_mean.specs.Unwinding.{shown}
 use Rattle.ssa_ir.specs.Blocks.{instrs_at}
 use Rattle.ssa_ir.specs.declared.code.Function.{Function}
-use Rattle.ssa_mean.specs.Faults.{value_text, thrown_text, thrown_with, thrown_by, error_string, naming_of}
+use Rattle.ssa_mean.specs.Faults.{value_text, thrown_text, thrown_with, thrown_by, naming_of}
 use Rattle.ssa_mean.specs.Operands.{function_at}
 use Rattle.ssa_mean.specs.State as codes
 use Rattle.ssa_mean.specs.State.{Thrown, of_value, of_text, panicking}
@@ -79,7 +78,7 @@ lost_top k function frame row it is below result thrown none =
     record {
       function = function;
       is = frame_moved k function frame row it is frame.block frame.place (panicking thrown) frame.defers it.block it.steps
-      it.step (panicking (shown thrown)) it.defers refl is.defers is.recovers;
+          it.step (panicking (shown thrown)) it.defers refl is.defers is.recovers;
       top = lost (record { panics = refl; no_recovery = none; no_defers = no_calls frame.defers function is.recovers none });
       result = result;
     }
@@ -94,7 +93,7 @@ placed_top k known function frame row it is below result thrown n at =
     record {
       function = function;
       is = frame_moved k function frame row it is n (steps.phis_first (instrs_at function n)) (panicking thrown) frame.defers
-      n at.it.steps.items 0 (panicking (shown thrown)) it.defers refl is.defers is.recovers;
+          n at.it.steps.items 0 (panicking (shown thrown)) it.defers refl is.defers is.recovers;
       top = placed (standing [] _ _ (record {
         same = refl;
         block = at.it;
@@ -186,21 +185,23 @@ top_throws : (k : Known) → IsKnown k → (m : codes.Machine) (q : plans.Machin
     → GetsResult k frame.result it.result below → AreBelow k below (below_top q.current.slots) others → (thrown : Thrown)
     → Follows k (steps.throws_from k.code m g (frame ∷ below) thrown)
     (planned.throws_from k.w (shown thrown) q (it ∷ others))
-top_throws k known m q around g there begin fault frame below it others sources function is result lower thrown =
-    ([], record {
-      around = around_with k m q around
-      (record g { frames = steps.panics k.code thrown frame ∷ below })
-      (record (q.current) { frames = record (planned.at_recovery it) { state = panicking (shown thrown) } ∷ others });
-      g = record g { frames = steps.panics k.code thrown frame ∷ below };
-      there = there_with m (record g { frames = steps.panics k.code thrown frame ∷ below }) g there;
-      is = record {
-        frames = (panics_top k known function frame (top_of q.current.slots) it is below result thrown, lower);
-        begin = begin;
-        fault = fault;
-        sources = sources ∙ same_sources k function frame below thrown is.there;
-      };
-      held = (λ register cell late. absurd (none-some cell late), tt);
-    })
+top_throws k known m q around g there begin fault frame below it others sources function is result lower thrown = (
+  [],
+  record {
+    around = around_with k m q around
+        (record g { frames = steps.panics k.code thrown frame ∷ below })
+        (record (q.current) { frames = record (planned.at_recovery it) { state = panicking (shown thrown) } ∷ others });
+    g = record g { frames = steps.panics k.code thrown frame ∷ below };
+    there = there_with m (record g { frames = steps.panics k.code thrown frame ∷ below }) g there;
+    is = record {
+      frames = (panics_top k known function frame (top_of q.current.slots) it is below result thrown, lower);
+      begin = begin;
+      fault = fault;
+      sources = sources ∙ same_sources k function frame below thrown is.there;
+    };
+    held = (λ register cell late. absurd (none-some cell late), tt);
+  },
+)
 
 pub throws_here : (k : Known) → IsKnown k → (m : codes.Machine) (q : plans.Machine) → IsAround k m q → (g : codes.Goroutine)
     → slice_get m.goroutines m.sched.current.number ≡ Some g → IsLaterWhere g.begin q.current.begin

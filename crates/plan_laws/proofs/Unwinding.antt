@@ -1,23 +1,21 @@
 -- Frames that return or panic.
-use Rattle.std.proofs.Common.{◌≡◌, ℕ, pred, suc, Bool, true, false, List, [], ◌∷◌, ◌++◌, Option, Some, None, ap, refl, sym, subst, ◌∙◌}
+use Rattle.std.proofs.Common.{◌≡◌, suc, Bool, true, false, List, [], ◌∷◌, ◌++◌, Option, Some, None, ap, refl, sym, subst, ◌∙◌}
 use Rattle.std.proofs.lemmas.List.{reverse-append}
-use Rattle.std.proofs.lemmas.Option.{none-some}
-use Rattle.std.specs.Prelude.{filter, if◌then◌else◌, length, reverse, slice_get, codes}
+use Rattle.std.specs.Prelude.{if◌then◌else◌, reverse, slice_get, codes}
 use Rattle.std.specs.List.{AllZip}
-use Rattle.std.specs.Option.{option_map, option_map_or}
+use Rattle.std.specs.Option.{option_map_or}
 use Rattle.std.specs.Str.{bytes_eq}
 use Rattle.code_plan.specs.Operands.{AreArgs}
-use Rattle.code_plan.specs.Plans.{IsFunction, role_of}
+use Rattle.code_plan.specs.Plans.{role_of}
 use Rattle.code_plan.specs.Registers.{behind}
-use Rattle.code_plan.specs.declared.steps.PlannedFunction.{PlannedFunction}
 use Rattle.code_plan.specs.declared.steps.Role.TheVariants as role
 use Rattle.code_plan.specs.declared.steps.Step.{Step}
 use Rattle.code_plan.specs.declared.steps.Step.TheVariants as act
 use Rattle.go_value.specs.Values.{Val}
 use Rattle.go_value.specs.declared.faults.Fault.{Fault}
 use Rattle.plan_laws.proofs.Acting.{Acting, IsActing, IsSettled, site_of, plan_site, acting_on}
-use Rattle.plan_laws.proofs.Alike.{Known, IsKnown, IsMachine, Follows, IsAround, AreFrames, AreBelow, IsTopFrame, IsBelow, IsFrame, IsTop, placed, lost}
-use Rattle.plan_laws.proofs.Alike.{IsPlaced, IsLater, IsLaterWhere, GetsResult, Recovers, IsGoroutine, sources_in, shown_state, is_panicking}
+use Rattle.plan_laws.proofs.Alike.{Known, IsKnown, IsMachine, Follows, IsAround, AreFrames, AreBelow, IsTopFrame, IsFrame, IsTop, placed, lost}
+use Rattle.plan_laws.proofs.Alike.{IsPlaced, IsLater, IsLaterWhere, Recovers, sources_in, shown_state, is_panicking}
 use Rattle.plan_laws.proofs.Around.{around_current, around_with, there_with}
 use Rattle.plan_laws.proofs.Blocks.{function_of}
 use Rattle.plan_laws.proofs.Calling.{makes_alike}
@@ -29,7 +27,6 @@ use Rattle.plan_laws.proofs.Settled.{as_frames, held_nothing}
 use Rattle.plan_laws.proofs.Throwing.{throws_here}
 use Rattle.plan_laws.proofs.Values.{IsAlike}
 use Rattle.plan_mean.specs.Calls as planned_calls
-use Rattle.plan_laws.proofs.Alike as Alike
 use Rattle.plan_mean.specs.Operands.{look_at_all}
 use Rattle.plan_mean.specs.Slots.{top_of, below_top}
 use Rattle.plan_mean.specs.State as plans
@@ -43,7 +40,7 @@ use Rattle.ssa_ir.specs.declared.operands.Operand.{Operand}
 use Rattle.ssa_ir.specs.declared.ops.Op.TheVariants as op
 use Rattle.ssa_mean.specs.Calls as calls
 use Rattle.ssa_mean.specs.Calls.{results_of}
-use Rattle.ssa_mean.specs.Operands.{function_at, values_of}
+use Rattle.ssa_mean.specs.Operands.{values_of}
 use Rattle.ssa_mean.specs.State as codes
 use Rattle.ssa_mean.specs.State.{FrameState, Thrown, running, returning, panicking}
 use Rattle.ssa_mean.specs.Step as steps
@@ -110,20 +107,22 @@ gone : (k : Known) → IsKnown k → (a : Acting) (step : Step) → IsActing k a
 gone k known a step acting results =
     subst (λ (q : plans.Machine). Follows k (steps.returns (site_of k a) results) (plans.goes q))
     (sym (result_slots a.planned.result (results_of results)
-    (plans.with_current (planned_unwinding.popped (acting_on a).current) (acting_on a))))
-    ([], machine_with k a.m a.q acting.top.around a.g acting.top.there (calls.given a.frame results a.below)
-    (record (planned_unwinding.popped (acting_on a).current) {
-      slots = slots_after a.planned.result (results_of results) (below_top a.q.current.slots);
-    })
-    (as_frames k (calls.given a.frame results a.below) _ a.others
-    (subst (λ frames. AreBelow k frames (slots_after a.planned.result (results_of results) (below_top a.q.current.slots)) a.others)
-    (sym (given_is a.below))
-    (below_given k a.below (below_top a.q.current.slots) a.others acting.top.below a.frame.result a.planned.result acting.top.result
-    (results_of results))))
-    acting.top.begin acting.top.fault
-    (sources_below k a.frame a.below a.q.current.sources (planned_unwinding.is_source a.planned.function.role)
-    (same_source k known a.function a.frame (top_of a.q.current.slots) a.planned acting.top.is) acting.top.sources
-    ∙ sym (ap (sources_in k) (given_is a.below) ∙ sources_given k a.frame.result (results_of results) a.below)))
+    (plans.with_current (planned_unwinding.popped (acting_on a).current) (acting_on a)))) (
+      [],
+      machine_with k a.m a.q acting.top.around a.g acting.top.there (calls.given a.frame results a.below)
+          (record (planned_unwinding.popped (acting_on a).current) {
+            slots = slots_after a.planned.result (results_of results) (below_top a.q.current.slots);
+          })
+          (as_frames k (calls.given a.frame results a.below) _ a.others
+          (subst (λ frames. AreBelow k frames (slots_after a.planned.result (results_of results) (below_top a.q.current.slots)) a.others)
+          (sym (given_is a.below))
+          (below_given k a.below (below_top a.q.current.slots) a.others acting.top.below a.frame.result a.planned.result acting.top.result
+          (results_of results))))
+          acting.top.begin acting.top.fault
+          (sources_below k a.frame a.below a.q.current.sources (planned_unwinding.is_source a.planned.function.role)
+          (same_source k known a.function a.frame (top_of a.q.current.slots) a.planned acting.top.is) acting.top.sources
+          ∙ sym (ap (sources_in k) (given_is a.below) ∙ sources_given k a.frame.result (results_of results) a.below)),
+    )
   where
     given_is : (below : List codes.Frame)
         → calls.given a.frame results below ≡ frames_given a.frame.result (results_of results) below
@@ -179,25 +178,29 @@ defers_machine : (k : Known) (a : Acting) (step : Step) → IsActing k a step �
     → Follows k (codes.goes (codes.with_frames a.g (codes.advanced (record (a.frame) { state = state }) ∷ a.below) a.m))
     (plans.goes (plans.with_frames (record (plans.advanced a.planned) { state = shown_state state; defers = defers' } ∷ a.others)
     (acting_on a)))
-defers_machine k a step acting none state defers' alike =
-    ([], machine_with k a.m a.q acting.top.around a.g acting.top.there
-    (codes.advanced (record (a.frame) { state = state }) ∷ a.below)
-    (record (a.q.current) {
-      frames = record (plans.advanced a.planned) { state = shown_state state; defers = defers' } ∷ a.others;
-    })
-    (record {
-      function = a.function;
-      is = frame_moved k a.function a.frame (top_of a.q.current.slots) a.planned acting.top.is a.frame.block (suc a.frame.place)
-      state a.frame.defers a.planned.block a.planned.steps (suc a.planned.step) (shown_state state) defers' refl alike
-      acting.top.is.recovers;
-      top = placed (placed_as k a.function (codes.advanced a.frame) (plans.advanced a.planned)
-      (subst (λ pending. IsPlaced k a.function pending (codes.advanced a.frame) (plans.advanced a.planned)) none acting.place)
-      state a.frame.defers (shown_state state) defers');
-      result = acting.top.result;
-    }, acting.top.below)
-    acting.top.begin acting.top.fault
-    (acting.top.sources
-    ∙ same_count (unwinding.is_source k.code) a.frame (codes.advanced (record (a.frame) { state = state })) a.below refl))
+defers_machine k a step acting none state defers' alike = (
+  [],
+  machine_with k a.m a.q acting.top.around a.g acting.top.there
+      (codes.advanced (record (a.frame) { state = state }) ∷ a.below)
+      (record (a.q.current) {
+        frames = record (plans.advanced a.planned) { state = shown_state state; defers = defers' } ∷ a.others;
+      }) (
+        record {
+          function = a.function;
+          is = frame_moved k a.function a.frame (top_of a.q.current.slots) a.planned acting.top.is a.frame.block (suc a.frame.place)
+              state a.frame.defers a.planned.block a.planned.steps (suc a.planned.step) (shown_state state) defers' refl alike
+              acting.top.is.recovers;
+          top = placed (placed_as k a.function (codes.advanced a.frame) (plans.advanced a.planned)
+              (subst (λ pending. IsPlaced k a.function pending (codes.advanced a.frame) (plans.advanced a.planned)) none acting.place)
+              state a.frame.defers (shown_state state) defers');
+          result = acting.top.result;
+        },
+        acting.top.below,
+      )
+      acting.top.begin acting.top.fault
+      (acting.top.sources
+      ∙ same_count (unwinding.is_source k.code) a.frame (codes.advanced (record (a.frame) { state = state })) a.below refl),
+)
 
 run_defers_by : (k : Known) (a : Acting) → IsActing k a act.RunDefers → (defers : List codes.Later) (defers' : List plans.Later)
     → a.frame.defers ≡ defers → AllZip IsLater defers (reverse defers')
@@ -290,18 +293,22 @@ goes_on : (k : Known) (m : codes.Machine) (q : plans.Machine) (g : codes.Gorouti
     → IsUnwinding k m q g frame below it others → is_panicking frame.state ≡ false
     → Follows k (codes.goes (codes.with_frames g (record frame { state = running } ∷ below) m))
     (plans.goes (plans.with_frames (record it { state = running } ∷ others) q))
-goes_on k m q g frame below it others is calm =
-    ([], machine_with k m q is.around g is.there (record frame { state = running } ∷ below)
-    (record (q.current) { frames = record it { state = running } ∷ others })
-    (record {
-      function = is.top.function;
-      is = frame_moved k is.top.function frame (top_of q.current.slots) it is.top.is frame.block frame.place running
-      frame.defers it.block it.steps it.step running it.defers refl is.top.is.defers is.top.is.recovers;
-      top = calm_top is.top.top;
-      result = is.top.result;
-    }, is.lower)
-    is.begin is.fault
-    (is.sources ∙ same_count (unwinding.is_source k.code) frame (record frame { state = running }) below refl))
+goes_on k m q g frame below it others is calm = (
+  [],
+  machine_with k m q is.around g is.there (record frame { state = running } ∷ below)
+      (record (q.current) { frames = record it { state = running } ∷ others }) (
+        record {
+          function = is.top.function;
+          is = frame_moved k is.top.function frame (top_of q.current.slots) it is.top.is frame.block frame.place running
+              frame.defers it.block it.steps it.step running it.defers refl is.top.is.defers is.top.is.recovers;
+          top = calm_top is.top.top;
+          result = is.top.result;
+        },
+        is.lower,
+      )
+      is.begin is.fault
+      (is.sources ∙ same_count (unwinding.is_source k.code) frame (record frame { state = running }) below refl),
+)
   where
     calm_top : IsTop k is.top.function [] frame it
         → IsTop k is.top.function [] (record frame { state = running }) (record it { state = running })
@@ -385,18 +392,20 @@ unwinds_by k known m q g frame below it others is (later ∷ defers) (first ∷ 
     makes_alike k known (codes.with_frames g (record frame { defers = defers } ∷ below) m)
     (record q { current = record (q.current) { frames = record it { defers = planned.front_of first rest } ∷ others } })
     (settled_with k m q is.around g is.there (record frame { defers = defers } ∷ below)
-    (record (q.current) { frames = record it { defers = planned.front_of first rest } ∷ others })
-    (record {
-      function = is.top.function;
-      is = frame_moved k is.top.function frame (top_of q.current.slots) it is.top.is frame.block frame.place frame.state
-      defers it.block it.steps it.step it.state (planned.front_of first rest) is.top.is.state both.1
-      (fewer_recovers defers later is.top.function
-      (subst (λ (its : List codes.Later). Recovers its is.top.function) same is.top.is.recovers));
-      placed = placed_as k is.top.function frame it
-      (some_placed k is.top.function frame it is.top.top later defers same)
-      frame.state defers it.state (planned.front_of first rest);
-      result = is.top.result;
-    }, is.lower)
+    (record (q.current) { frames = record it { defers = planned.front_of first rest } ∷ others }) (
+      record {
+        function = is.top.function;
+        is = frame_moved k is.top.function frame (top_of q.current.slots) it is.top.is frame.block frame.place frame.state
+            defers it.block it.steps it.step it.state (planned.front_of first rest) is.top.is.state both.1
+            (fewer_recovers defers later is.top.function
+            (subst (λ (its : List codes.Later). Recovers its is.top.function) same is.top.is.recovers));
+        placed = placed_as k is.top.function frame it
+            (some_placed k is.top.function frame it is.top.top later defers same)
+            frame.state defers it.state (planned.front_of first rest);
+        result = is.top.result;
+      },
+      is.lower,
+    )
     is.begin is.fault
     (is.sources ∙ same_count (unwinding.is_source k.code) frame (record frame { defers = defers }) below refl))
     later (planned.last_of first rest) both.0 true

@@ -1,5 +1,5 @@
 -- Instructions that give values, or change the store, and go on.
-use Rattle.std.specs.Prelude.{ℕ, ◌≡◌, true, List, [], Option}
+use Rattle.std.specs.Prelude.{ℕ, ◌≡◌, true, [], Option}
 use Rattle.code_plan.specs.Forms.{IsStep}
 use Rattle.code_plan.specs.Registers.{may_give}
 use Rattle.code_plan.specs.declared.steps.Step.{Step}
@@ -7,7 +7,6 @@ use Rattle.plan_laws.proofs.Acting.{Acting, IsActing, site_of, plan_site, acting
 use Rattle.plan_laws.proofs.Alike.{Known, IsKnown, Follows, IsPlaced}
 use Rattle.plan_mean.specs.Step as planned
 use Rattle.ssa_ir.specs.declared.ops.Op.{Op}
-use Rattle.ssa_ir.specs.declared.ops.Op.TheVariants as op
 use Rattle.ssa_mean.specs.Step as steps
 
 -- an instruction and its step do the same

@@ -16,7 +16,7 @@ use Rattle.go_base.specs.declared.ids.ChanId.{ChanId}
 use Rattle.go_sched.specs.Channels as chans
 use Rattle.go_sched.specs.Channels.{Case}
 use Rattle.go_sched.specs.Goroutines.{State}
-use Rattle.go_sched.specs.Operations.{Outcome, blocks, sends, receives, closes, selects}
+use Rattle.go_sched.specs.Operations.{Outcome, sends, receives, closes, selects}
 use Rattle.go_value.specs.Values as vals
 use Rattle.go_value.specs.Values.{Val, chan_number}
 use Rattle.go_value.specs.declared.faults.Fault.{Fault}

@@ -285,7 +285,6 @@ other_machine k m q it n other old g planned_old planned there planned_there is 
         count = length-set q.others n planned ∙ it.around.count ∙ sym (length-set m.goroutines n g);
         starts = it.around.starts;
         store = it.around.store;
-        mapless = it.around.mapless;
         sched = it.around.sched;
         ticks = it.around.ticks;
         output = it.around.output;

@@ -2,7 +2,7 @@
 
 ghost use Rattle.plan_laws.specs.Runs.{OneRun};
 
-/// Where a code makes no maps, the run of its plan writes what a run of the code writes, and ends as it does.
+/// The run of a plan writes what a run of its code writes, and ends as that does.
 pub fn one_run()
     ensures { OneRun }
 {}

@@ -1,5 +1,5 @@
 -- What is done with maps is what the calls on the maps of a store promise.
-use Rattle.std.proofs.Common.{◌≡◌, ℕ, zero, suc, List, [], ◌∷◌, Option, Some, None, ap, refl, sym}
+use Rattle.std.proofs.Common.{◌≡◌, ℕ, zero, suc, List, [], ◌∷◌, Option, Some, None, ap, refl}
 use Rattle.std.specs.Prelude.{slice_get}
 use Rattle.std.specs.Option.{option_and_then}
 use Rattle.go_base.specs.declared.ids.MapId.{MapId}
@@ -15,7 +15,7 @@ use Rattle.ssa_mean.specs.Ties.{LookupsOne, UpdatesOne, DeletesOne}
 pub lookups_one : LookupsOne
 lookups_one comparable store id key alike =
     ap (λ place. unless_fault (unhashable comparable key) (option_and_then (value_at (map_in store.maps id)) place))
-    (sym (finds_law comparable key (map_in store.maps id) alike))
+    (finds_law comparable key (map_in store.maps id) alike)
 
 -- two changes of one map that agree at its entries
 agreed : (f g : Map → Map) (maps : List Map) (n : ℕ) → f (or_none (slice_get maps n)) ≡ g (or_none (slice_get maps n))
@@ -36,16 +36,16 @@ pub updates_one : UpdatesOne
 unfolding with_maps
 updates_one comparable store id key it alike =
     ap (λ maps. unless_fault (put_fault comparable id key) (with_maps store maps))
-    (agreed_in (λ entries. with_pair_at (first_equal comparable key entries) key it entries) (with_pair key it)
+    (agreed_in (with_pair key it) (λ entries. with_pair_at (first_equal comparable key entries) key it entries)
     store.maps id
     (ap (λ place. with_pair_at place key it (map_in store.maps id))
-    (sym (finds_law comparable key (map_in store.maps id) alike))))
+    (finds_law comparable key (map_in store.maps id) alike)))
 
 pub deletes_one : DeletesOne
 unfolding with_maps
 deletes_one comparable store id key alike =
     ap (λ maps. unless_fault (unhashable comparable key) (with_maps store maps))
-    (agreed_in (λ entries. without_at (first_equal comparable key entries) entries) (without_key key)
+    (agreed_in (without_key key) (λ entries. without_at (first_equal comparable key entries) entries)
     store.maps id
     (ap (λ place. without_at place (map_in store.maps id))
-    (sym (finds_law comparable key (map_in store.maps id) alike))))
+    (finds_law comparable key (map_in store.maps id) alike)))

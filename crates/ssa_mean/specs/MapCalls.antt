@@ -2,11 +2,9 @@
 -- "Index expressions" and "Deletion of map elements".
 pub use Rattle.go_store.specs.MapCalls.{made_map, map_changed}
 use Rattle.std.specs.Prelude.{Bool, Option, Some, None}
-use Rattle.std.specs.Option.{option_and_then}
 use Rattle.go_base.specs.declared.ids.MapId.{MapId}
 use Rattle.go_base.specs.declared.ids.TypeId.{TypeId}
-use Rattle.go_maps.specs.Entries.{value_at, with_pair_at, without_at}
-use Rattle.go_maps.specs.Finds.{first_equal}
+use Rattle.go_maps.specs.Entries.{value_of_key, with_pair, without_key}
 use Rattle.go_maps.specs.Keys.{unhashable}
 use Rattle.go_maps.specs.Maps.{Map, map_in, put_fault}
 use Rattle.go_store.specs.Stores.{Stored}
@@ -22,21 +20,15 @@ abbrev pub unless_fault : {A : Type 0} → Option Fault → A → Comes A
 unless_fault (Some fault) it = faults fault
 unless_fault None it = to it
 
--- the value of the entry whose key is equal
-abbrev pub value_of_equal : (TypeId → Bool) → Val → Map → Option Val
-value_of_equal comparable key entries = option_and_then (value_at entries) (first_equal comparable key entries)
-
+-- an entry is found by the code of its key. Of keys that one type can have, the codes of two are one exactly where the
+-- keys are equal, so that it is the entry whose key is equal
 abbrev pub looked_up : (TypeId → Bool) → Stored → Option MapId → Val → Comes (Option Val)
-looked_up comparable store id key =
-    unless_fault (unhashable comparable key) (value_of_equal comparable key (entries_of store id))
+looked_up comparable store id key = unless_fault (unhashable comparable key) (value_of_key key (entries_of store id))
 
--- an entry whose key is equal keeps it; a new one is the last
+-- an entry that has the key keeps it; a new one is the last
 abbrev pub updated : (TypeId → Bool) → Stored → Option MapId → Val → Val → Comes Stored
 updated comparable store id key it =
-    unless_fault (put_fault comparable id key)
-    (map_changed (λ entries. with_pair_at (first_equal comparable key entries) key it entries) store id)
+    unless_fault (put_fault comparable id key) (map_changed (with_pair key it) store id)
 
 abbrev pub deleted : (TypeId → Bool) → Stored → Option MapId → Val → Comes Stored
-deleted comparable store id key =
-    unless_fault (unhashable comparable key)
-    (map_changed (λ entries. without_at (first_equal comparable key entries) entries) store id)
+deleted comparable store id key = unless_fault (unhashable comparable key) (map_changed (without_key key) store id)

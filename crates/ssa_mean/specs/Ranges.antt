@@ -1,13 +1,13 @@
 -- Ranges over strings and maps. Go specification, "For statements with range clause".
-use Rattle.std.specs.Prelude.{ℕ, ◌+◌, Bool, true, false, List, [], ◌∷◌, reverse, drop, pos, Option, Some, None, nat_lt}
+use Rattle.std.specs.Prelude.{ℕ, ◌+◌, ◌-◌, ◌++◌, suc, take, Bool, true, false, List, [], ◌∷◌, reverse, drop, pos, Option, Some, None, nat_lt}
 use Rattle.std.specs.Prelude.{length, slice_index, is_some, if◌then◌else◌, option_map}
 use Rattle.std.specs.List.{filter}
 use Rattle.std.specs.Option.{option_and_then}
 use Rattle.go_base.specs.declared.ids.MapId.{MapId}
 use Rattle.go_base.specs.declared.ids.TypeId.{TypeId}
-use Rattle.go_maps.specs.Entries.{entry_at, numbers_in}
+use Rattle.go_maps.specs.Entries.{Pair, entry_at, numbers_in}
 use Rattle.go_maps.specs.Maps.{Map}
-use Rattle.go_sched.specs.Choices.{chosen, picked}
+use Rattle.go_sched.specs.Choices.{chosen, picked, is_spent}
 use Rattle.go_sched.specs.Goroutines.{State}
 use Rattle.go_store.specs.Stores.{Stored}
 use Rattle.go_type.specs.declared.term.TypeTerm.{TypeTerm}
@@ -53,37 +53,65 @@ text_turn sched bytes next =
       sched = sched;
     }
 
--- ---- maps: a choice among the entries, in order of insertion, that are still there and were not produced yet
+-- ---- maps: a choice among the entries, in order of insertion, that are still there and were not produced yet. The
+-- state of a range over a map keeps the numbers of the entries that may still come, the last first
 
-abbrev pub standing : Map → List ℕ → List ℕ
-standing entries left = reverse (filter (λ n. is_some (entry_at entries n)) left)
+abbrev pub is_standing : Map → ℕ → Bool
+is_standing entries n = is_some (entry_at entries n)
 
-abbrev pub without : ℕ → List ℕ → List ℕ
-without n numbers = filter (λ x. is_other n x) numbers
-  where
-    is_other : ℕ → ℕ → Bool
-    is_other n x = if nat_lt n x then true else nat_lt x n
+-- an entry, and the numbers that are left
+pub record Drawn : Type 0 where
+  pub entry : Option ℕ
+  pub left : List ℕ
 
-abbrev pub entry_turn : Option MapId → Map → List ℕ → State → ℕ → Option Turn
-entry_turn id entries candidates sched n =
-    option_map (λ entry. record {
-      value = turn_of true entry.key entry.value;
-      range = map_range id (reverse (without n candidates));
-      sched = picked (length candidates) sched;
-    }) (entry_at entries n)
+-- where no choices are left it is the first that stands; the numbers before it go
+abbrev pub first_drawn : Map → List ℕ → Drawn
+first_drawn entries [] = record { entry = None; left = [] }
+first_drawn entries (n ∷ others) =
+    if is_standing entries n then record { entry = Some n; left = reverse others } else first_drawn entries others
 
-abbrev pub last_turn : Option MapId → State → Option Val → Option Val → Option Turn
-last_turn id sched key it =
+abbrev pub drawn_at : List ℕ → ℕ → Drawn
+drawn_at standing place =
+    record { entry = Some (slice_index standing place); left = take place standing ++ drop (suc place) standing }
+
+-- else a choice among those that stand
+abbrev pub drawn_among : State → List ℕ → Drawn
+drawn_among sched [] = record { entry = None; left = [] }
+drawn_among sched (n ∷ others) =
+    drawn_at (n ∷ others) ((length (n ∷ others) - 1) - chosen (length (n ∷ others)) sched)
+
+abbrev pub drawn : State → Map → List ℕ → Drawn
+drawn sched entries left =
+    if is_spent sched then first_drawn entries (reverse left)
+    else drawn_among sched (filter (is_standing entries) left)
+
+abbrev pub sched_after : State → Map → List ℕ → State
+sched_after sched entries left =
+    if is_spent sched then sched else picked (length (filter (is_standing entries) left)) sched
+
+abbrev pub last_turn : State → Option MapId → List ℕ → Option Val → Option Val → Option Turn
+last_turn sched id left key it =
     option_and_then (λ key. option_map (λ it. record {
       value = turn_of false key it;
-      range = map_range id [];
+      range = map_range id left;
       sched = sched;
     }) it) key
 
-abbrev pub turn_among : Option MapId → Map → Option Val → Option Val → State → List ℕ → Option Turn
-turn_among id entries key it sched [] = last_turn id sched key it
-turn_among id entries key it sched (n ∷ numbers) =
-    entry_turn id entries (n ∷ numbers) sched (slice_index (n ∷ numbers) (chosen (length (n ∷ numbers)) sched))
+abbrev pub entry_turn : State → Option MapId → List ℕ → Pair → Turn
+entry_turn sched id left entry =
+    record { value = turn_of true entry.key entry.value; range = map_range id left; sched = sched }
+
+abbrev pub turn_with : State → Option MapId → Map → Option Val → Option Val → Drawn → Option Turn
+turn_with sched id entries key it d = of_entry d.entry
+  where
+    of_entry : Option ℕ → Option Turn
+    of_entry None = last_turn sched id d.left key it
+    of_entry (Some n) = option_map (entry_turn sched id d.left) (entry_at entries n)
+
+-- the turn of an entry; where none is left, the last turn, with zero values
+abbrev pub map_turn : Option MapId → Map → Option Val → Option Val → State → List ℕ → Option Turn
+map_turn id entries key it sched left =
+    turn_with (sched_after sched entries left) id entries key it (drawn sched entries left)
 
 -- ---- the types of what is ranged over
 
@@ -103,6 +131,5 @@ value_in _ = None
 abbrev pub next_turn : Code → Stored → State → Option TypeTerm → Val → Option Turn
 next_turn code store sched over (text_range bytes next) = Some (text_turn sched bytes next)
 next_turn code store sched over (map_range id left) =
-    turn_among id (entries_of store id) (zero_where code (key_in over)) (zero_where code (value_in over)) sched
-    (standing (entries_of store id) left)
+    map_turn id (entries_of store id) (zero_where code (key_in over)) (zero_where code (value_in over)) sched left
 next_turn code store sched over _ = None

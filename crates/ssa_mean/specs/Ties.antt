@@ -2,12 +2,13 @@
 -- promise.
 use Rattle.std.specs.Prelude.{◌≡◌, ◌↔◌, ℕ, ℤ, Bool, true, false, List, flat_map, map, Option, Some, IsSome}
 use Rattle.std.specs.Prelude.{Result, Ok, Err, OnOk, pos}
+use Rattle.std.specs.Option.{option_and_then}
 use Rattle.go_base.specs.declared.ids.MapId.{MapId}
 use Rattle.go_base.specs.declared.ids.TypeId.{TypeId}
-use Rattle.go_maps.specs.Entries.{value_of_key, with_pair, without_key}
-use Rattle.go_maps.specs.Finds.{AreAlike}
+use Rattle.go_maps.specs.Entries.{value_at, with_pair_at, without_at}
+use Rattle.go_maps.specs.Finds.{AreAlike, first_equal}
 use Rattle.go_maps.specs.Keys.{unhashable}
-use Rattle.go_maps.specs.Maps.{map_in, put_fault}
+use Rattle.go_maps.specs.Maps.{Map, map_in, put_fault}
 use Rattle.go_store.specs.Conversions.{AreRunes, MakesSlice, MakesRunes, items_of, numbers_of, within_limit}
 use Rattle.go_store.specs.MapCalls.{map_changed}
 use Rattle.go_store.specs.Slices.{Appends, elements_of}
@@ -60,28 +61,33 @@ FirstRuneOne =
 abbrev pub RunesOne : Type 0
 RunesOne = (text : List ℕ) (ints : List ℤ) → AreRunes text ints ↔ (ints ≡ map pos (runes_of text))
 
--- ---- maps, where the keys are such as one type can have
+-- ---- maps, where the keys are such as one type can have: the entry that is found is the one whose key is equal
+
+abbrev pub value_of_equal : (TypeId → Bool) → Val → Map → Option Val
+value_of_equal comparable key entries = option_and_then (value_at entries) (first_equal comparable key entries)
 
 abbrev pub LookupsOne : Type 0
 LookupsOne =
     (comparable : TypeId → Bool) (store : Stored) (id : Option MapId) (key : Val) →
     AreAlike comparable key (map_in store.maps id) →
     looked_up comparable store id key
-    ≡ unless_fault (unhashable comparable key) (value_of_key key (map_in store.maps id))
+    ≡ unless_fault (unhashable comparable key) (value_of_equal comparable key (map_in store.maps id))
 
 abbrev pub UpdatesOne : Type 0
 UpdatesOne =
     (comparable : TypeId → Bool) (store : Stored) (id : Option MapId) (key it : Val) →
     AreAlike comparable key (map_in store.maps id) →
     updated comparable store id key it
-    ≡ unless_fault (put_fault comparable id key) (map_changed (with_pair key it) store id)
+    ≡ unless_fault (put_fault comparable id key)
+    (map_changed (λ entries. with_pair_at (first_equal comparable key entries) key it entries) store id)
 
 abbrev pub DeletesOne : Type 0
 DeletesOne =
     (comparable : TypeId → Bool) (store : Stored) (id : Option MapId) (key : Val) →
     AreAlike comparable key (map_in store.maps id) →
     deleted comparable store id key
-    ≡ unless_fault (unhashable comparable key) (map_changed (without_key key) store id)
+    ≡ unless_fault (unhashable comparable key)
+    (map_changed (λ entries. without_at (first_equal comparable key entries) entries) store id)
 
 -- ---- conversions between strings and slices
 
