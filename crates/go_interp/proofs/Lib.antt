@@ -4,3 +4,4 @@ pub mod Following
 pub mod Forms
 pub mod Moving
 pub mod Phis
+pub mod Told

@@ -15,6 +15,7 @@ use Rattle.plan_mean.specs.State.{World, ends}
 use Rattle.ssa_ir.specs.declared.code.Code.{Code}
 use Rattle.ssa_mean.specs.Answers.{AreAnswers}
 use Rattle.ssa_mean.specs.Faults.{naming_of}
+use Rattle.ssa_mean.specs.Runs.{IsRunOf}
 
 -- a world of a code and its plan
 pub record IsWorldOf (code : Code) (plan : Plan) (w : World) : Type 0 where
@@ -55,3 +56,9 @@ pub record IsBare (code : Code) (plan : Plan) (sched : State) (bound : ℕ) (m :
 -- more cells behind those that there are
 abbrev pub with_cells : List Val → Stored → Stored
 with_cells its store = record store { cells = store.cells ++ its }
+
+-- what was appended and the ending are those of the run of the code, where it has one
+abbrev pub TellsRun : Code → List ℕ → ℕ → Ending → Option (List ℕ) → Option (List ℕ) → Type 0
+TellsRun code choices bound ending before after =
+    (output : List ℕ) (other : Ending) → IsRunOf code choices bound output other
+    → (ending ≡ other) × Appends before after output

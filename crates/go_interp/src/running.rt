@@ -4,7 +4,7 @@ ghost use Rattle.std.specs.Prelude.{◌≡◌, ◌≤◌, ◌++◌, ◌∷◌, [
 ghost use Rattle.std.specs.Io.KnownBytes.{Appends};
 ghost use Rattle.go_base.specs.Devices.{HasFaulted};
 ghost use Rattle.go_interp.specs.Output.{HasMoved, HasWritten};
-ghost use Rattle.go_interp.specs.Ran.{HasRun, IsBare, IsFirst, LeadsTo, with_cells};
+ghost use Rattle.go_interp.specs.Ran.{HasRun, IsBare, IsFirst, LeadsTo, TellsRun, with_cells};
 ghost use Rattle.go_sched.specs.Goroutines.{state_of};
 ghost use Rattle.go_store.specs.Stores.{made, stored};
 ghost use Rattle.go_value.specs.Values.{value_of};
@@ -26,8 +26,9 @@ use std::alloc::Global;
 /// How much output is kept before it is written, in bytes.
 const PIECE: usize = 8192;
 
-/// Runs a code that is sane and typed: its output goes to `out`. The choices decide where one of several goroutines, cases
-/// or entries is next; the bound is the number of ticks. `WriteFault` only where a write failed.
+/// Runs a code that is sane and typed: its output goes to `out`, and what it writes and how it ends are those of its one
+/// run with these choices and this bound. The choices decide where one of several goroutines, cases or entries is next;
+/// the bound is the number of ticks. `WriteFault` only where a write failed.
 pub fn run<O: Sink>(
     alloc: Global,
     code: &Code,
@@ -35,6 +36,7 @@ pub fn run<O: Sink>(
     bound: u64,
     out: &mut O,
 ) -> Result<Ending, RunError>
+    ensures told { IfOk result (λ ending. TellsRun code.now choices.now bound ending (O.written out.old) (O.written out.new)) }
     ensures written { HasWritten (O.written out.old) (O.written out.new) }
     ensures fault { IsErrOf result RunError.WriteFault → HasFaulted (O.faults out.old) (O.faults out.new) }
     ensures later { O.faults out.old ≤ O.faults out.new }
