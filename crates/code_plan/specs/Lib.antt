@@ -3,3 +3,5 @@ pub mod Forms
 pub mod Operands
 pub mod Plans
 pub mod Registers
+pub mod Sites
+pub mod Tables

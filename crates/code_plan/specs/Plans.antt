@@ -39,21 +39,21 @@ use Rattle.ssa_mean.specs.Unwinding.{is_phi, phis_first}
 -- ---- the steps of instructions, one after another: from loads that are pending before them to those behind them
 
 pub data Goes (code : Code) (function : Function) (marks : Marks) : Pending → List Instr → List Step → Pending → Type 0
-    where
-  here : (pending : Pending) → Goes code function marks pending [] [] pending
-  -- a load that is made later makes no step
-  late : (pending last : Pending) (instr : Instr) (instrs : List Instr) (steps : List Step) (register cell : ℕ)
-      → instr.op ≡ op.Load (operand.Register cell) → instr.register ≡ Some register
-      → marks.late register ≡ true → marks.cell register ≡ false → register < length function.registers
+  where
+    here : (pending : Pending) → Goes code function marks pending [] [] pending
+    -- a load that is made later makes no step
+    late : (pending last : Pending) (instr : Instr) (instrs : List Instr) (steps : List Step) (register cell : ℕ)
+        → instr.op ≡ op.Load (operand.Register cell) → instr.register ≡ Some register
+        → marks.late register ≡ true → marks.cell register ≡ false → register < length function.registers
       → marks.cell cell ≡ true → marks.late cell ≡ false
-      → Goes code function marks (pending ++ (register, cell) ∷ []) instrs steps last
-      → Goes code function marks pending (instr ∷ instrs) steps last
-  made : (pending last : Pending) (instr : Instr) (instrs : List Instr) (step : Step) (steps : List Step)
-      → may_give marks instr.op instr.register ≡ true
-      → IsStep (record { code = code; function = function; marks = marks; pending = before instr.op pending })
-          instr.register instr.op step
-      → Goes code function marks (behind step (before instr.op pending)) instrs steps last
-      → Goes code function marks pending (instr ∷ instrs) (step ∷ steps) last
+        → Goes code function marks (pending ++ (register, cell) ∷ []) instrs steps last
+        → Goes code function marks pending (instr ∷ instrs) steps last
+    made : (pending last : Pending) (instr : Instr) (instrs : List Instr) (step : Step) (steps : List Step)
+        → may_give marks instr.op instr.register ≡ true
+        → IsStep (record { code = code; function = function; marks = marks; pending = before instr.op pending })
+        instr.register instr.op step
+        → Goes code function marks (behind step (before instr.op pending)) instrs steps last
+        → Goes code function marks pending (instr ∷ instrs) (step ∷ steps) last
 
 -- ---- phis
 
@@ -74,11 +74,11 @@ pub record IsPhi (s : Site) (instr : Instr) (planned : PlannedPhi) : Type 0 wher
 
 -- at the beginning of a block no loads are pending
 pub record IsBlock (code : Code) (function : Function) (marks : Marks) (block : Block) (planned : PlannedBlock) : Type 0
-    where
-  pub phis : AllZip (IsPhi (record { code = code; function = function; marks = marks; pending = [] }))
-      (front_phis block.instrs) planned.phis.items
-  pub last : Pending
-  pub steps : Goes code function marks [] (drop (phis_first block.instrs) block.instrs) planned.steps.items last
+  where
+    pub phis : AllZip (IsPhi (record { code = code; function = function; marks = marks; pending = [] }))
+        (front_phis block.instrs) planned.phis.items
+    pub last : Pending
+    pub steps : Goes code function marks [] (drop (phis_first block.instrs) block.instrs) planned.steps.items last
 
 abbrev pub role_of : Function → FunctionKind → Role
 role_of function kind.Source = role.Source

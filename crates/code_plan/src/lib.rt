@@ -2,11 +2,21 @@
 //! has the one form that its types ask for.
 #![tactic(auto)]
 
+mod blocks;
+mod calls;
+mod cells;
+mod channels;
 mod error;
+mod jumps;
 mod late;
+mod making;
+mod operands;
 mod operations;
+mod operators;
+mod planner;
 mod planning;
 mod steps;
+mod writes;
 
 pub use planning::plan;
 pub use steps::{

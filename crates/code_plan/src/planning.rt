@@ -1,359 +1,81 @@
 //! A code to its plan.
 
-use crate::error::lost;
-use crate::late::late_reads;
-use crate::operations::plan_op;
-use crate::steps::{
-    Arg, MethodName, MethodOf, Plan, PlannedBlock, PlannedEdge, PlannedFunction, PlannedPhi, Role,
-    Step,
-};
-use go_base::{BlockId, Bytes, CellId, FuncId, NameId, NoMemory, TypeId};
-use go_type::{TypeTerm, Types, leaves_up_to};
-use go_value::{Address, FuncValue, Value, zero_value};
+ghost use Rattle.std.specs.Prelude.{◌≡◌, ◌++◌, ◌∷◌, [], false, Some, IfOk, OnOk, codes, map, slice_get, if◌then◌else◌};
+ghost use Rattle.std.specs.List.{AllZip};
+ghost use Rattle.std.specs.Option.{option_map_or};
+ghost use Rattle.std.specs.Str.{bytes_eq};
+ghost use Rattle.code_plan.specs.Plans.{IsFunctionOf, IsPlanOf};
+ghost use Rattle.code_plan.specs.Tables.{KnowsMethods, with_method};
+ghost use Rattle.go_text.specs.Naming.{name_text};
+ghost use Rattle.go_type.specs.Table.{term_at};
+ghost use Rattle.go_value.specs.Values.{value_of};
+ghost use Rattle.ssa_mean.specs.Faults as faults;
+ghost use Rattle.ssa_mean.specs.Runs.{first_cells, is_init_kind, those_from};
+ghost use Rattle.ssa_mean.specs.Runs as runs;
+
+use crate::blocks::Body;
+use crate::error::small;
+use crate::late::marks_of;
+use crate::planner::Planner;
+use crate::steps::{MethodName, MethodOf, Plan, PlannedFunction};
+use go_base::{NameId, NoMemory, TypeId};
+use go_type::{TypeName, TypeTerm};
+use go_value::Value;
 use indexmap::IndexMap;
-use ssa_ir::{
-    Block, Code, ConstValue, Function, FunctionKind, Instr, MethodLine, Op, Operand, PhiEdge,
-};
+use ssa_ir::{Code, Function, FunctionKind, MethodLine};
 use std::alloc::Global;
 
-/// What planning reads.
-#[derive(Clone, Copy)]
-pub(crate) struct Planner<'a> {
-    pub alloc: Global,
-    pub code: &'a Code,
-    /// The name `_`.
-    pub blank: Option<NameId>,
-    /// Of each register of the function that is planned the register of the cell that is read in its place.
-    pub late: &'a [Option<u64>],
-}
-
-/// The plan of a code that is sane and typed.
-pub fn plan(alloc: Global, code: &Code) -> Result<Plan, NoMemory> {
-    let blank = code.names.find("_");
-    let planner = Planner {
-        alloc,
-        code,
-        blank,
-        late: &[],
-    };
+/// The plan of a code. `NoMemory` comes for want of memory, and where the code is not sane or not typed.
+pub fn plan(alloc: Global, code: &Code) -> Result<Plan, NoMemory>
+    ensures { IfOk result (IsPlanOf code.now) }
+{
+    let planner = Planner::new(alloc, code);
     Ok(Plan {
-        functions: planner.functions()?,
-        methods: planner.methods()?,
-        variables: planner.variables()?,
-        starts: planner.starts()?,
-        error_string: planner.error_string(),
+        functions: functions(&planner)?,
+        methods: methods(alloc, code)?,
+        variables: variables(&planner)?,
+        starts: starts(alloc, code.functions.as_slice())?,
+        error_string: error_string(code),
     })
 }
 
-/// A number as a slot, a block or a function has it.
-pub(crate) fn small(number: u64) -> Result<u32, NoMemory> {
-    match u32::try_from(number) {
-        Ok(number) => Ok(number),
-        Err(_) => Err(lost()),
+fn functions(planner: &Planner<'_>) -> Result<Vec<PlannedFunction>, NoMemory>
+    ensures { let code = planner.now.code.now in IfOk result (λ it. AllZip (IsFunctionOf code) code.functions it.items) }
+{
+    let mut all = Vec::new(planner.alloc);
+    for function in planner.code.functions.as_slice() {
+        all.push(planned(planner, function)?)?;
     }
+    Ok(all)
 }
 
-impl Planner<'_> {
-    pub(crate) fn types(&self) -> &Types {
-        &self.code.types
-    }
-
-    /// The underlying term of a type.
-    pub(crate) fn under(&self, of: TypeId) -> Result<&TypeTerm, NoMemory> {
-        match self.code.types.underlying_term(of) {
-            Some(term) => Ok(term),
-            None => Err(lost()),
-        }
-    }
-
-    /// The zero value of a type.
-    pub(crate) fn zero(&self, of: TypeId) -> Result<Value, NoMemory> {
-        zero_value(self.alloc, self.types(), self.blank, of)
-    }
-
-    /// How many leaves a type has.
-    pub(crate) fn leaves(&self, of: TypeId) -> Result<u32, NoMemory> {
-        small(leaves_up_to(self.types(), of, 16_777_217, go_type::MAX_NESTING))
-    }
-
-    fn functions(&self) -> Result<Vec<PlannedFunction>, NoMemory> {
-        let mut all = Vec::new(self.alloc);
-        for function in self.code.functions.as_slice() {
-            all.push(self.function(function)?)?;
-        }
-        Ok(all)
-    }
-
-    fn function(&self, function: &Function) -> Result<PlannedFunction, NoMemory> {
-        let params = function.params.as_slice().len() as u64;
-        let free = function.free.as_slice().len() as u64;
-        let registers = function.registers.as_slice().len() as u64;
-        let slots = params.saturating_add(free).saturating_add(registers);
-        let recover = match function.recover {
-            Some(block) => Some(small(block.number)?),
-            None => None,
-        };
-        let late = late_reads(self.alloc, self.types(), function)?;
-        let planner = Planner {
-            late: late.as_slice(),
-            ..*self
-        };
-        Ok(PlannedFunction {
-            role: role_of(function),
-            promotes: promotes(function),
-            params: small(params)?,
-            slots: small(slots)?,
-            blocks: planner.blocks(function)?,
-            recover,
-        })
-    }
-
-    fn blocks(&self, function: &Function) -> Result<Vec<PlannedBlock>, NoMemory> {
-        let mut all = Vec::new(self.alloc);
-        for block in function.blocks.as_slice() {
-            all.push(self.block(function, block)?)?;
-        }
-        Ok(all)
-    }
-
-    fn block(&self, function: &Function, block: &Block) -> Result<PlannedBlock, NoMemory> {
-        let mut phis = Vec::new(self.alloc);
-        let mut steps = Vec::new(self.alloc);
-        for instr in block.instrs.as_slice() {
-            match &instr.op {
-                Op::Phi(edges) => phis.push(self.phi(function, instr, edges.as_slice())?)?,
-                _ if self.is_late(instr) => {}
-                _ => steps.push(self.step(function, instr)?)?,
-            }
-        }
-        Ok(PlannedBlock { phis, steps })
-    }
-
-    /// Whether an instruction is a load that is made where its register is used.
-    fn is_late(&self, instr: &Instr) -> bool {
-        match instr.register {
-            Some(register) => self.late_cell(register).is_some(),
-            None => false,
-        }
-    }
-
-    /// The register of the cell that is read in the place of a register.
-    fn late_cell(&self, register: u64) -> Option<u64> {
-        self.late.get(register as usize).copied().flatten()
-    }
-
-    /// The block to which a jump leads in the end: one that does nothing but jump is passed over, where no phi asks from
-    /// where the block behind it is entered.
-    pub(crate) fn target(&self, function: &Function, block: BlockId) -> Result<u32, NoMemory> {
-        let blocks = function.blocks.as_slice();
-        let mut at = block;
-        for _ in 0..blocks.len() {
-            match blocks.get(at.number as usize).and_then(next_of) {
-                Some(next) if !has_phis(blocks, next) => at = next,
-                _ => break,
-            }
-        }
-        small(at.number)
-    }
-
-    fn step(&self, function: &Function, instr: &Instr) -> Result<Step, NoMemory> {
-        let to = match instr.register {
-            Some(register) => Some(self.register(function, register)?),
-            None => None,
-        };
-        plan_op(self, function, &instr.op, to)
-    }
-
-    fn phi(
-        &self,
-        function: &Function,
-        instr: &Instr,
-        edges: &[PhiEdge],
-    ) -> Result<PlannedPhi, NoMemory> {
-        let Some(register) = instr.register else {
-            return Err(lost());
-        };
-        let to = self.register(function, register)?;
-        let mut planned = Vec::new(self.alloc);
-        for edge in edges {
-            planned.push(PlannedEdge {
-                from: small(edge.from.number)?,
-                value: self.arg(function, &edge.value)?,
-            })?;
-        }
-        Ok(PlannedPhi { to, edges: planned })
-    }
-
-    /// The slot of a register.
-    fn register(&self, function: &Function, register: u64) -> Result<u32, NoMemory> {
-        let params = function.params.as_slice().len() as u64;
-        let free = function.free.as_slice().len() as u64;
-        small(params.saturating_add(free).saturating_add(register))
-    }
-
-    /// An operand.
-    pub(crate) fn arg(&self, function: &Function, operand: &Operand) -> Result<Arg, NoMemory> {
-        match operand {
-            Operand::Param(number) => Ok(Arg::Slot(small(*number)?)),
-            Operand::Free(number) => self.free_arg(function, *number),
-            Operand::Register(number) => self.register_arg(function, *number),
-            Operand::Function(function) => self.function_arg(*function),
-            Operand::Variable(variable) => self.held(Value::Pointer(Address::whole(CellId {
-                number: variable.number,
-            }))),
-            Operand::Constant { value, of } => self.held(self.constant(value, *of)?),
-        }
-    }
-
-    fn register_arg(&self, function: &Function, register: u64) -> Result<Arg, NoMemory> {
-        match self.late_cell(register) {
-            Some(cell) => Ok(Arg::Cell(self.register(function, cell)?)),
-            None => Ok(Arg::Slot(self.register(function, register)?)),
-        }
-    }
-
-    /// The operand that is a value.
-    fn held(&self, value: Value) -> Result<Arg, NoMemory> {
-        Ok(Arg::Held(Box::new(self.alloc, value)?))
-    }
-
-    /// The zero value of a type, as a step holds it.
-    pub(crate) fn held_zero(&self, of: TypeId) -> Result<Box<Value>, NoMemory> {
-        Ok(Box::new(self.alloc, self.zero(of)?)?)
-    }
-
-    fn free_arg(&self, function: &Function, number: u64) -> Result<Arg, NoMemory> {
-        let params = function.params.as_slice().len() as u64;
-        Ok(Arg::Slot(small(params.saturating_add(number))?))
-    }
-
-    fn function_arg(&self, function: FuncId) -> Result<Arg, NoMemory> {
-        let captured = Vec::new(self.alloc);
-        self.held(Value::function(self.alloc, FuncValue::Closure { function, captured })?)
-    }
-
-    fn constant(&self, value: &ConstValue, of: TypeId) -> Result<Value, NoMemory> {
-        match value {
-            ConstValue::Int(number) => Ok(Value::Int(*number)),
-            ConstValue::Truth(truth) => Ok(Value::Truth(*truth)),
-            ConstValue::Text(bytes) => self.text(bytes),
-            ConstValue::Nil | ConstValue::Zero => self.zero(of),
-        }
-    }
-
-    fn text(&self, bytes: &Bytes) -> Result<Value, NoMemory> {
-        let bytes = Vec::from_slice(self.alloc, bytes.as_slice())?;
-        Value::text(self.alloc, Bytes::new(bytes))
-    }
-
-    /// The type of an operand. None where it is a function or the address of a package variable.
-    pub(crate) fn type_of(&self, function: &Function, operand: &Operand) -> Option<TypeId> {
-        match operand {
-            Operand::Param(number) => function.params.as_slice().get(*number as usize).copied(),
-            Operand::Free(number) => function.free.as_slice().get(*number as usize).copied(),
-            Operand::Register(number) => {
-                function.registers.as_slice().get(*number as usize).copied()
-            }
-            Operand::Constant { of, .. } => Some(*of),
-            Operand::Function(_) | Operand::Variable(_) => None,
-        }
-    }
-
-    /// The underlying term of the type of an operand.
-    pub(crate) fn term_of(
-        &self,
-        function: &Function,
-        operand: &Operand,
-    ) -> Result<&TypeTerm, NoMemory> {
-        match self.type_of(function, operand) {
-            Some(of) => self.under(of),
-            None => Err(lost()),
-        }
-    }
-
-    fn methods(&self) -> Result<IndexMap<MethodOf, u32>, NoMemory> {
-        let mut all = IndexMap::new(self.alloc);
-        for line in self.code.methods.as_slice() {
-            add_method(&mut all, line)?;
-        }
-        Ok(all)
-    }
-
-    fn variables(&self) -> Result<Vec<Value>, NoMemory> {
-        let mut all = Vec::new(self.alloc);
-        for variable in self.code.variables.as_slice() {
-            all.push(self.zero(variable.of)?)?;
-        }
-        Ok(all)
-    }
-
-    /// The initialisation of each package, then `main.main`.
-    fn starts(&self) -> Result<Vec<u32>, NoMemory> {
-        let mut starts = Vec::new(self.alloc);
-        for (number, function) in self.code.functions.as_slice().iter().enumerate() {
-            if function.kind == FunctionKind::Init {
-                starts.push(small(number as u64)?)?;
-            }
-        }
-        self.push_main(&mut starts)?;
-        Ok(starts)
-    }
-
-    fn push_main(&self, starts: &mut Vec<u32>) -> Result<(), NoMemory> {
-        for (number, function) in self.code.functions.as_slice().iter().enumerate() {
-            if is_main(function) {
-                starts.push(small(number as u64)?)?;
-            }
-        }
-        Ok(())
-    }
-
-    /// The type `errorString` of package `runtime`.
-    fn error_string(&self) -> Option<TypeId> {
-        self.code
-            .declared
-            .as_slice()
-            .iter()
-            .copied()
-            .find(|id| is_error_string(self.code, *id))
-    }
-}
-
-/// Where a block jumps that does nothing else.
-fn next_of(block: &Block) -> Option<BlockId> {
-    match block.instrs.as_slice() {
-        [only] => match only.op {
-            Op::Jump(to) => Some(to),
-            _ => None,
-        },
-        _ => None,
-    }
-}
-
-/// Whether a block begins with a phi.
-fn has_phis(blocks: &[Block], block: BlockId) -> bool {
-    match blocks.get(block.number as usize) {
-        Some(block) => match block.instrs.as_slice().first() {
-            Some(first) => matches!(first.op, Op::Phi(_)),
-            None => false,
-        },
-        None => false,
-    }
-}
-
-fn is_error_string(code: &Code, id: TypeId) -> bool {
-    let Some(TypeTerm::Declared(name)) = code.types.get(id) else {
-        return false;
+fn planned(planner: &Planner<'_>, function: &Function) -> Result<PlannedFunction, NoMemory>
+    ensures { IfOk result (λ it. IsFunctionOf planner.now.code.now function.now it) }
+{
+    let marks = marks_of(planner.alloc, planner.types(), function)?;
+    let body = Body {
+        planner,
+        function,
+        marks: marks.as_slice(),
     };
-    let Some(label) = code.packages.as_slice().get(name.package as usize) else {
-        return false;
-    };
-    name.number == 0
-        && label.as_str() == "runtime"
-        && code.names.text(name.name) == Some("errorString")
+    body.planned()
 }
 
-fn add_method(all: &mut IndexMap<MethodOf, u32>, line: &MethodLine) -> Result<(), NoMemory> {
+/// The functions that methods are.
+fn methods(alloc: Global, code: &Code) -> Result<IndexMap<MethodOf, u32>, NoMemory>
+    ensures { IfOk result (λ all. KnowsMethods code.now.methods all.entries) }
+{
+    let mut all = IndexMap::new(alloc);
+    for line in code.methods.as_slice() {
+        add_method(&mut all, line)?;
+    }
+    Ok(all)
+}
+
+/// Adds a method; the first of its name stays.
+fn add_method(all: &mut IndexMap<MethodOf, u32>, line: &MethodLine) -> Result<(), NoMemory>
+    ensures { OnOk result (all.new.entries ≡ with_method line.now all.old.entries) }
+{
     let function = small(line.function.number)?;
     let method = MethodOf {
         receiver: line.receiver,
@@ -362,36 +84,124 @@ fn add_method(all: &mut IndexMap<MethodOf, u32>, line: &MethodLine) -> Result<()
             package: line.package,
         },
     };
-    all.insert(method, function)?;
+    if all.get(&method).is_none() {
+        all.insert(method, function)?;
+    }
     Ok(())
 }
 
+/// The zero values of the package variables.
+fn variables(planner: &Planner<'_>) -> Result<Vec<Value>, NoMemory>
+    ensures { let code = planner.now.code.now in IfOk result (λ it. first_cells code code.variables ≡ Some (map value_of it.items)) }
+{
+    let mut all = Vec::new(planner.alloc);
+    for variable in planner.code.variables.as_slice() {
+        all.push(planner.zero(variable.of)?)?;
+    }
+    Ok(all)
+}
+
+/// The initialisation of each package, then `main.main`.
+fn starts(alloc: Global, functions: &[Function]) -> Result<Vec<u32>, NoMemory>
+    ensures { IfOk result (λ it. it.items ≡ map (λ id. id.number) (those_from 0 (λ f. is_init_kind f.kind) functions.now ++ those_from 0 runs.is_main functions.now)) }
+{
+    let mut starts = Vec::new(alloc);
+    push_inits(&mut starts, functions)?;
+    push_main(&mut starts, functions)?;
+    Ok(starts)
+}
+
+fn push_inits(starts: &mut Vec<u32>, functions: &[Function]) -> Result<(), NoMemory>
+    ensures { OnOk result (starts.new.items ≡ starts.old.items ++ map (λ id. id.number) (those_from 0 (λ f. is_init_kind f.kind) functions.now)) }
+{
+    for (number, function) in functions.iter().enumerate() {
+        push_where(starts, number, is_init(function))?;
+    }
+    Ok(())
+}
+
+fn push_main(starts: &mut Vec<u32>, functions: &[Function]) -> Result<(), NoMemory>
+    ensures { OnOk result (starts.new.items ≡ starts.old.items ++ map (λ id. id.number) (those_from 0 runs.is_main functions.now)) }
+{
+    for (number, function) in functions.iter().enumerate() {
+        push_where(starts, number, is_main(function))?;
+    }
+    Ok(())
+}
+
+/// Adds the number of a function, where it is one that is called.
+fn push_where(starts: &mut Vec<u32>, number: usize, is_called: bool) -> Result<(), NoMemory>
+    ensures { OnOk result (starts.new.items ≡ starts.old.items ++ (if is_called then number ∷ [] else [])) }
+{
+    if is_called {
+        starts.push(small(number as u64)?)?;
+    }
+    Ok(())
+}
+
+/// Whether a function is the initialisation of a package.
+fn is_init(function: &Function) -> bool
+    ensures { result ≡ is_init_kind function.now.kind }
+{
+    matches!(function.kind, FunctionKind::Init)
+}
+
 /// `main.main` takes no arguments and returns no value.
-fn is_main(function: &Function) -> bool {
-    function.kind == FunctionKind::Source
+fn is_main(function: &Function) -> bool
+    ensures { result ≡ runs.is_main function.now }
+{
+    matches!(function.kind, FunctionKind::Source)
         && function.name.as_str() == "main.main"
         && function.params.as_slice().is_empty()
         && function.free.as_slice().is_empty()
         && function.results.as_slice().is_empty()
 }
 
-/// Whether a function is the wrapper of a promoted method.
-fn promotes(function: &Function) -> bool {
-    function.kind == FunctionKind::Wrapper
-        && function.name.as_str().as_bytes().starts_with(b"promote ")
+/// The type `errorString` of package `runtime`.
+fn error_string(code: &Code) -> Option<TypeId>
+    ensures { result ≡ faults.error_string code.now }
+{
+    for id in code.declared.as_slice() {
+        if is_error_string(code, *id) {
+            return Some(*id);
+        }
+    }
+    None
 }
 
-fn role_of(function: &Function) -> Role {
-    match function.kind {
-        FunctionKind::Source => Role::Source,
-        FunctionKind::Init => Role::Init,
-        FunctionKind::Wrapper => Role::Wrapper,
-        FunctionKind::External => {
-            if function.name.as_str() == "os.Exit" {
-                Role::Exit
-            } else {
-                Role::Gosched
-            }
-        }
+fn is_error_string(code: &Code, id: TypeId) -> bool
+    ensures { result ≡ faults.is_error_term code.now (term_at code.now.types id) }
+{
+    match code.types.get(id) {
+        Some(TypeTerm::Declared(name)) => is_error_name(code, name),
+        _ => false,
+    }
+}
+
+fn is_error_name(code: &Code, name: &TypeName) -> bool
+    ensures { result ≡ faults.is_error_name code.now name.now }
+{
+    if name.number != 0 || !is_runtime(code, name.package) {
+        return false;
+    }
+    is_error_text(code, name.name)
+}
+
+/// Whether a package is `runtime`.
+fn is_runtime(code: &Code, number: u32) -> bool
+    ensures { result ≡ option_map_or (bytes_eq (codes "runtime")) (slice_get code.now.packages number) false }
+{
+    match code.packages.as_slice().get(number as usize) {
+        Some(label) => "runtime" == label.as_str(),
+        None => false,
+    }
+}
+
+fn is_error_text(code: &Code, name: NameId) -> bool
+    ensures { result ≡ bytes_eq (codes "errorString") (name_text code.now.names name) }
+{
+    match code.names.text(name) {
+        Some(text) => "errorString" == text,
+        None => false,
     }
 }

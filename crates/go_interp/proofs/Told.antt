@@ -1,7 +1,6 @@
 -- The run of a code is that of its plan.
-use Rattle.std.proofs.Common.{◌≡◌, ℕ, List, Option, Result, Ok, Err, refl, subst}
+use Rattle.std.proofs.Common.{◌≡◌, ℕ, List, Option, Result, Ok, Err, refl}
 use Rattle.std.specs.Prelude.{IfOk}
-use Rattle.std.specs.Io.KnownBytes.{Appends}
 use Rattle.code_plan.specs.Plans.{IsPlanOf}
 use Rattle.code_plan.specs.declared.steps.Plan.{Plan}
 use Rattle.go_base.specs.declared.ending.Ending.{Ending}
@@ -11,17 +10,15 @@ use Rattle.plan_laws.proofs.Ends.{one_run_lem}
 use Rattle.plan_mean.specs.State.{World}
 use Rattle.ssa_ir.specs.declared.code.Code.{Code}
 use Rattle.ssa_mean.specs.Faults.{naming_of}
-use Rattle.ssa_mean.specs.Runs.{IsRunOf}
 
 tells : (code : Code) (plan : Plan) (choices : List ℕ) (bound : ℕ) → IsPlanOf code plan → (ending : Ending)
     → (before after : Option (List ℕ)) → HasRun code plan choices bound ending before after
     → TellsRun code choices bound ending before after
-tells code plan choices bound planned ending before after has output other run =
-    let w : World = record { plan = plan; naming = naming_of code; answers = run.answers } in
-    let made = has w (record { plan_is = refl; naming = refl; answers = run.told }) in
-    let same = one_run_lem code w choices bound output made.0 other ending
-    (record { plan = planned; naming = refl; answers = run.told }) run made.1.0 in
-    (same.1, subst (Appends before after) same.0 made.1.1)
+tells code plan choices bound planned ending before after has answers told =
+    let w : World = record { plan = plan; naming = naming_of code; answers = answers } in
+    let made = has w (record { plan_is = refl; naming = refl; answers = told }) in
+    (made.0, (one_run_lem code w choices bound made.0 ending (record { plan = planned; naming = refl; answers = told }) made.1.0,
+    made.1.1))
 
 pub told : (code : Code) (plan : Plan) (choices : List ℕ) (bound : ℕ) → IsPlanOf code plan → (result : Result Ending RunError)
     → (before after : Option (List ℕ)) → IfOk result (λ ending. HasRun code plan choices bound ending before after)

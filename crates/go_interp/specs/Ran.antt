@@ -1,5 +1,5 @@
 -- Runs, as they are made: what is written to a sink, with the ending.
-use Rattle.std.specs.Prelude.{◌≡◌, ℕ, List, [], ◌++◌, Option, None}
+use Rattle.std.specs.Prelude.{◌≡◌, ◌⊎◌, ℕ, List, [], ◌++◌, Option, None}
 use Rattle.std.specs.Io.KnownBytes.{Appends}
 use Rattle.code_plan.specs.declared.steps.Plan.{Plan}
 use Rattle.go_base.specs.declared.ending.Ending.{Ending}
@@ -9,11 +9,12 @@ use Rattle.go_value.specs.Values.{Val}
 use Rattle.interp_state.specs.Machines.{goroutine_of, machine_of}
 use Rattle.interp_state.specs.Turns.{IsIn}
 use Rattle.interp_state.specs.declared.machine.Machine.{Machine}
+use Rattle.plan_laws.specs.Runs.{IsStuck}
 use Rattle.plan_mean.specs.Calls.{new_goroutine}
 use Rattle.plan_mean.specs.Runs.{IsPlannedRun, first_machine, steps}
 use Rattle.plan_mean.specs.State.{World, ends}
 use Rattle.ssa_ir.specs.declared.code.Code.{Code}
-use Rattle.ssa_mean.specs.Answers.{AreAnswers}
+use Rattle.ssa_mean.specs.Answers.{Answers, AreAnswers}
 use Rattle.ssa_mean.specs.Faults.{naming_of}
 use Rattle.ssa_mean.specs.Runs.{IsRunOf}
 
@@ -57,8 +58,9 @@ pub record IsBare (code : Code) (plan : Plan) (sched : State) (bound : ℕ) (m :
 abbrev pub with_cells : List Val → Stored → Stored
 with_cells its store = record store { cells = store.cells ++ its }
 
--- what was appended and the ending are those of the run of the code, where it has one
+-- what was appended and the ending are those of a run of the code, but where the code is stuck, as typed code never is
 abbrev pub TellsRun : Code → List ℕ → ℕ → Ending → Option (List ℕ) → Option (List ℕ) → Type 0
 TellsRun code choices bound ending before after =
-    (output : List ℕ) (other : Ending) → IsRunOf code choices bound output other
-    → (ending ≡ other) × Appends before after output
+    (answers : Answers) → AreAnswers code.types answers
+    → (output : List ℕ)
+    × ((IsRunOf code choices bound output ending ⊎ IsStuck code choices bound answers) × Appends before after output)

@@ -1,5 +1,5 @@
--- Both machines come to one end.
-use Rattle.std.proofs.Common.{◌≡◌, ℕ, false, zero, suc, List, [], ◌∷◌, Some, None, ap, refl, sym, subst, ◌∙◌}
+-- The run of a plan is one of its code.
+use Rattle.std.proofs.Common.{◌≡◌, ℕ, false, zero, suc, List, [], ◌∷◌, Some, None, ap, refl, sym, subst, ◌∙◌, ap₂, ◌⊎◌, inl, inr}
 use Rattle.std.specs.Prelude.{map, slice_get}
 use Rattle.std.specs.List.{AllZip}
 use Rattle.std.specs.Option.{option_map}
@@ -10,17 +10,16 @@ use Rattle.go_base.specs.declared.ending.Ending.{Ending}
 use Rattle.go_sched.specs.Goroutines.{started}
 use Rattle.go_value.specs.Values.{Val, value_of}
 use Rattle.plan_laws.proofs.Alike.{Known, IsKnown, IsFunctionAt, IsMachine, IsOther, Follows}
-use Rattle.plan_laws.proofs.Lists.{some_same}
-use Rattle.plan_laws.proofs.Stepping.{Moves, waits, follows, step_alike}
-use Rattle.plan_laws.specs.Runs.{OneRun, IsWorldOf}
+use Rattle.plan_laws.proofs.Stepping.{Soon, now, later, soon_alike}
+use Rattle.plan_laws.specs.Runs.{OneRun, IsStuck, IsWorldOf}
 use Rattle.plan_mean.specs.Calls as planned_calls
 use Rattle.plan_mean.specs.Runs as planned_runs
 use Rattle.plan_mean.specs.State as plans
 use Rattle.plan_mean.specs.Step as planned
 use Rattle.ssa_ir.specs.declared.code.Code.{Code}
 use Rattle.ssa_ir.specs.declared.code.Function.{Function}
-use Rattle.ssa_mean.proofs.Outcomes.{same_answers}
 use Rattle.ssa_mean.specs.Runs as runs
+use Rattle.ssa_mean.specs.Runs.{IsRunOf}
 use Rattle.ssa_mean.specs.State as codes
 use Rattle.ssa_mean.specs.Step as steps
 
@@ -61,85 +60,73 @@ is_known code w is =
 
 -- ---- steps
 
-has_gone : codes.Next → Type 0
-has_gone (codes.goes m) = Unit {0}
-has_gone (codes.ends e o) = ⊥
-has_gone codes.stuck = ⊥
+has_gone : plans.Next → Type 0
+has_gone (plans.goes q) = Unit {0}
+has_gone (plans.ends e o) = ⊥
+has_gone plans.stuck = Unit {0}
 
-unended : {A : Type 0} (m : codes.Machine) (e : Ending) (o : List ℕ) → codes.goes m ≡ codes.ends e o → A
+-- what has not ended
+unended : {A : Type 0} (next : plans.Next) (e : Ending) (o : List ℕ) → next ≡ plans.ends e o → has_gone next → A
 unfolding has_gone
-unended m e o h = absurd (subst has_gone h tt)
+unended next e o same gone = absurd (subst has_gone same gone)
 
-planned_gone : plans.Next → Type 0
-planned_gone (plans.goes q) = Unit {0}
-planned_gone (plans.ends e o) = ⊥
-planned_gone plans.stuck = ⊥
-
-planned_unended : {A : Type 0} (q : plans.Machine) (e : Ending) (o : List ℕ) → plans.goes q ≡ plans.ends e o → A
-unfolding planned_gone
-planned_unended q e o h = absurd (subst planned_gone h tt)
-
-has_ended : codes.Next → Type 0
-has_ended (codes.goes m) = Unit {0}
-has_ended (codes.ends e o) = Unit {0}
-has_ended codes.stuck = ⊥
-
-planned_ended : plans.Next → Type 0
-planned_ended (plans.goes q) = Unit {0}
-planned_ended (plans.ends e o) = Unit {0}
-planned_ended plans.stuck = ⊥
-
-ending_of : Ending → codes.Next → Ending
-ending_of other (codes.ends e o) = e
+ending_of : Ending → plans.Next → Ending
+ending_of other (plans.ends e o) = e
 ending_of other _ = other
 
-output_of : List ℕ → codes.Next → List ℕ
-output_of other (codes.ends e o) = o
+output_of : List ℕ → plans.Next → List ℕ
+output_of other (plans.ends e o) = o
 output_of other _ = other
 
-planned_ending : Ending → plans.Next → Ending
-planned_ending other (plans.ends e o) = e
-planned_ending other _ = other
+-- some steps of the code lead to an end, or nowhere
+abbrev pub Comes : Known → codes.Machine → Ending → List ℕ → Type 0
+Comes k m e o =
+    (n : ℕ) × ((runs.steps n k.w.answers k.code m ≡ codes.ends e o) ⊎ (runs.steps n k.w.answers k.code m ≡ codes.stuck))
 
-planned_output : List ℕ → plans.Next → List ℕ
-planned_output other (plans.ends e o) = o
-planned_output other _ = other
+-- one step more
+one_more : (k : Known) (m next : codes.Machine) (e : Ending) (o : List ℕ)
+    → steps.step k.w.answers k.code m ≡ codes.goes next → Comes k next e o → Comes k m e o
+one_more k m next e o same (n, inl led) =
+    (suc n, inl (ap (runs.then_step (runs.steps n k.w.answers k.code)) same ∙ led))
+one_more k m next e o same (n, inr led) =
+    (suc n, inr (ap (runs.then_step (runs.steps n k.w.answers k.code)) same ∙ led))
 
--- the ends of the two machines are one
-abbrev pub IsOneEnd : Known → ℕ → Type 0
-IsOneEnd k n =
-    (j : ℕ) (pending : Pending) (m : codes.Machine) (q : plans.Machine) → IsMachine k pending m q → (e e' : Ending)
-    → (o o' : List ℕ) → runs.steps n k.w.answers k.code m ≡ codes.ends e o → planned_runs.steps j k.w q ≡ plans.ends e' o'
-    → (o' ≡ o) × (e' ≡ e)
+-- the plan's run has an end from all machines that are alike
+abbrev pub HasEnd : Known → ℕ → Type 0
+HasEnd k j =
+    (pending : Pending) (m : codes.Machine) (q : plans.Machine) → IsMachine k pending m q → (e : Ending) (o : List ℕ)
+    → planned_runs.steps j k.w q ≡ plans.ends e o → Comes k m e o
 
-after_both : (k : Known) (n j : ℕ) → IsOneEnd k n → (next : codes.Next) (next' : plans.Next) → Follows k next next'
-    → (e e' : Ending) (o o' : List ℕ) → runs.then_step (runs.steps n k.w.answers k.code) next ≡ codes.ends e o
-    → planned_runs.then_step (planned_runs.steps j k.w) next' ≡ plans.ends e' o' → (o' ≡ o) × (e' ≡ e)
-unfolding has_ended planned_ended ending_of output_of planned_ending planned_output
-after_both k n j rest (codes.goes m) (plans.goes q) alike e e' o o' h h' = rest j alike.0 m q alike.1 e e' o o' h h'
-after_both k n j rest (codes.ends e1 o1) (plans.ends e2 o2) alike e e' o o' h h' = (
-  sym (ap (planned_output o2) h') ∙ alike.1 ∙ ap (output_of o1) h,
-  sym (ap (planned_ending e2) h') ∙ alike.0 ∙ ap (ending_of e1) h,
+after_both : (k : Known) (j : ℕ) → HasEnd k j → (m : codes.Machine) (next : codes.Next) (next' : plans.Next)
+    → steps.step k.w.answers k.code m ≡ next → Follows k next next' → (e : Ending) (o : List ℕ)
+    → planned_runs.then_step (planned_runs.steps j k.w) next' ≡ plans.ends e o → Comes k m e o
+unfolding has_gone ending_of output_of
+after_both k j rest m (codes.goes m') (plans.goes q) same alike e o h =
+    one_more k m m' e o same (rest alike.0 m' q alike.1 e o h)
+after_both k j rest m (codes.ends e1 o1) (plans.ends e2 o2) same alike e o h = (
+  1,
+  inl (ap (runs.then_step (runs.steps 0 k.w.answers k.code)) same
+      ∙ ap₂ codes.ends (sym alike.0 ∙ ap (ending_of e2) h) (sym alike.1 ∙ ap (output_of o2) h)),
 )
-after_both k n j rest codes.stuck next' alike e e' o o' h h' = absurd (subst has_ended (sym h) tt)
-after_both k n j rest (codes.goes m) plans.stuck alike e e' o o' h h' = absurd (subst planned_ended (sym h') tt)
-after_both k n j rest (codes.ends e1 o1) plans.stuck alike e e' o o' h h' = absurd (subst planned_ended (sym h') tt)
-after_both k n j rest (codes.goes m) (plans.ends e2 o2) alike e e' o o' h h' = absurd alike
-after_both k n j rest (codes.ends e1 o1) (plans.goes q) alike e e' o o' h h' = absurd alike
+after_both k j rest m codes.stuck next' same alike e o h =
+    (1, inr (ap (runs.then_step (runs.steps 0 k.w.answers k.code)) same))
+after_both k j rest m (codes.goes m') plans.stuck same alike e o h = unended plans.stuck e o h tt
+after_both k j rest m (codes.ends e1 o1) plans.stuck same alike e o h = unended plans.stuck e o h tt
+after_both k j rest m (codes.goes m') (plans.ends e2 o2) same alike e o h = absurd alike
+after_both k j rest m (codes.ends e1 o1) (plans.goes q) same alike e o h = absurd alike
 
-after_one : (k : Known) (n j : ℕ) → IsOneEnd k n → (next : codes.Next) (q : plans.Machine) → Moves k next q (planned.step k.w q)
-    → (e e' : Ending) (o o' : List ℕ) → runs.then_step (runs.steps n k.w.answers k.code) next ≡ codes.ends e o
-    → planned_runs.steps j k.w q ≡ plans.ends e' o' → (o' ≡ o) × (e' ≡ e)
-after_one k n j rest next q (waits m pending same is) e e' o o' h h' =
-    rest j pending m q is e e' o o' (sym (ap (runs.then_step (runs.steps n k.w.answers k.code)) same) ∙ h) h'
-after_one k n zero rest next q (follows alike) e e' o o' h h' = planned_unended q e' o' h'
-after_one k n (suc j) rest next q (follows alike) e e' o o' h h' =
-    after_both k n j rest next (planned.step k.w q) alike e e' o o' h h'
+soon_ends : (k : Known) (j : ℕ) → HasEnd k j → (m : codes.Machine) (q : plans.Machine) → Soon k m q → (e : Ending)
+    (o : List ℕ) → planned_runs.steps (suc j) k.w q ≡ plans.ends e o → Comes k m e o
+soon_ends k j rest m q (now m' q' alike) e o h =
+    after_both k j rest m' (steps.step k.w.answers k.code m') (planned.step k.w q') refl alike e o h
+soon_ends k j rest m q (later m' next q' same soon) e o h =
+    one_more k m' next e o same (soon_ends k j rest next q' soon e o h)
 
-one_end : (k : Known) → IsKnown k → (n : ℕ) → IsOneEnd k n
-one_end k known zero j pending m q is e e' o o' h h' = unended m e o h
-one_end k known (suc n) j pending m q is e e' o o' h h' =
-    after_one k n j (one_end k known n) (steps.step k.w.answers k.code m) q (step_alike k known pending m q is) e e' o o' h h'
+has_end : (k : Known) → IsKnown k → (j : ℕ) → HasEnd k j
+unfolding has_gone
+has_end k known zero pending m q is e o h = unended (plans.goes q) e o h tt
+has_end k known (suc j) pending m q is e o h =
+    soon_ends k j (has_end k known j) m q (soon_alike k known pending m q is) e o h
 
 -- ---- the first machines
 
@@ -181,23 +168,37 @@ first_alike code w is choices bound =
       held = tt;
     }
 
-first_is : (code : Code) (choices : List ℕ) (bound : ℕ) (cells : List Val) (first : codes.Machine)
-    → runs.first_cells code code.variables ≡ Some cells → runs.first_machine code choices bound ≡ Some first
-    → first_code code choices bound cells ≡ first
+first_is : (code : Code) (choices : List ℕ) (bound : ℕ) (cells : List Val)
+    → runs.first_cells code code.variables ≡ Some cells
+    → runs.first_machine code choices bound ≡ Some (first_code code choices bound cells)
 unfolding first_code runs.first_machine
-first_is code choices bound cells first found begins =
-    some_same (first_code code choices bound cells) first
-    (sym (ap (option_map (first_code code choices bound)) found) ∙ begins)
+first_is code choices bound cells found = ap (option_map (first_code code choices bound)) found
 
 pub one_run_lem : OneRun
 unfolding known_of
-one_run_lem code w choices bound output output' ending ending' is run planned_run =
-    let answers : run.answers ≡ w.answers = same_answers code.types run.answers w.answers run.told is.answers in
-    let first : first_code code choices bound (map value_of w.plan.variables.items) ≡ run.first =
-    first_is code choices bound (map value_of w.plan.variables.items) run.first is.plan.variables run.begins in
-    one_end (known_of code w is.plan) (is_known code w is) run.count planned_run.count []
-    (first_code code choices bound (map value_of w.plan.variables.items)) (planned_runs.first_machine w choices bound)
-    (first_alike code w is choices bound) ending ending' output output'
-    (subst (λ m. runs.steps run.count w.answers code m ≡ codes.ends ending output) (sym first)
-    (subst (λ given. runs.steps run.count given code run.first ≡ codes.ends ending output) answers run.leads))
-    planned_run.leads
+one_run_lem code w choices bound output ending is planned_run =
+    by_end (has_end (known_of code w is.plan) (is_known code w is) planned_run.count []
+    (first_code code choices bound cells) (planned_runs.first_machine w choices bound)
+    (first_alike code w is choices bound) ending output planned_run.leads)
+  where
+    cells : List Val
+    cells = map value_of w.plan.variables.items
+
+    by_end : Comes (known_of code w is.plan) (first_code code choices bound cells) ending output
+        → IsRunOf code choices bound output ending ⊎ IsStuck code choices bound w.answers
+    by_end (n, inl led) =
+        inl (record {
+          answers = w.answers;
+          told = is.answers;
+          first = first_code code choices bound cells;
+          begins = first_is code choices bound cells is.plan.variables;
+          count = n;
+          leads = led;
+        })
+    by_end (n, inr led) =
+        inr (record {
+          first = first_code code choices bound cells;
+          begins = first_is code choices bound cells is.plan.variables;
+          count = n;
+          leads = led;
+        })

@@ -18,6 +18,7 @@ pub mod Giving
 pub mod Going
 pub mod Items
 pub mod Jumping
+pub mod Late
 pub mod Lists
 pub mod MadeCalls
 pub mod Making

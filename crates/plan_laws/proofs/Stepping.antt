@@ -1,27 +1,23 @@
 -- Steps: the code's machine makes one, and the plan's one or none.
-use Rattle.std.proofs.Common.{◌≡◌, ℕ, suc, Bool, true, false, List, [], ◌∷◌, ◌++◌, Option, Some, None, ap, refl, sym, subst, ◌∙◌}
-use Rattle.std.proofs.lemmas.Bool.{eqb-true, eq-eqb}
+use Rattle.std.proofs.Common.{arith, ◌≡◌, ℕ, suc, Bool, true, false, List, [], ◌∷◌, ◌++◌, Option, Some, None, ap, refl, sym, subst, subst₂, ◌∙◌, pred, zero}
 use Rattle.std.proofs.lemmas.Option.{none-some}
-use Rattle.std.specs.Prelude.{◌==◌, ◌<◌, drop, if◌then◌else◌, length, slice_get}
+use Rattle.std.specs.Prelude.{◌<◌, drop, length, slice_get}
 use Rattle.std.specs.Option.{option_map}
 use Rattle.code_plan.specs.Forms as forms
 use Rattle.code_plan.specs.Forms.{IsStep, LeadsOn, on, jump_of, next_of}
 use Rattle.code_plan.specs.Plans.{Goes, here, late, made}
-use Rattle.code_plan.specs.Registers.{Marks, Pending, before, behind, late_at, late_from, may_give}
+use Rattle.code_plan.specs.Registers.{Marks, Pending, before, behind, may_give}
 use Rattle.code_plan.specs.declared.steps.PlannedBlock.{PlannedBlock}
 use Rattle.code_plan.specs.declared.steps.Step.{Step}
 use Rattle.code_plan.specs.declared.steps.Step.TheVariants as act
 use Rattle.go_base.specs.declared.ids.BlockId.{BlockId}
-use Rattle.go_store.specs.Stores.{Stored, loaded}
-use Rattle.go_value.specs.Values.{Val, pointer}
-use Rattle.go_value.specs.declared.address.Pointer.{Pointer}
-use Rattle.go_value.specs.declared.faults.Fault.TheVariants as fault
+use Rattle.go_store.specs.Stores.{Stored}
+use Rattle.go_value.specs.Values.{Val}
 use Rattle.plan_laws.proofs.Acting.{Acting, IsActing, site_of, plan_site, acting_on}
 use Rattle.plan_laws.proofs.Alike.{Known, IsKnown, IsMachine, Follows, IsAround, AreFrames, ArePendingIn, RunsWhere, IsLaterWhere, IsTopFrame, AreBelow}
-use Rattle.plan_laws.proofs.Alike.{IsPlaced, IsAt, IsOnWay, standing, on_way, IsTop, placed, lost, sources_in, shown_state, is_panicking}
-use Rattle.plan_laws.proofs.Alike.{HasSlots, ArePending, IsHeld, register_of}
-use Rattle.plan_laws.proofs.Lists.{at_drop, past_drop, length_set, some_same}
-use Rattle.plan_laws.proofs.Acting.{MayPoint}
+use Rattle.plan_laws.proofs.Alike.{IsPlaced, standing, on_way, IsTop, placed, lost, sources_in, shown_state, is_panicking}
+use Rattle.plan_laws.proofs.Alike.{ArePending}
+use Rattle.plan_laws.proofs.Lists.{at_drop, past_drop, some_same}
 use Rattle.plan_laws.proofs.Calling.{call_alike, defer_alike}
 use Rattle.plan_laws.proofs.Closing.{make_closure_alike}
 use Rattle.plan_laws.proofs.Mapping.{lookup_alike, update_alike, range_alike, tick_alike}
@@ -34,25 +30,26 @@ use Rattle.plan_laws.proofs.Jumping.{jump_alike, if_alike, no_front}
 use Rattle.plan_laws.proofs.Making.{new_alike, make_chan_alike, make_map_alike, make_slice_alike}
 use Rattle.plan_laws.proofs.Operators.{binary_alike, unary_alike}
 use Rattle.plan_laws.proofs.Places.{load_alike, store_alike, field_alike, extract_alike, field_address_alike, index_alike, index_address_alike, slice_alike}
+use Rattle.plan_laws.proofs.Late.{IsRunning, Moves, waits, follows, after_load, late_running, late_step, planned_on, site_at}
 use Rattle.plan_laws.proofs.Reading.{one_value}
 use Rattle.plan_laws.proofs.Starting.{go_alike}
 use Rattle.plan_laws.proofs.Throwing.{panics_alike}
-use Rattle.plan_laws.proofs.Unwinding.{machine_with, return_alike, run_defers_alike}
+use Rattle.plan_laws.proofs.Unwinding.{return_alike, run_defers_alike}
 use Rattle.plan_laws.proofs.Values.{IsAlike}
 use Rattle.plan_laws.proofs.Waiting.{send_alike, receive_alike, select_alike}
 use Rattle.plan_mean.specs.Unwinding as planned_unwinding
 use Rattle.ssa_ir.specs.declared.operands.Operand.{Operand}
 use Rattle.ssa_mean.specs.Operands.{value_of}
 use Rattle.ssa_mean.specs.Unwinding as steps_of
-use Rattle.plan_laws.proofs.Alike.{IsFrame, GetsResult, IsWholeWhere, runs_where}
 use Rattle.plan_laws.proofs.Around.{around_with, there_with}
 use Rattle.plan_laws.proofs.Lists.{same_count}
-use Rattle.plan_laws.proofs.Slots.{cells_with, none_pending, pending_as, placed_with, put_here, put_other, slots_as}
+use Rattle.plan_laws.proofs.Slots.{none_pending}
 use Rattle.plan_laws.proofs.Unwinding.{unwinds_alike}
 use Rattle.plan_mean.specs.Slots.{top_of, below_top}
 use Rattle.plan_mean.specs.State as plans
 use Rattle.plan_mean.specs.Step as planned
 use Rattle.ssa_ir.specs.Blocks.{instrs_at}
+use Rattle.ssa_ir.specs.declared.code.Code.{Code}
 use Rattle.ssa_ir.specs.declared.code.Function.{Function}
 use Rattle.ssa_ir.specs.declared.operands.Operand.TheVariants as operand
 use Rattle.ssa_ir.specs.declared.ops.Instr.{Instr}
@@ -60,16 +57,16 @@ use Rattle.ssa_ir.specs.declared.ops.Op.{Op}
 use Rattle.ssa_ir.specs.declared.ops.Op.TheVariants as op
 use Rattle.ssa_mean.specs.State as codes
 use Rattle.ssa_mean.specs.State.{FrameState, running, returning, panicking}
-use Rattle.ssa_mean.specs.Comes.{faults, where_some, of_option}
 use Rattle.ssa_mean.specs.Places.{load}
 use Rattle.ssa_mean.specs.Step as steps
 use Rattle.ssa_mean.specs.Unwinding.{is_source, phis_first}
 
--- what a step of the code comes to, and where the plan is then
-pub data Moves (k : Known) (next : codes.Next) (q : plans.Machine) (planned_next : plans.Next) : Type 0 where
-  waits : (m : codes.Machine) (pending : Pending) → next ≡ codes.goes m → IsMachine k pending m q
-      → Moves k next q planned_next
-  follows : Follows k next planned_next → Moves k next q planned_next
+-- after some steps of the code alone, both machines make a step that leads them to what is alike
+pub data Soon (k : Known) : codes.Machine → plans.Machine → Type 0 where
+  now : (m : codes.Machine) (q : plans.Machine)
+      → Follows k (steps.step k.w.answers k.code m) (planned.step k.w q) → Soon k m q
+  later : (m next : codes.Machine) (q : plans.Machine)
+      → steps.step k.w.answers k.code m ≡ codes.goes next → Soon k next q → Soon k m q
 
 -- ---- nothing is pending where the top frame does not run
 
@@ -98,230 +95,9 @@ other_state k known pending m q g frame below it others around there top lower b
       sources = sources;
     })
 
--- ---- a load that is made late: the code makes it, and the plan waits
-
-late_slots : (function : Function) (marks : Marks) (frame : codes.Frame) (row : List (Option Val))
-    → HasSlots function marks frame row → (register : ℕ) (it : Val) → marks.late register ≡ true
-    → HasSlots function marks (codes.with_register register it frame) row
-late_slots function marks frame row has register it is_late =
-    record {
-      parameters = has.parameters;
-      frees = has.frees;
-      registers = length_set frame.registers register (Some it) ∙ has.registers;
-      count = has.count;
-      parameter = has.parameter;
-      free = has.free;
-      register = λ n on_time.
-          has.register n on_time
-          ∙ sym (put_other frame.registers register n it
-          (λ same. let clash : true ≡ false = sym is_late ∙ ap marks.late (sym same) ∙ on_time in absurd cc));
-    }
-
-last_load : (pending : Pending) (load : ℕ × ℕ) (found : Option ℕ) (register : ℕ)
-    → late_from found (pending ++ load ∷ []) register
-    ≡ (if load.0 == register then Some load.1 else late_from found pending register)
-last_load [] load found register = refl
-last_load (first ∷ pending) load found register =
-    last_load pending load (if first.0 == register then Some first.1 else found) register
-
-late_pending : (function : Function) (marks : Marks) (store : Stored) (pending : Pending) (frame : codes.Frame)
-    → ArePending marks store pending frame → (register cell : ℕ) (at : Pointer) (it : Val)
-    → register < length frame.registers → marks.late register ≡ true → marks.cell cell ≡ true → marks.late cell ≡ false
-    → register_of frame cell ≡ Some (pointer at) → loaded store at ≡ Some it
-    → ArePending marks store (pending ++ (register, cell) ∷ []) (codes.with_register register it frame)
-late_pending function marks store pending frame are register cell at it within is_late is_cell slotted points loads n c h =
-    by_load (register == n) refl (sym (last_load pending (register, cell) None n) ∙ h)
-  where
-    by_load : (b : Bool) → (register == n) ≡ b → (if b then Some cell else late_at pending n) ≡ Some c
-        → IsHeld marks store (codes.with_register register it frame) n c
-    by_load true same found =
-        let same_n : n ≡ register = sym (eqb-true register n same) in
-        let same_c : c ≡ cell = sym (some_same cell c found) in
-        record {
-          late = ap marks.late same_n ∙ is_late;
-          is_cell = ap marks.cell same_c ∙ is_cell;
-          slotted = ap marks.late same_c ∙ slotted;
-          at = at;
-          it = it;
-          points = put_other frame.registers register c it
-              (λ other. let clash : true ≡ false = sym is_late ∙ ap marks.late (sym other) ∙ ap marks.late same_c ∙ slotted in absurd cc)
-              ∙ ap (register_of frame) same_c ∙ points;
-          loads = loads;
-          held = ap (register_of (codes.with_register register it frame)) same_n ∙ put_here frame.registers register it within;
-        }
-    by_load false other found =
-        let old = are n c found in
-        record {
-          late = old.late;
-          is_cell = old.is_cell;
-          slotted = old.slotted;
-          at = old.at;
-          it = old.it;
-          points = put_other frame.registers register c it
-              (λ same. let clash : true ≡ false = sym is_late ∙ ap marks.late (sym same) ∙ old.slotted in absurd cc) ∙ old.points;
-          loads = old.loads;
-          held = put_other frame.registers register n it (λ same. let clash : false ≡ true = sym other ∙ eq-eqb register n (sym same) in absurd cc) ∙ old.held;
-        }
-
 is_running : FrameState → Bool
 is_running running = true
 is_running _ = false
-
--- what a machine with the frame that runs on top has to be, at the place where its instruction stands
-pub record IsRunning (k : Known) (pending : Pending) (m : codes.Machine) (q : plans.Machine) (g : codes.Goroutine)
-    (function : Function) (frame : codes.Frame) (below : List codes.Frame) (it : plans.Frame) (others : List plans.Frame) :
-    Type 0 where
-  pub around : IsAround k m q
-  pub there : slice_get m.goroutines m.sched.current.number ≡ Some g
-  pub is : IsFrame k function frame (top_of q.current.slots) it
-  pub runs : frame.state ≡ running
-  pub frames : g.frames ≡ frame ∷ below
-  pub result : GetsResult k frame.result it.result below
-  pub lower : AreBelow k below (below_top q.current.slots) others
-  pub begin : IsLaterWhere g.begin q.current.begin
-  pub fault : q.current.fault ≡ g.fault
-  pub sources : q.current.sources ≡ sources_in k (frame ∷ below)
-  pub held : ArePending (k.marks frame.function.number) m.store pending frame
-
-abbrev pub planned_on : plans.Machine → plans.Frame → List plans.Frame → plans.Machine
-planned_on q it others = record q { current = record (q.current) { frames = it ∷ others } }
-
--- the code's frame with its late register, behind the load
-late_machine : (k : Known) (pending : Pending) (m : codes.Machine) (q : plans.Machine) (g : codes.Goroutine)
-    (function : Function) (frame : codes.Frame) (below : List codes.Frame) (it : plans.Frame) (others : List plans.Frame)
-    → IsRunning k pending m q g function frame below it others → (register cell : ℕ) (at : Pointer) (value : Val)
-    → register < length function.registers → (k.marks frame.function.number).late register ≡ true
-    → (k.marks frame.function.number).cell register ≡ false → (k.marks frame.function.number).cell cell ≡ true
-    → (k.marks frame.function.number).late cell ≡ false → register_of frame cell ≡ Some (pointer at)
-    → loaded m.store at ≡ Some value
-    → IsPlaced k function (pending ++ (register, cell) ∷ []) (codes.advanced frame) it
-    → IsMachine k (pending ++ (register, cell) ∷ [])
-    (codes.with_frames g (codes.advanced (codes.with_register register value frame) ∷ below) m) (planned_on q it others)
-late_machine k pending m q g function frame below it others is register cell at value within is_late no_cell is_cell slotted
-    points loads place =
-    record {
-      around = around_with k m q is.around (record g { frames = after ∷ below })
-          (record (q.current) { frames = it ∷ others });
-      g = record g { frames = after ∷ below };
-      there = there_with m (record g { frames = after ∷ below }) g is.there;
-      is = record {
-        frames = (
-          record {
-            function = function;
-            is = record {
-              there = is.is.there;
-              planned_there = is.is.planned_there;
-              slots = slots_as function (k.marks frame.function.number) given after (top_of q.current.slots)
-                  (record { parameters = refl; free = refl; registers = refl })
-                  (late_slots function (k.marks frame.function.number) frame (top_of q.current.slots) is.is.slots register value
-                  is_late);
-              cells = cells_with (k.marks frame.function.number) pending frame is.is.cells register value
-                  (subst (λ b. MayPoint b pending value) (sym no_cell) tt);
-              deferred = is.is.deferred;
-              state = is.is.state;
-              chain = is.is.chain;
-              passed = is.is.passed;
-              defers = is.is.defers;
-              recovers = is.is.recovers;
-            };
-            top = placed (placed_with k function (pending ++ (register, cell) ∷ []) (codes.advanced frame) it
-                (codes.with_register register value frame).registers place);
-            result = is.result;
-          },
-          is.lower,
-        );
-        begin = is.begin;
-        fault = is.fault;
-        sources = is.sources ∙ same_count (is_source k.code) frame after below refl;
-      };
-      held = (
-        pending_as (k.marks frame.function.number) m.store (pending ++ (register, cell) ∷ []) given after refl
-            (late_pending function (k.marks frame.function.number) m.store pending frame is.held register cell at value
-            (subst (λ n. register < n) (sym is.is.slots.registers) within) is_late is_cell slotted points loads),
-        runs_where (pending ++ (register, cell) ∷ []) after is.runs,
-      );
-    }
-  where
-    given : codes.Frame
-    given = codes.with_register register value frame
-
-    after : codes.Frame
-    after = codes.advanced given
-
--- the site at which the code's frame acts
-abbrev pub site_at : Known → codes.Machine → codes.Goroutine → Function → codes.Frame → List codes.Frame → steps.Site
-site_at k m g function frame below =
-    record {
-      code = k.code;
-      answers = k.w.answers;
-      machine = m;
-      goroutine = g;
-      below = below;
-      frame = frame;
-      function = function;
-    }
-
--- what a load of the cell gives: nothing where the cell is not there, and the code is stuck
-late_loaded : (k : Known) (pending : Pending) (m : codes.Machine) (q : plans.Machine) (g : codes.Goroutine)
-    (function : Function) (frame : codes.Frame) (below : List codes.Frame) (it : plans.Frame) (others : List plans.Frame)
-    → IsRunning k pending m q g function frame below it others → (register cell : ℕ) (at : Pointer)
-    → register < length function.registers → (k.marks frame.function.number).late register ≡ true
-    → (k.marks frame.function.number).cell register ≡ false → (k.marks frame.function.number).cell cell ≡ true
-    → (k.marks frame.function.number).late cell ≡ false → register_of frame cell ≡ Some (pointer at)
-    → IsPlaced k function (pending ++ (register, cell) ∷ []) (codes.advanced frame) it → (next : plans.Next)
-    → (found : Option Val) → loaded m.store at ≡ found
-    → Moves k (steps.gives_value (site_at k m g function frame below) (Some register) (of_option found))
-    (planned_on q it others) next
-late_loaded k pending m q g function frame below it others is register cell at within is_late no_cell is_cell slotted points place
-    next None loads = follows tt
-late_loaded k pending m q g function frame below it others is register cell at within is_late no_cell is_cell slotted points place
-    next (Some value) loads =
-    waits (codes.with_frames g (codes.advanced (codes.with_register register value frame) ∷ below) m)
-    (pending ++ (register, cell) ∷ []) refl
-    (late_machine k pending m q g function frame below it others is register cell at value within is_late no_cell is_cell slotted
-    points loads place)
-
--- the load of a register that points to a cell, where it is written
-late_value : (k : Known) (pending : Pending) (m : codes.Machine) (q : plans.Machine) (g : codes.Goroutine)
-    (function : Function) (frame : codes.Frame) (below : List codes.Frame) (it : plans.Frame) (others : List plans.Frame)
-    → IsRunning k pending m q g function frame below it others → (register cell : ℕ)
-    → register < length function.registers → (k.marks frame.function.number).late register ≡ true
-    → (k.marks frame.function.number).cell register ≡ false → (k.marks frame.function.number).cell cell ≡ true
-    → (k.marks frame.function.number).late cell ≡ false
-    → IsPlaced k function (pending ++ (register, cell) ∷ []) (codes.advanced frame) it → (next : plans.Next)
-    → (found : Option Val) → register_of frame cell ≡ found → IsWholeWhere found
-    → Moves k (steps.gives_value (site_at k m g function frame below) (Some register) (where_some (load m.store) found))
-    (planned_on q it others) next
-late_value k pending m q g function frame below it others is register cell within is_late no_cell is_cell slotted place next
-    None same whole = follows tt
-late_value k pending m q g function frame below it others is register cell within is_late no_cell is_cell slotted place next
-    (Some (pointer at)) same whole =
-    subst (λ (b : Bool). Moves k (steps.gives_value (site_at k m g function frame below) (Some register)
-    (if b then faults fault.NilPointer else of_option (loaded m.store at))) (planned_on q it others) next)
-    (sym whole)
-    (late_loaded k pending m q g function frame below it others is register cell at within is_late no_cell is_cell slotted same
-    place next (loaded m.store at) refl)
-late_value k pending m q g function frame below it others is register cell within is_late no_cell is_cell slotted place next
-    (Some _) same whole = absurd whole
-
--- a late load as an instruction
-late_step : (k : Known) (pending : Pending) (m : codes.Machine) (q : plans.Machine) (g : codes.Goroutine)
-    (function : Function) (frame : codes.Frame) (below : List codes.Frame) (it : plans.Frame) (others : List plans.Frame)
-    → IsRunning k pending m q g function frame below it others → (register cell : ℕ) (given : Option ℕ) (instr : Op)
-    → instr ≡ op.Load (operand.Register cell) → given ≡ Some register
-    → register < length function.registers → (k.marks frame.function.number).late register ≡ true
-    → (k.marks frame.function.number).cell register ≡ false → (k.marks frame.function.number).cell cell ≡ true
-    → (k.marks frame.function.number).late cell ≡ false
-    → IsPlaced k function (pending ++ (register, cell) ∷ []) (codes.advanced frame) it → (next : plans.Next)
-    → Moves k (steps.acts (site_at k m g function frame below) given instr) (planned_on q it others) next
-unfolding steps.acts
-late_step k pending m q g function frame below it others is register cell given instr loads gives within is_late no_cell is_cell
-    slotted place next =
-    subst (λ (o : Op). Moves k (steps.acts (site_at k m g function frame below) given o) (planned_on q it others) next) (sym loads)
-    (subst (λ (r : Option ℕ). Moves k (steps.acts (site_at k m g function frame below) r (op.Load (operand.Register cell)))
-    (planned_on q it others) next) (sym gives)
-    (late_value k pending m q g function frame below it others is register cell within is_late no_cell is_cell slotted place next
-    (register_of frame cell) refl (is.is.cells cell is_cell)))
 
 -- ---- an instruction and its step
 
@@ -459,45 +235,120 @@ waits_at k function pending last frame it first instrs step rest may_stay may is
     both_none (op.Select blocking cases) stays = refl
     both_none _ stays = let clash : false ≡ true = stays in absurd cc
 
--- the code's machine acts
-does_alike : (k : Known) → IsKnown k → (pending : Pending) (m : codes.Machine) (q : plans.Machine) (g : codes.Goroutine)
+-- where a frame stands, and its planned frame, whatever comes behind
+pub record StandsAt (frame : codes.Frame) (it : plans.Frame) : Type 0 where
+  pub same : it.block ≡ frame.block
+  pub block : PlannedBlock
+  pub is : slice_get it.function.blocks.items frame.block ≡ Some block
+  pub steps : it.steps ≡ block.steps.items
+
+-- a machine whose top frame runs does what stands there
+step_is : (k : Known) (pending : Pending) (m : codes.Machine) (q : plans.Machine) (g : codes.Goroutine)
     (function : Function) (frame : codes.Frame) (below : List codes.Frame) (it : plans.Frame) (others : List plans.Frame)
-    → IsRunning k pending m q g function frame below it others → (at : IsAt k function pending frame it)
+    → IsRunning k pending m q g function frame below it others
+    → steps.step k.w.answers k.code m
+    ≡ steps.does (site_at k m g function frame below) (slice_get (instrs_at function frame.block) frame.place)
+unfolding steps.step
+step_is k pending m q g function frame below it others is =
+    ap (codes.where_there (λ g. steps.steps_on k.w.answers k.code m g g.frames)) is.there
+    ∙ ap (steps.steps_on k.w.answers k.code m g) is.frames
+    ∙ ap (steps.moves k.w.answers k.code m g frame below) is.runs
+    ∙ ap (steps.runs k.w.answers k.code m g frame below) is.is.there
+
+planned_step_is : (k : Known) (pending : Pending) (m : codes.Machine) (q : plans.Machine) (g : codes.Goroutine)
+    (function : Function) (frame : codes.Frame) (below : List codes.Frame) (it : plans.Frame) (others : List plans.Frame)
+    → IsRunning k pending m q g function frame below it others
+    → planned.step k.w (planned_on q it others)
+    ≡ planned.does k.w (planned_on q it others) it others (slice_get it.steps it.step)
+unfolding planned.step
+planned_step_is k pending m q g function frame below it others is =
+    ap (planned.moves k.w (planned_on q it others) it others) (is.is.state ∙ ap shown_state is.runs)
+
+soon_running : (k : Known) (pending : Pending) (m : codes.Machine) (q : plans.Machine) (g : codes.Goroutine)
+    (function : Function) (frame : codes.Frame) (below : List codes.Frame) (it : plans.Frame) (others : List plans.Frame)
+    → IsRunning k pending m q g function frame below it others
+    → Moves k (λ m. Soon k m (planned_on q it others))
+    (steps.does (site_at k m g function frame below) (slice_get (instrs_at function frame.block) frame.place))
+    (planned.does k.w (planned_on q it others) it others (slice_get it.steps it.step))
+    → Soon k m (planned_on q it others)
+soon_running k pending m q g function frame below it others is (waits m' same rest) =
+    later m m' (planned_on q it others) (step_is k pending m q g function frame below it others is ∙ same) rest
+soon_running k pending m q g function frame below it others is (follows alike) =
+    now m (planned_on q it others)
+    (subst (Follows k (steps.step k.w.answers k.code m))
+    (sym (planned_step_is k pending m q g function frame below it others is))
+    (subst (λ next. Follows k next (planned.does k.w (planned_on q it others) it others (slice_get it.steps it.step)))
+    (sym (step_is k pending m q g function frame below it others is)) alike))
+
+-- what comes first of the instructions of a block, and of their steps
+pub data First (code : Code) (function : Function) (marks : Marks) (pending : Pending) (all : List Instr) (its : List Step)
+    (last : Pending) : Type 0 where
+  nothing : all ≡ [] → First code function marks pending all its last
+  loads : (instr : Instr) (rest : List Instr) (register cell : ℕ) → all ≡ instr ∷ rest
+      → instr.op ≡ op.Load (operand.Register cell) → instr.register ≡ Some register → marks.late register ≡ true
+      → marks.cell register ≡ false → register < length function.registers → marks.cell cell ≡ true
+      → marks.late cell ≡ false → Goes code function marks (pending ++ (register, cell) ∷ []) rest its last
+      → First code function marks pending all its last
+  does : (instr : Instr) (rest : List Instr) (step : Step) (more : List Step) → all ≡ instr ∷ rest → its ≡ step ∷ more
+      → may_give marks instr.op instr.register ≡ true
+      → IsStep (record { code = code; function = function; marks = marks; pending = before instr.op pending })
+      instr.register instr.op step
+      → Goes code function marks (behind step (before instr.op pending)) rest more last
+      → First code function marks pending all its last
+
+first_of : (code : Code) (function : Function) (marks : Marks) (pending : Pending) (all : List Instr) (its : List Step)
+    (last : Pending) → Goes code function marks pending all its last → First code function marks pending all its last
+first_of code function marks pending all its last (here _) = nothing refl
+first_of code function marks pending all its last
+    (late _ _ instr rest _ register cell of_cell gives is_late no_cell within is_cell slotted goes) =
+    loads instr rest register cell refl of_cell gives is_late no_cell within is_cell slotted goes
+first_of code function marks pending all its last (made _ _ instr rest step more may is_step goes) =
+    does instr rest step more refl refl may is_step goes
+
+-- the code's machine acts, with so many instructions to come in the block
+does_alike : (n : ℕ) (k : Known) → IsKnown k → (pending : Pending) (m : codes.Machine) (q : plans.Machine) (g : codes.Goroutine)
+    (function : Function) (frame : codes.Frame) (below : List codes.Frame) (it : plans.Frame) (others : List plans.Frame)
+    → IsRunning k pending m q g function frame below it others → (at : StandsAt frame it)
     → (all : List Instr) (its : List Step) (p last : Pending)
-    → Goes k.code function (k.marks frame.function.number) p all its last → p ≡ pending
+    → First k.code function (k.marks frame.function.number) p all its last → length all ≡ n → p ≡ pending
     → drop frame.place (instrs_at function frame.block) ≡ all → drop it.step it.steps ≡ its
-    → Moves k (steps.does (site_at k m g function frame below) (slice_get (instrs_at function frame.block) frame.place))
-    (planned_on q it others) (planned.does k.w (planned_on q it others) it others (slice_get it.steps it.step))
-does_alike k known pending m q g function frame below it others is at all its p last (here _) same instrs steps_are =
+    → Moves k (λ m. Soon k m (planned_on q it others))
+    (steps.does (site_at k m g function frame below) (slice_get (instrs_at function frame.block) frame.place))
+    (planned.does k.w (planned_on q it others) it others (slice_get it.steps it.step))
+does_alike n k known pending m q g function frame below it others is at all its p last (nothing empty) count same instrs steps_are =
     follows (subst (λ (found : Option Instr). Follows k (steps.does (site_at k m g function frame below) found)
     (planned.does k.w (planned_on q it others) it others (slice_get it.steps it.step)))
-    (sym (past_drop (instrs_at function frame.block) frame.place instrs)) tt)
-does_alike k known pending m q g function frame below it others is at all its p last
-    (late _ _ instr rest _ register cell loads gives is_late no_cell within is_cell slotted goes) same instrs steps_are =
-    let both = at_drop (instrs_at function frame.block) frame.place instr rest instrs in
-    subst (λ (found : Option Instr). Moves k (steps.does (site_at k m g function frame below) found)
-    (planned_on q it others) (planned.does k.w (planned_on q it others) it others (slice_get it.steps it.step)))
-    (sym both.0)
-    (late_step k pending m q g function frame below it others is register cell instr.register instr.op loads gives within is_late
-    no_cell is_cell slotted
-    (standing (pending ++ (register, cell) ∷ []) _ _ (record {
-      same = at.same;
-      block = at.block;
-      is = at.is;
-      steps = at.steps;
-      last = last;
-      goes = subst (λ (its : List Instr). Goes k.code function (k.marks frame.function.number) (pending ++ (register, cell) ∷ []) its
-          (drop it.step it.steps) last) (sym both.1)
-          (subst (λ (its : List Step). Goes k.code function (k.marks frame.function.number) (pending ++ (register, cell) ∷ []) rest its last)
-          (sym steps_are)
-          (subst (λ (p : Pending). Goes k.code function (k.marks frame.function.number) (p ++ (register, cell) ∷ []) rest its last)
-          same goes));
-    }))
+    (sym (past_drop (instrs_at function frame.block) frame.place (instrs ∙ empty))) tt)
+does_alike zero k known pending m q g function frame below it others is at all its p last
+    (loads instr rest register cell is_all of_cell gives is_late no_cell within is_cell slotted goes) count same instrs steps_are =
+    let none : suc (length rest) ≡ 0 = ap length (sym is_all) ∙ count in absurd (omega arith)
+does_alike (suc n) k known pending m q g function frame below it others is at all its p last
+    (loads instr rest register cell is_all of_cell gives is_late no_cell within is_cell slotted goes) count same instrs steps_are =
+    let both = at_drop (instrs_at function frame.block) frame.place instr rest (instrs ∙ is_all) in
+    subst (λ (found : Option Instr). Moves k (λ m. Soon k m (planned_on q it others))
+    (steps.does (site_at k m g function frame below) found)
     (planned.does k.w (planned_on q it others) it others (slice_get it.steps it.step)))
-does_alike k known pending m q g function frame below it others is at all its p last
-    (made _ _ instr rest step more may is_step goes) same instrs steps_are =
-    let both = at_drop (instrs_at function frame.block) frame.place instr rest instrs in
-    let planned_both = at_drop it.steps it.step step more steps_are in
+    (sym both.0)
+    (late_step k (λ m. Soon k m (planned_on q it others)) m g function frame below register cell instr.register instr.op of_cell
+    gives (is.is.cells cell is_cell)
+    (λ at' value points held. soon_running k (pending ++ (register, cell) ∷ [])
+    (codes.with_frames g (after_load register value frame ∷ below) m) q
+    (record g { frames = after_load register value frame ∷ below }) function (after_load register value frame) below it others
+    (late_running k pending m q g function frame below it others is register cell at' value within is_late no_cell is_cell slotted
+    points held)
+    (does_alike n k known (pending ++ (register, cell) ∷ []) (codes.with_frames g (after_load register value frame ∷ below) m) q
+    (record g { frames = after_load register value frame ∷ below }) function (after_load register value frame) below it others
+    (late_running k pending m q g function frame below it others is register cell at' value within is_late no_cell is_cell slotted
+    points held)
+    (record { same = at.same; block = at.block; is = at.is; steps = at.steps }) rest its (p ++ (register, cell) ∷ []) last
+    (first_of k.code function (k.marks frame.function.number) (p ++ (register, cell) ∷ []) rest its last goes)
+    (ap pred (ap length (sym is_all) ∙ count))
+    (ap (λ loads. loads ++ (register, cell) ∷ []) same) both.1 steps_are))
+    (planned.does k.w (planned_on q it others) it others (slice_get it.steps it.step)))
+does_alike n k known pending m q g function frame below it others is at all its p last
+    (does instr rest step more is_all is_its may is_step goes) count same instrs steps_are =
+    let both = at_drop (instrs_at function frame.block) frame.place instr rest (instrs ∙ is_all) in
+    let planned_both = at_drop it.steps it.step step more (steps_are ∙ is_its) in
     let is_step' : IsStep (record { code = k.code; function = function; marks = k.marks frame.function.number; pending = before instr.op pending })
     instr.register instr.op step =
     subst (λ (p : Pending). IsStep (record { code = k.code; function = function; marks = k.marks frame.function.number; pending = before instr.op p })
@@ -533,66 +384,34 @@ does_alike k known pending m q g function frame below it others is at all its p 
       steps = at.steps;
       last = last;
       goes = subst (λ (its : List Instr). Goes k.code function (k.marks frame.function.number) [] its (drop it.step it.steps) last)
-          (sym instrs)
+          (sym (instrs ∙ is_all))
           (subst (λ (its : List Step). Goes k.code function (k.marks frame.function.number) [] (instr ∷ rest) its last)
-          (sym steps_are) (waits_at k function pending last frame it instr rest step more stays may is_step' goes'));
+          (sym (steps_are ∙ is_its)) (waits_at k function pending last frame it instr rest step more stays may is_step' goes'));
     })))))
 
 -- ---- a block that does nothing but jump: the code's frame jumps, and the plan waits
 
--- where the frame stands then
-way_placed : (k : Known) → IsKnown k → (function : Function) (frame : codes.Frame) (row : List (Option Val)) (it : plans.Frame)
-    → IsFrame k function frame row it → (n end : ℕ) → LeadsOn function n end → phis_first (instrs_at function n) ≡ 0
-    → (block : PlannedBlock) → slice_get it.function.blocks.items end ≡ Some block → it.steps ≡ block.steps.items → it.step ≡ 0
-    → it.block ≡ end → IsPlaced k function [] (steps_of.at_block function n frame) it
-way_placed k known function frame row it is n end (forms.here m) phis block there steps_are begin same =
-    let at = planned_block k.code (k.marks frame.function.number) function it.function (function_of k known function frame row it is)
-    m block there in
-    standing [] _ _ (record {
-      same = same;
-      block = block;
-      is = there;
-      steps = steps_are;
-      last = at.is.last;
-      goes = subst (λ (its : List Step). Goes k.code function (k.marks frame.function.number) []
-          (drop (phis_first (instrs_at function m)) (instrs_at function m)) its at.is.last)
-          (sym (ap (λ (n : ℕ). drop n it.steps) begin ∙ steps_are
-          ∙ ap (λ (b : PlannedBlock). b.steps.items) (some_same block at.it (sym there ∙ at.planned_there))))
-          (begins k.code (k.marks frame.function.number) function it.function m at);
-    })
-way_placed k known function frame row it is n end (on m to' next jumps next_phis leads) phis block there steps_are begin same =
-    on_way _ _ (record {
-      first = phis;
-      number = next.number;
-      next = ap (option_map (λ b. b.number)) jumps;
-      phis = next_phis;
-      leads = subst (λ (t : ℕ). LeadsOn function next.number t) (sym same) leads;
-      block = block;
-      is = subst (λ (t : ℕ). slice_get it.function.blocks.items t ≡ Some block) (sym same) there;
-      steps = steps_are;
-      begin = begin;
-    })
-
 -- the machine then
-way_machine : (k : Known) → IsKnown k → (m : codes.Machine) (q : plans.Machine) (g : codes.Goroutine)
+way_running : (k : Known) (m : codes.Machine) (q : plans.Machine) (g : codes.Goroutine)
     (function : Function) (frame : codes.Frame) (below : List codes.Frame) (it : plans.Frame) (others : List plans.Frame)
-    → IsRunning k [] m q g function frame below it others → (way : IsOnWay function frame it)
-    → IsMachine k [] (codes.with_frames g (steps_of.at_block function way.number frame ∷ below) m) (planned_on q it others)
-way_machine k known m q g function frame below it others is way =
-    machine_with k m q is.around g is.there (steps_of.at_block function way.number frame ∷ below)
-    (record (q.current) { frames = it ∷ others }) (
-      record {
-        function = function;
-        is = frame_moved k function frame (top_of q.current.slots) it is.is way.number (phis_first (instrs_at function way.number))
-            frame.state frame.defers it.block it.steps it.step it.state it.defers is.is.state is.is.defers is.is.recovers;
-        top = placed (way_placed k known function frame (top_of q.current.slots) it is.is way.number it.block way.leads way.phis
-            way.block way.is way.steps way.begin refl);
-        result = is.result;
-      },
-      is.lower,
-    )
-    is.begin is.fault
-    (is.sources ∙ same_count (is_source k.code) frame (steps_of.at_block function way.number frame) below refl)
+    → IsRunning k [] m q g function frame below it others → (n : ℕ)
+    → IsRunning k [] (codes.with_frames g (steps_of.at_block function n frame ∷ below) m) q
+    (record g { frames = steps_of.at_block function n frame ∷ below }) function (steps_of.at_block function n frame) below it others
+way_running k m q g function frame below it others is n =
+    record {
+      around = around_with k m q is.around (record g { frames = steps_of.at_block function n frame ∷ below }) q.current;
+      there = there_with m (record g { frames = steps_of.at_block function n frame ∷ below }) g is.there;
+      is = frame_moved k function frame (top_of q.current.slots) it is.is n (phis_first (instrs_at function n)) frame.state
+          frame.defers it.block it.steps it.step it.state it.defers is.is.state is.is.defers is.is.recovers;
+      runs = is.runs;
+      frames = refl;
+      result = is.result;
+      lower = is.lower;
+      begin = is.begin;
+      fault = is.fault;
+      sources = is.sources ∙ same_count (is_source k.code) frame (steps_of.at_block function n frame) below refl;
+      held = none_pending (k.marks frame.function.number) m.store (steps_of.at_block function n frame);
+    }
 
 -- the jump itself
 jump_op : (it : Op) (next : BlockId) → jump_of it ≡ Some next → it ≡ op.Jump next
@@ -610,65 +429,150 @@ only_jump (only ∷ []) number same = found (jump_of only.op) refl same
     found None is same = absurd (none-some number same)
     found (Some next) is same = (only, (next, (refl, (jump_op only.op next is, some_same next.number number same))))
 
-way_alike : (k : Known) → IsKnown k → (m : codes.Machine) (q : plans.Machine) (g : codes.Goroutine)
-    (function : Function) (frame : codes.Frame) (below : List codes.Frame) (it : plans.Frame) (others : List plans.Frame)
-    → IsRunning k [] m q g function frame below it others → IsOnWay function frame it → (next : plans.Next)
-    → Moves k (steps.does (site_at k m g function frame below) (slice_get (instrs_at function frame.block) frame.place))
-    (planned_on q it others) next
+-- the code's frame jumps, and the plan's stands where the jump leads in the end
+way_jumps : (k : Known) (Waits : codes.Machine → Type 0) (m : codes.Machine) (g : codes.Goroutine) (function : Function)
+    (frame : codes.Frame) (below : List codes.Frame) → frame.place ≡ 0 → (number : ℕ)
+    → option_map (λ b. b.number) (next_of (instrs_at function frame.block)) ≡ Some number
+    → phis_first (instrs_at function number) ≡ 0
+    → Waits (codes.with_frames g (steps_of.at_block function number frame ∷ below) m) → (next : plans.Next)
+    → Moves k Waits (steps.does (site_at k m g function frame below) (slice_get (instrs_at function frame.block) frame.place)) next
 unfolding steps.acts
-way_alike k known m q g function frame below it others is way next =
-    let only = only_jump (instrs_at function frame.block) way.number way.next in
-    let number : only.1.0.number ≡ way.number = only.1.1.1.1 in
-    waits (codes.with_frames g (steps_of.at_block function way.number frame ∷ below) m) []
-    (ap (λ (n : ℕ). steps.does (site_at k m g function frame below) (slice_get (instrs_at function frame.block) n)) way.first
+way_jumps k Waits m g function frame below first number jumps phis rest next =
+    let only = only_jump (instrs_at function frame.block) number jumps in
+    waits (codes.with_frames g (steps_of.at_block function number frame ∷ below) m)
+    (ap (λ (n : ℕ). steps.does (site_at k m g function frame below) (slice_get (instrs_at function frame.block) n)) first
     ∙ ap (steps.does (site_at k m g function frame below)) only.1.1.0
     ∙ ap (λ (o : Op). steps.acts (site_at k m g function frame below) only.0.register o) only.1.1.1.0
     ∙ ap (λ (n : ℕ). codes.where_there (λ f. codes.goes (codes.with_frames g (steps_of.at_block function n f ∷ below) m))
-    (steps.with_phis (site_at k m g function frame below) (steps.front_phis (instrs_at function n)) frame)) number
-    ∙ ap (λ (front : List Instr). codes.where_there (λ f. codes.goes (codes.with_frames g (steps_of.at_block function way.number f ∷ below) m))
-    (steps.with_phis (site_at k m g function frame below) front frame)) (no_front (instrs_at function way.number) way.phis))
-    (way_machine k known m q g function frame below it others is way)
+    (steps.with_phis (site_at k m g function frame below) (steps.front_phis (instrs_at function n)) frame)) only.1.1.1.1
+    ∙ ap (λ (front : List Instr). codes.where_there (λ f. codes.goes (codes.with_frames g (steps_of.at_block function number f ∷ below) m))
+    (steps.with_phis (site_at k m g function frame below) front frame)) (no_front (instrs_at function number) phis))
+    rest
+
+-- at the beginning of a block at which the plan stands
+begins_soon : (k : Known) → IsKnown k → (m : codes.Machine) (q : plans.Machine) (g : codes.Goroutine)
+    (function : Function) (frame : codes.Frame) (below : List codes.Frame) (it : plans.Frame) (others : List plans.Frame)
+    → IsRunning k [] m q g function frame below it others → frame.place ≡ phis_first (instrs_at function frame.block)
+    → it.block ≡ frame.block → (block : PlannedBlock) → slice_get it.function.blocks.items frame.block ≡ Some block
+    → it.steps ≡ block.steps.items → it.step ≡ 0 → Soon k m (planned_on q it others)
+begins_soon k known m q g function frame below it others is first same block there steps_are begin =
+    let at = planned_block k.code (k.marks frame.function.number) function it.function
+    (function_of k known function frame (top_of q.current.slots) it is.is) frame.block block there in
+    soon_running k [] m q g function frame below it others is
+    (does_alike (length (drop (phis_first (instrs_at function frame.block)) (instrs_at function frame.block)))
+    k known [] m q g function frame below it others is
+    (record { same = same; block = block; is = there; steps = steps_are })
+    (drop (phis_first (instrs_at function frame.block)) (instrs_at function frame.block)) at.it.steps.items [] at.is.last
+    (first_of k.code function (k.marks frame.function.number) []
+    (drop (phis_first (instrs_at function frame.block)) (instrs_at function frame.block)) at.it.steps.items at.is.last
+    (begins k.code (k.marks frame.function.number) function it.function frame.block at)) refl refl
+    (ap (λ (n : ℕ). drop n (instrs_at function frame.block)) first)
+    (ap (λ (n : ℕ). drop n it.steps) begin ∙ steps_are
+    ∙ ap (λ (b : PlannedBlock). b.steps.items) (some_same block at.it (sym there ∙ at.planned_there))))
+
+-- at a block from which jumps lead on to the one at which the plan stands
+leads_soon : (k : Known) → IsKnown k → (function : Function) (n end : ℕ) → LeadsOn function n end
+    → (m : codes.Machine) (q : plans.Machine) (g : codes.Goroutine) (frame : codes.Frame) (below : List codes.Frame)
+    (it : plans.Frame) (others : List plans.Frame) → IsRunning k [] m q g function frame below it others → frame.block ≡ n
+    → frame.place ≡ phis_first (instrs_at function frame.block) → it.block ≡ end → (block : PlannedBlock)
+    → slice_get it.function.blocks.items end ≡ Some block → it.steps ≡ block.steps.items → it.step ≡ 0
+    → phis_first (instrs_at function n) ≡ 0 → Soon k m (planned_on q it others)
+leads_soon k known function n end (forms.here b) m q g frame below it others is at_n first at_end block there steps_are begin phis =
+    begins_soon k known m q g function frame below it others is first (at_end ∙ sym at_n) block
+    (ap (slice_get it.function.blocks.items) at_n ∙ there) steps_are begin
+leads_soon k known function n end (on b to' next jumps next_phis leads) m q g frame below it others is at_n first at_end block
+    there steps_are begin phis =
+    soon_running k [] m q g function frame below it others is
+    (way_jumps k (λ m. Soon k m (planned_on q it others)) m g function frame below
+    (first ∙ ap (λ (n : ℕ). phis_first (instrs_at function n)) at_n ∙ phis) next.number
+    (ap (λ (n : ℕ). option_map (λ b. b.number) (next_of (instrs_at function n))) at_n ∙ ap (option_map (λ b. b.number)) jumps)
+    next_phis
+    (leads_soon k known function next.number to' leads
+    (codes.with_frames g (steps_of.at_block function next.number frame ∷ below) m) q
+    (record g { frames = steps_of.at_block function next.number frame ∷ below }) (steps_of.at_block function next.number frame)
+    below it others (way_running k m q g function frame below it others is next.number) refl refl at_end block there steps_are
+    begin next_phis)
+    (planned.does k.w (planned_on q it others) it others (slice_get it.steps it.step)))
 
 -- ---- the frame on top
 
+-- where it returns or panics
+moves_other : (k : Known) (m : codes.Machine) (g : codes.Goroutine) (frame : codes.Frame) (below : List codes.Frame)
+    (state : FrameState) → (is_running state ≡ true → ⊥)
+    → steps.moves k.w.answers k.code m g frame below state ≡ steps.unwinds k.w.answers k.code m g frame below frame.defers
+unfolding is_running
+moves_other k m g frame below running other = absurd (other refl)
+moves_other k m g frame below returning other = refl
+moves_other k m g frame below (panicking thrown) other = refl
+
+planned_other : (k : Known) (q : plans.Machine) (it : plans.Frame) (others : List plans.Frame)
+    (state : FrameState) → (is_running state ≡ true → ⊥)
+    → planned.moves k.w q it others (shown_state state) ≡ planned.unwinds k.w q it others it.defers
+unfolding is_running
+planned_other k q it others running other = absurd (other refl)
+planned_other k q it others returning other = refl
+planned_other k q it others (panicking thrown) other = refl
+
+unwinds_soon : (k : Known) → IsKnown k → (pending : Pending) (m : codes.Machine) (q : plans.Machine) (g : codes.Goroutine)
+    (frame : codes.Frame) (below : List codes.Frame) (it : plans.Frame) (others : List plans.Frame) → IsAround k m q
+    → slice_get m.goroutines m.sched.current.number ≡ Some (record g { frames = frame ∷ below })
+    → (top : IsTopFrame k pending frame (top_of q.current.slots) it below)
+    → AreBelow k below (below_top q.current.slots) others → IsLaterWhere g.begin q.current.begin → q.current.fault ≡ g.fault
+    → q.current.sources ≡ sources_in k (frame ∷ below) → RunsWhere pending frame → (frame.state ≡ running → ⊥)
+    → (state : FrameState) → frame.state ≡ state → (is_running state ≡ true → ⊥) → Soon k m (planned_on q it others)
+unfolding steps.step planned.step
+unwinds_soon k known pending m q g frame below it others around there top lower begin fault sources runs other state same
+    not_running =
+    now m (planned_on q it others)
+    (subst₂ (Follows k)
+    (sym (ap (codes.where_there (λ g. steps.steps_on k.w.answers k.code m g g.frames)) there
+    ∙ ap (steps.moves k.w.answers k.code m (record g { frames = frame ∷ below }) frame below) same
+    ∙ moves_other k m (record g { frames = frame ∷ below }) frame below state not_running))
+    (sym (ap (planned.moves k.w (planned_on q it others) it others) (top.is.state ∙ ap shown_state same)
+    ∙ planned_other k (planned_on q it others) it others state not_running))
+    (other_state k known pending m q (record g { frames = frame ∷ below }) frame below it others around there top lower begin
+    fault sources runs other))
+
 -- where it runs
-running_alike : (k : Known) → IsKnown k → (pending : Pending) (m : codes.Machine) (q : plans.Machine) (g : codes.Goroutine)
+running_soon : (k : Known) → IsKnown k → (pending : Pending) (m : codes.Machine) (q : plans.Machine) (g : codes.Goroutine)
     (function : Function) (frame : codes.Frame) (below : List codes.Frame) (it : plans.Frame) (others : List plans.Frame)
     → IsRunning k pending m q g function frame below it others → IsTop k function pending frame it
-    → Moves k (steps.does (site_at k m g function frame below) (slice_get (instrs_at function frame.block) frame.place))
-    (planned_on q it others) (planned.does k.w (planned_on q it others) it others (slice_get it.steps it.step))
-running_alike k known pending m q g function frame below it others is (lost l) =
+    → Soon k m (planned_on q it others)
+running_soon k known pending m q g function frame below it others is (lost l) =
     let clash : false ≡ true = sym (ap is_panicking is.runs) ∙ l.panics in absurd cc
-running_alike k known pending m q g function frame below it others is (placed p) = by_place p is
+running_soon k known pending m q g function frame below it others is (placed p) = by_place p is
   where
     by_place : {pending : Pending} → IsPlaced k function pending frame it
-        → IsRunning k pending m q g function frame below it others
-        → Moves k (steps.does (site_at k m g function frame below) (slice_get (instrs_at function frame.block) frame.place))
-        (planned_on q it others) (planned.does k.w (planned_on q it others) it others (slice_get it.steps it.step))
+        → IsRunning k pending m q g function frame below it others → Soon k m (planned_on q it others)
     by_place (standing pending f p at) is =
-        does_alike k known pending m q g function frame below it others is at (drop frame.place (instrs_at function frame.block))
-        (drop it.step it.steps) pending at.last at.goes refl refl refl
+        soon_running k pending m q g function frame below it others is
+        (does_alike (length (drop frame.place (instrs_at function frame.block))) k known pending m q g function frame below it
+        others is (record { same = at.same; block = at.block; is = at.is; steps = at.steps })
+        (drop frame.place (instrs_at function frame.block)) (drop it.step it.steps) pending at.last
+        (first_of k.code function (k.marks frame.function.number) pending (drop frame.place (instrs_at function frame.block))
+        (drop it.step it.steps) at.last at.goes) refl refl refl refl)
     by_place (on_way f p way) is =
-        way_alike k known m q g function frame below it others is way
-        (planned.does k.w (planned_on q it others) it others (slice_get it.steps it.step))
+        soon_running k [] m q g function frame below it others is
+        (way_jumps k (λ m. Soon k m (planned_on q it others)) m g function frame below way.first way.number way.next way.phis
+        (leads_soon k known function way.number it.block way.leads
+        (codes.with_frames g (steps_of.at_block function way.number frame ∷ below) m) q
+        (record g { frames = steps_of.at_block function way.number frame ∷ below })
+        (steps_of.at_block function way.number frame) below it others
+        (way_running k m q g function frame below it others is way.number) refl refl refl way.block way.is way.steps way.begin
+        way.phis)
+        (planned.does k.w (planned_on q it others) it others (slice_get it.steps it.step)))
 
 -- whatever it is about
-top_alike : (k : Known) → IsKnown k → (pending : Pending) (m : codes.Machine) (q : plans.Machine) (g : codes.Goroutine)
+top_soon : (k : Known) → IsKnown k → (pending : Pending) (m : codes.Machine) (q : plans.Machine) (g : codes.Goroutine)
     (frame : codes.Frame) (below : List codes.Frame) (it : plans.Frame) (others : List plans.Frame) → IsAround k m q
     → slice_get m.goroutines m.sched.current.number ≡ Some (record g { frames = frame ∷ below })
     → (top : IsTopFrame k pending frame (top_of q.current.slots) it below)
     → AreBelow k below (below_top q.current.slots) others → IsLaterWhere g.begin q.current.begin → q.current.fault ≡ g.fault
     → q.current.sources ≡ sources_in k (frame ∷ below) → ArePendingIn k m.store pending (frame ∷ below)
-    → (state : FrameState) → frame.state ≡ state
-    → Moves k (steps.moves k.w.answers k.code m (record g { frames = frame ∷ below }) frame below state) (planned_on q it others)
-    (planned.moves k.w (planned_on q it others) it others (shown_state state))
+    → (state : FrameState) → frame.state ≡ state → Soon k m (planned_on q it others)
 unfolding is_running
-top_alike k known pending m q g frame below it others around there top lower begin fault sources held running same =
-    subst (λ (found : Option Function).
-    Moves k (steps.runs k.w.answers k.code m (record g { frames = frame ∷ below }) frame below found) (planned_on q it others)
-    (planned.does k.w (planned_on q it others) it others (slice_get it.steps it.step)))
-    (sym top.is.there)
-    (running_alike k known pending m q (record g { frames = frame ∷ below }) top.function frame below it others (record {
+top_soon k known pending m q g frame below it others around there top lower begin fault sources held running same =
+    running_soon k known pending m q (record g { frames = frame ∷ below }) top.function frame below it others (record {
       around = around;
       there = there;
       is = top.is;
@@ -680,41 +584,40 @@ top_alike k known pending m q g frame below it others around there top lower beg
       fault = fault;
       sources = sources;
       held = held.0;
-    }) top.top)
-top_alike k known pending m q g frame below it others around there top lower begin fault sources held returning same =
-    follows (other_state k known pending m q (record g { frames = frame ∷ below }) frame below it others around there top lower
-    begin fault sources held.1 (λ runs. let clash : false ≡ true = sym (ap is_running same) ∙ ap is_running runs in absurd cc))
-top_alike k known pending m q g frame below it others around there top lower begin fault sources held (panicking thrown) same =
-    follows (other_state k known pending m q (record g { frames = frame ∷ below }) frame below it others around there top lower
-    begin fault sources held.1 (λ runs. let clash : false ≡ true = sym (ap is_running same) ∙ ap is_running runs in absurd cc))
+    }) top.top
+top_soon k known pending m q g frame below it others around there top lower begin fault sources held returning same =
+    unwinds_soon k known pending m q g frame below it others around there top lower begin fault sources held.1
+    (λ runs. let clash : false ≡ true = sym (ap is_running same) ∙ ap is_running runs in absurd cc) returning same
+    (λ other. let clash : false ≡ true = other in absurd cc)
+top_soon k known pending m q g frame below it others around there top lower begin fault sources held (panicking thrown) same =
+    unwinds_soon k known pending m q g frame below it others around there top lower begin fault sources held.1
+    (λ runs. let clash : false ≡ true = sym (ap is_running same) ∙ ap is_running runs in absurd cc) (panicking thrown) same
+    (λ other. let clash : false ≡ true = other in absurd cc)
 
 -- ---- a step
 
-steps_by : (k : Known) → IsKnown k → (pending : Pending) (m : codes.Machine) (q : plans.Machine) (g : codes.Goroutine)
+steps_soon : (k : Known) → IsKnown k → (pending : Pending) (m : codes.Machine) (q : plans.Machine) (g : codes.Goroutine)
     (frames : List codes.Frame) (others : List plans.Frame) → IsAround k m q
     → slice_get m.goroutines m.sched.current.number ≡ Some (record g { frames = frames })
     → AreFrames k pending frames q.current.slots others → IsLaterWhere g.begin q.current.begin → q.current.fault ≡ g.fault
     → q.current.sources ≡ sources_in k frames → ArePendingIn k m.store pending frames
-    → Moves k (steps.steps_on k.w.answers k.code m (record g { frames = frames }) frames)
-    (record q { current = record (q.current) { frames = others } })
-    (planned.steps_on k.w (record q { current = record (q.current) { frames = others } }) others)
-steps_by k known pending m q g [] [] around there alike begin fault sources held =
-    follows (begins_alike k known m q g
-    (record { around = around; there = there; begin = begin; fault = fault; sources = sources }))
-steps_by k known pending m q g (frame ∷ below) (it ∷ others) around there alike begin fault sources held =
-    subst (λ (state : FrameState). Moves k (steps.moves k.w.answers k.code m (record g { frames = frame ∷ below }) frame below frame.state)
-    (planned_on q it others) (planned.moves k.w (planned_on q it others) it others state))
-    (sym alike.0.is.state)
-    (top_alike k known pending m q g frame below it others around there alike.0 alike.1 begin fault sources held frame.state refl)
-steps_by k known pending m q g [] (it ∷ others) around there alike begin fault sources held = absurd alike
-steps_by k known pending m q g (frame ∷ below) [] around there alike begin fault sources held = absurd alike
-
-pub step_alike : (k : Known) → IsKnown k → (pending : Pending) (m : codes.Machine) (q : plans.Machine) → IsMachine k pending m q
-    → Moves k (steps.step k.w.answers k.code m) q (planned.step k.w q)
+    → Soon k m (record q { current = record (q.current) { frames = others } })
 unfolding steps.step planned.step
-step_alike k known pending m q is =
-    subst (λ (found : Option codes.Goroutine).
-    Moves k (codes.where_there (λ g. steps.steps_on k.w.answers k.code m g g.frames) found) q (planned.steps_on k.w q q.current.frames))
-    (sym is.there)
-    (steps_by k known pending m q is.g is.g.frames q.current.frames is.around is.there is.is.frames is.is.begin is.is.fault
-    is.is.sources is.held)
+steps_soon k known pending m q g [] [] around there alike begin fault sources held =
+    now m (record q { current = record (q.current) { frames = [] } })
+    (subst (λ (found : Option codes.Goroutine). Follows k
+    (codes.where_there (λ g. steps.steps_on k.w.answers k.code m g g.frames) found)
+    (planned.begins k.w (record q { current = record (q.current) { frames = [] } }) q.current.begin))
+    (sym there)
+    (begins_alike k known m q g
+    (record { around = around; there = there; begin = begin; fault = fault; sources = sources })))
+steps_soon k known pending m q g (frame ∷ below) (it ∷ others) around there alike begin fault sources held =
+    top_soon k known pending m q g frame below it others around there alike.0 alike.1 begin fault sources held frame.state refl
+steps_soon k known pending m q g [] (it ∷ others) around there alike begin fault sources held = absurd alike
+steps_soon k known pending m q g (frame ∷ below) [] around there alike begin fault sources held = absurd alike
+
+pub soon_alike : (k : Known) → IsKnown k → (pending : Pending) (m : codes.Machine) (q : plans.Machine) → IsMachine k pending m q
+    → Soon k m q
+soon_alike k known pending m q is =
+    steps_soon k known pending m q is.g is.g.frames q.current.frames is.around is.there is.is.frames is.is.begin is.is.fault
+    is.is.sources is.held

@@ -2,7 +2,7 @@
 
 ghost use Rattle.plan_laws.specs.Runs.{OneRun};
 
-/// The run of a plan writes what a run of its code writes, and ends as that does.
+/// The run of a plan is one of its code, but where the code is stuck.
 pub fn one_run()
     ensures { OneRun }
 {}

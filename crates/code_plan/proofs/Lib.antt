@@ -1,0 +1,7 @@
+pub mod Fronts
+pub mod Going
+pub mod Leading
+pub mod Methods
+pub mod Starting
+pub mod Stepped
+pub mod Zipped
