@@ -30,10 +30,10 @@ pub block_by : (body : Body) (block : Block) (instrs : List Instr) (front : ℕ)
 block_by body block instrs front it e f phis steps =
     let s = site_with body [] in
     let first : take front instrs ≡ front_phis block.instrs =
-        ap (λ (n : ℕ). take n instrs) f ∙ take-phis_first instrs ∙ ap front_phis e in
+    ap (λ (n : ℕ). take n instrs) f ∙ take-phis_first instrs ∙ ap front_phis e in
     let short : length (drop front instrs) ≤ length instrs - front = omega (arith, length-drop front instrs) in
     let behind : take (length instrs - front) (drop front instrs) ≡ drop (phis_first block.instrs) block.instrs =
-        take_all (length instrs - front) (drop front instrs) short ∙ ap (λ (n : ℕ). drop n instrs) f ∙ ap (λ (l : List Instr). drop (phis_first l) l) e in
+    take_all (length instrs - front) (drop front instrs) short ∙ ap (λ (n : ℕ). drop n instrs) f ∙ ap (λ (l : List Instr). drop (phis_first l) l) e in
     record {
       phis = subst (λ (l : List Instr). AllZip (IsPhi s) l it.phis.items) first phis;
       last = steps.0;

@@ -70,9 +70,9 @@ pub made_more : (body : Body) (instr : Instr) (step : Step) (waits writes : Bool
 made_more body instr step waits writes loads between read more steps further instrs w e r it v k f h =
     let s = site_with body [] in
     let first : before instr.op (pending_of loads) ≡ pending_of between =
-        w (pending_of loads) ∙ sym (cleared waits loads between e) in
+    w (pending_of loads) ∙ sym (cleared waits loads between e) in
     let second : behind step (pending_of between) ≡ pending_of more =
-        ap (λ (b : Bool). if b then [] else pending_of between) (sym v) ∙ sym (cleared writes between more k) in
+    ap (λ (b : Bool). if b then [] else pending_of between) (sym v) ∙ sym (cleared writes between more k) in
     let last : behind step (before instr.op (pending_of loads)) ≡ pending_of more = ap (behind step) first ∙ second in
     subst (Goes s.code s.function s.marks [] (instrs ++ instr ∷ []) further) last
     (subst (λ (l : List Step). Goes s.code s.function s.marks [] (instrs ++ instr ∷ []) l

@@ -72,7 +72,7 @@ pub kept : (line : MethodLine) (entries : List (MethodOf × ℕ)) (found : Optio
     → entries ≡ with_method line entries
 kept line entries found g h =
     let there : is_some (function_in entries (method_in line)) ≡ true =
-        was_some found (function_in entries (method_in line)) h (g ∙ function_is (method_in line) entries) in
+    was_some found (function_in entries (method_in line)) h (g ∙ function_is (method_in line) entries) in
     sym (ap (λ (b : Bool). if b then entries else entries ++ (method_in line, line.function.number) ∷ []) there)
 
 -- ---- lines, one more at a time

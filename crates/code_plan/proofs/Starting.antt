@@ -75,10 +75,10 @@ pub starts_more : (test : Function → Bool) (xs : List Function) (i : ℕ) (x :
 starts_more test xs i x first now next b l e t k h =
     let rest = those_from (i + 1) test (drop (i + 1) xs) in
     let here : those_from i test (drop i xs) ≡ (if b then record { number = i } ∷ rest else rest) =
-        at_drop_more (those_from i test) xs i x l
-        ∙ ap (λ (y : Function). those_from i test (y ∷ drop (i + 1) xs)) (sym e)
-        ∙ ap (λ (n : ℕ). if test x then record { number = i } ∷ those_from n test (drop (i + 1) xs) else those_from n test (drop (i + 1) xs)) (sym (add-one i))
-        ∙ ap (λ (c : Bool). if c then record { number = i } ∷ rest else rest) (sym t) in
+    at_drop_more (those_from i test) xs i x l
+    ∙ ap (λ (y : Function). those_from i test (y ∷ drop (i + 1) xs)) (sym e)
+    ∙ ap (λ (n : ℕ). if test x then record { number = i } ∷ those_from n test (drop (i + 1) xs) else those_from n test (drop (i + 1) xs)) (sym (add-one i))
+    ∙ ap (λ (c : Bool). if c then record { number = i } ∷ rest else rest) (sym t) in
     ap (λ (l : List ℕ). l ++ numbers rest) k ∙ one_more i b now rest ∙ ap (λ (l : List FuncId). now ++ numbers l) (sym here) ∙ h
 
 pub starts_whole : (test : Function → Bool) (xs : List Function) (i : ℕ) (now all : List ℕ) → length xs ≤ i

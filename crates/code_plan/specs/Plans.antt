@@ -45,7 +45,7 @@ pub data Goes (code : Code) (function : Function) (marks : Marks) : Pending → 
     late : (pending last : Pending) (instr : Instr) (instrs : List Instr) (steps : List Step) (register cell : ℕ)
         → instr.op ≡ op.Load (operand.Register cell) → instr.register ≡ Some register
         → marks.late register ≡ true → marks.cell register ≡ false → register < length function.registers
-      → marks.cell cell ≡ true → marks.late cell ≡ false
+        → marks.cell cell ≡ true → marks.late cell ≡ false
         → Goes code function marks (pending ++ (register, cell) ∷ []) instrs steps last
         → Goes code function marks pending (instr ∷ instrs) steps last
     made : (pending last : Pending) (instr : Instr) (instrs : List Instr) (step : Step) (steps : List Step)

@@ -81,11 +81,7 @@ impl Place<'_> {
         })
     }
 
-    pub fn make_interface(
-        &self,
-        register: Option<u64>,
-        operand: &Operand,
-    ) -> Result<Step, NoMemory>
+    pub fn make_interface(&self, register: Option<u64>, operand: &Operand) -> Result<Step, NoMemory>
         ensures { (of : TypeIdOf) → IfOk result (λ step. IsStep (site_of self.now) register (instr.MakeInterface of operand.now) step) }
     {
         let Some(of) = self.type_of(operand)? else {
