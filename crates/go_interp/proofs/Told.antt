@@ -16,9 +16,13 @@ tells : (code : Code) (plan : Plan) (choices : List ℕ) (bound : ℕ) → IsPla
     → TellsRun code choices bound ending before after
 tells code plan choices bound planned ending before after has answers told =
     let w : World = record { plan = plan; naming = naming_of code; answers = answers } in
-    let made = has w (record { plan_is = refl; naming = refl; answers = told }) in
-    (made.0, (one_run_lem code w choices bound made.0 ending (record { plan = planned; naming = refl; answers = told }) made.1.0,
-    made.1.1))
+    let made = has w (record { plan_is = refl; naming = refl; answers = told }) in (
+      made.0,
+      (
+        one_run_lem code w choices bound made.0 ending (record { plan = planned; naming = refl; answers = told }) made.1.0,
+        made.1.1,
+      ),
+    )
 
 pub told : (code : Code) (plan : Plan) (choices : List ℕ) (bound : ℕ) → IsPlanOf code plan → (result : Result Ending RunError)
     → (before after : Option (List ℕ)) → IfOk result (λ ending. HasRun code plan choices bound ending before after)
