@@ -1,5 +1,5 @@
 -- The run of a code is that of its plan.
-use Rattle.std.proofs.Common.{◌≡◌, ℕ, List, Option, Result, Ok, Err, refl}
+use Rattle.std.proofs.Common.{ℕ, List, Option, Result, Ok, Err, refl}
 use Rattle.std.specs.Prelude.{IfOk}
 use Rattle.code_plan.specs.Plans.{IsPlanOf}
 use Rattle.code_plan.specs.declared.steps.Plan.{Plan}
