@@ -42,7 +42,8 @@ use Rattle.ssa_ir.specs.declared.ops.SelectCase.{SelectCase}
 use Rattle.ssa_ir.specs.declared.ops.SelectCase.TheVariants as case
 use Rattle.ssa_mean.specs.Conversions.{are_bytes}
 use Rattle.ssa_mean.specs.Making.{binds_interface, leaves_of}
-use Rattle.ssa_mean.specs.Operands.{function_at, type_of, under, under_in, term_of, pointed_length, element_in, element_type}
+use Rattle.ssa_mean.specs.Operands.{function_at, type_of, under, under_in, term_of, pointed_length, element_in}
+use Rattle.ssa_mean.specs.Operands.{element_type}
 use Rattle.ssa_mean.specs.Ranges.{ranged, key_in, value_in}
 use Rattle.ssa_mean.specs.Unwinding.{is_wrapper_kind, phis_first}
 

@@ -1,6 +1,6 @@
--- What the registers of a function are to its plan. A use of a variable is a load of its cell into a register. Where that
--- register is used further on in the block, and nothing in between writes to a cell, the cell may be read where the
--- register is used; the load itself then makes no step.
+-- What the registers of a function are to its plan. A use of a variable is a load of its cell into a register. Where
+-- that register is used further on in the block, and nothing in between writes to a cell, the cell may be read where
+-- the register is used; the load itself then makes no step.
 use Rattle.std.specs.Prelude.{ℕ, ◌+◌, ◌==◌, Bool, true, false, not, ◌&&◌, List, [], ◌∷◌, Option, Some, None}
 use Rattle.std.specs.Prelude.{if◌then◌else◌, length}
 use Rattle.code_plan.specs.declared.steps.ConvertForm.TheVariants as convert

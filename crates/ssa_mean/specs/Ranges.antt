@@ -1,5 +1,6 @@
 -- Ranges over strings and maps. Go specification, "For statements with range clause".
-use Rattle.std.specs.Prelude.{ℕ, ◌+◌, ◌-◌, ◌++◌, suc, take, Bool, true, false, List, [], ◌∷◌, reverse, drop, pos, Option, Some, None, nat_lt}
+use Rattle.std.specs.Prelude.{ℕ, ◌+◌, ◌-◌, ◌++◌, suc, take, Bool, true, false, List, [], ◌∷◌, reverse, drop, pos}
+use Rattle.std.specs.Prelude.{Option, Some, None, nat_lt}
 use Rattle.std.specs.Prelude.{length, slice_index, is_some, if◌then◌else◌, option_map}
 use Rattle.std.specs.List.{filter}
 use Rattle.std.specs.Option.{option_and_then}
