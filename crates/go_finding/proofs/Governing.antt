@@ -2,6 +2,7 @@
 use Rattle.std.proofs.Common.{◌≡◌, ◌≢◌, inl, inr, get_or, take, ℕ, ◌<◌, Bool, true, false, nat_lt, if◌then◌else◌, Option, Some, None, option_map, IfSome, Result, Ok, Err, List, length, bytes_eq, codes, refl, ap, sym, subst, ◌∙◌, arith}
 use Rattle.std.proofs.lemmas.Bool.Decides.{nat_tests}
 use Rattle.go_base.specs.Devices.{Tree, file_at}
+use Rattle.go_base.specs.declared.line.TheConstants.{MAX_FILE_BYTES}
 use Rattle.go_base.specs.declared.rule.Rule.TheVariants as rules
 use Rattle.go_sources.specs.declared.program.Sources.{Sources}
 use Rattle.go_finding.specs.declared.error.LoadError.{LoadError}
@@ -33,11 +34,11 @@ failed broken = Err broken
 
 -- ---- a directory's own go.mod
 
-above_limit : (n : ℕ) → 4194304 < n → nat_lt 4194304 n ≡ true
+above_limit : (n : ℕ) → MAX_FILE_BYTES < n → nat_lt MAX_FILE_BYTES n ≡ true
 above_limit n h = grind (arith, nat_tests)
 
-large_module : (dir bytes : List ℕ) → 4194304 < length bytes → module_of dir bytes ≡ Err (record { place = first_place (go_mod_in dir); rule = rules.FileTooLarge })
-large_module dir bytes h = behind_true (nat_lt 4194304 (length bytes)) _ _ (above_limit (length bytes) h)
+large_module : (dir bytes : List ℕ) → MAX_FILE_BYTES < length bytes → module_of dir bytes ≡ Err (record { place = first_place (go_mod_in dir); rule = rules.FileTooLarge })
+large_module dir bytes h = behind_true (nat_lt MAX_FILE_BYTES (length bytes)) _ _ (above_limit (length bytes) h)
 
 -- where it cannot be read
 pub own_unread : (tree : Option Tree) (dir path : List ℕ) (error : LoadError) → path ≡ go_mod_in dir → IfSome tree (λ files. ReadsWhole files path (Err error)) → IfSome tree (λ files. AnswersModule (Err error) (λ said. own_module files dir ≡ said))

@@ -3,6 +3,7 @@ use Rattle.std.specs.Prelude.{◌≡◌, ◌⊎◌, ℕ, ◌<◌, min, nat_lt, L
 use Rattle.std.specs.Prelude.{Ok, Err, string_bytes, codes, if◌then◌else◌}
 use Rattle.std.specs.declared.alloc.Global.{Global}
 use Rattle.go_base.specs.Devices.{Tree, file_at}
+use Rattle.go_base.specs.declared.line.TheConstants.{MAX_FILE_BYTES}
 use Rattle.go_base.specs.declared.place.Place.{Place}
 use Rattle.go_base.specs.declared.rule.Rule.{Rule}
 use Rattle.go_base.specs.declared.rule.Rule.TheVariants as rules
@@ -40,7 +41,7 @@ module_said dir bytes (Err fault) =
 -- the module of a directory whose go.mod has these bytes
 abbrev pub module_of : List ℕ → List ℕ → Result Module Broken
 module_of dir bytes =
-    if nat_lt 4194304 (length bytes)
+    if nat_lt MAX_FILE_BYTES (length bytes)
     then Err (record { place = first_place (go_mod_in dir); rule = rules.FileTooLarge })
     else module_said dir bytes (go_mod bytes)
 
@@ -71,7 +72,7 @@ abbrev pub ReadsWhole : Tree → List ℕ → Result (Option (Vec ℕ Global)) L
 ReadsWhole files path (Ok None) = file_at files path ≡ None
 ReadsWhole files path (Ok (Some bytes)) = file_at files path ≡ Some bytes.items
 ReadsWhole files path (Err (Refused place rule)) =
-    (bytes : List ℕ) × (file_at files path ≡ Some bytes) × (4194304 < length bytes) × (place ≡ first_place path)
+    (bytes : List ℕ) × (file_at files path ≡ Some bytes) × (MAX_FILE_BYTES < length bytes) × (place ≡ first_place path)
     × (rule ≡ rules.FileTooLarge)
 ReadsWhole files path (Err ReadFault) = Unit {0}
 ReadsWhole files path (Err OutOfMemory) = Unit {0}

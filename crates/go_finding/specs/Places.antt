@@ -1,6 +1,7 @@
 -- Places in files, and what is said of them.
 use Rattle.std.specs.Prelude.{◌≡◌, ℕ, ◌≤◌, List, [], length, Option, Some, None, Vec, min}
 use Rattle.std.specs.declared.alloc.Global.{Global}
+use Rattle.go_base.specs.declared.line.TheConstants.{MAX_FILE_BYTES}
 use Rattle.go_base.specs.declared.place.Place.{Place}
 use Rattle.go_base.specs.declared.rule.Rule.{Rule}
 use Rattle.go_ast.specs.declared.token.Token.{Token}
@@ -26,4 +27,4 @@ Refuses place rule OutOfMemory = Unit {0}
 -- the bytes of a file that is not too large, if there is one
 abbrev pub IsSmall : Option (Vec ℕ Global) → Type 0
 IsSmall None = Unit {0}
-IsSmall (Some bytes) = length bytes.items ≤ 4194304
+IsSmall (Some bytes) = length bytes.items ≤ MAX_FILE_BYTES

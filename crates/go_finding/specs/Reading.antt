@@ -1,5 +1,6 @@
 -- What is read of one file.
 use Rattle.std.specs.Prelude.{◌≡◌, ℕ, List, Result, Ok, Err, slice_get}
+use Rattle.go_base.specs.declared.line.TheConstants.{MAX_FILE_BYTES}
 use Rattle.go_base.specs.declared.place.Place.{Place}
 use Rattle.go_base.specs.declared.rule.Rule.{Rule}
 use Rattle.go_base.specs.declared.rule.Rule.TheVariants as rules
@@ -18,7 +19,7 @@ use Rattle.go_finding.specs.Places.{start_in}
 
 -- the most bytes that a file may have
 abbrev pub max_file_bytes : ℕ
-max_file_bytes = 4194304
+max_file_bytes = MAX_FILE_BYTES
 
 -- What the syntax of a file's tokens is: the first token that reaches too far, else its one well-formed tree, or the
 -- first part that cannot be read.

@@ -1,6 +1,7 @@
 -- Why nothing is loaded.
 use Rattle.std.specs.Prelude.{◌≡◌, ℕ, ◌<◌, List, length, slice_get, Option, Some, None, IfSome}
 use Rattle.go_base.specs.Devices.{Tree, file_at}
+use Rattle.go_base.specs.declared.line.TheConstants.{MAX_FILE_BYTES}
 use Rattle.go_base.specs.declared.place.Place.{Place}
 use Rattle.go_base.specs.declared.rule.Rule.{Rule}
 use Rattle.go_base.specs.declared.rule.Rule.TheVariants as rules
@@ -45,7 +46,7 @@ pub record IsBadSyntax (files : Option Tree) (place : Place) : Type 0 where
 -- the file at the path has more bytes than a file may have, where files are told
 abbrev pub IsTooLarge : Option Tree → List ℕ → Type 0
 IsTooLarge files path =
-    IfSome files (λ tree. (bytes : List ℕ) × (file_at tree path ≡ Some bytes) × (4194304 < length bytes))
+    IfSome files (λ tree. (bytes : List ℕ) × (file_at tree path ≡ Some bytes) × (MAX_FILE_BYTES < length bytes))
 
 -- what a rule asks of
 pub data Subject : Type 0 where

@@ -2,6 +2,7 @@
 
 ghost use Rattle.std.specs.Prelude.{◌≡◌, ◌≢◌, ◌≤◌, [], length, min, Option, IfOk, IfErr, IfSome, IsErrOf};
 ghost use Rattle.go_base.specs.Devices.{HasFaulted, Tree};
+ghost use Rattle.go_base.specs.declared.line.TheConstants.{MAX_FILE_BYTES};
 ghost use Rattle.go_base.specs.declared.place.Place.{Place};
 ghost use Rattle.go_sources.specs.Places.{place_in};
 ghost use Rattle.go_sources.specs.Sources.{HasBytes};
@@ -39,7 +40,7 @@ pub fn refuse_first(alloc: Global, path: &str, rule: Rule) -> LoadError
 /// That a file breaks a rule at a byte.
 pub fn refuse_at(alloc: Global, path: &str, bytes: &[u8], offset: usize, rule: Rule) -> LoadError
     requires within { offset ≤ length bytes.now }
-    requires is_file { length bytes.now ≤ 4194304 }
+    requires is_file { length bytes.now ≤ MAX_FILE_BYTES }
     ensures { Refuses (place_in path.now bytes.now offset) rule result }
 {
     match place_at(alloc, path, bytes, offset) {

@@ -4,6 +4,7 @@ use Rattle.std.specs.List.{cons_option}
 use Rattle.std.specs.declared.alloc.Global.{Global}
 use Rattle.std.proofs.lemmas.List.Elements.{All-nil, All-push, All-same}
 use Rattle.go_base.specs.Devices.{Tree, file_at}
+use Rattle.go_base.specs.declared.line.TheConstants.{MAX_FILE_BYTES}
 use Rattle.go_base.specs.declared.rule.Rule.TheVariants as rules
 use Rattle.go_syntax.specs.declared.decls.FileTree.{FileTree}
 use Rattle.go_sources.specs.declared.built_in.BuiltIn.{BuiltIn}
@@ -24,17 +25,17 @@ use Rattle.go_finding.specs.Reading.{BreaksText, ReadsTree}
 
 -- ---- one text
 
-pub too_much : (path bytes : List ℕ) (room : ℕ) (error : LoadError) → length bytes ≤ 4194304 → room < length bytes → Refuses (place_in path [] 0) rules.ProgramTooLarge error → ReadsText path bytes room (Err error)
+pub too_much : (path bytes : List ℕ) (room : ℕ) (error : LoadError) → length bytes ≤ MAX_FILE_BYTES → room < length bytes → Refuses (place_in path [] 0) rules.ProgramTooLarge error → ReadsText path bytes room (Err error)
 too_much path bytes room (Refused at by) small over same = rw (same.0, same.1) (TooMuch small over)
 too_much path bytes room ReadFault small over same = tt
 too_much path bytes room OutOfMemory small over same = tt
 
-pub bad_text : (path bytes those : List ℕ) (room : ℕ) (error : LoadError) → length bytes ≤ 4194304 → length bytes ≤ room → those ≡ bytes → ReadsTree path those (Err error) → ReadsText path bytes room (Err error)
+pub bad_text : (path bytes those : List ℕ) (room : ℕ) (error : LoadError) → length bytes ≤ MAX_FILE_BYTES → length bytes ≤ room → those ≡ bytes → ReadsTree path those (Err error) → ReadsText path bytes room (Err error)
 bad_text path bytes those room (Refused place rule) small within b breaks = Bad small within place rule (subst (λ (text : List ℕ). BreaksText path text place rule) b breaks)
 bad_text path bytes those room ReadFault small within b breaks = tt
 bad_text path bytes those room OutOfMemory small within b breaks = tt
 
-pub good_text : (path bytes there those : List ℕ) (room : ℕ) (tree : FileTree) → length bytes ≤ 4194304 → length bytes ≤ room → HasTree bytes tree → there ≡ path → those ≡ bytes → Reads room (text_of path bytes) (Ok (record { path = there; bytes = those; tree = tree }))
+pub good_text : (path bytes there those : List ℕ) (room : ℕ) (tree : FileTree) → length bytes ≤ MAX_FILE_BYTES → length bytes ≤ room → HasTree bytes tree → there ≡ path → those ≡ bytes → Reads room (text_of path bytes) (Ok (record { path = there; bytes = those; tree = tree }))
 good_text path bytes there those room tree small within fine p b = rw (p, b) (Good small within tree fine)
 
 -- ---- the file at one path
@@ -194,20 +195,20 @@ of_next number sources all found source f one a of =
 
 -- ---- built-in packages
 
-pub built_in_read : (built_in : BuiltIn) (path text : List ℕ) (source : SourceFile) (sources : Vec SourceFile Global) → path ≡ built_in_path built_in → text ≡ built_in_text built_in → ReadsText path text 4194304 (Ok source) → sources.items ≡ source ∷ [] → ReadsBuiltIn built_in (Ok sources)
+pub built_in_read : (built_in : BuiltIn) (path text : List ℕ) (source : SourceFile) (sources : Vec SourceFile Global) → path ≡ built_in_path built_in → text ≡ built_in_text built_in → ReadsText path text MAX_FILE_BYTES (Ok source) → sources.items ≡ source ∷ [] → ReadsBuiltIn built_in (Ok sources)
 built_in_read built_in path text source sources p x reads s =
-    let here : Reads 4194304 (text_of (built_in_path built_in) (built_in_text built_in)) (Ok (view_file source)) =
-    subst (λ (bytes : List ℕ). Reads 4194304 (text_of (built_in_path built_in) bytes) (Ok (view_file source))) x (subst (λ (name : List ℕ). Reads 4194304 (text_of name text) (Ok (view_file source))) p reads) in
-    let all : ReadsAll 4194304 (text_of (built_in_path built_in) (built_in_text built_in) ∷ []) (Ok (view_file source ∷ [])) =
-    Continues 4194304 (text_of (built_in_path built_in) (built_in_text built_in)) [] (view_file source) (Ok []) here (Ends (4194304 - length (built_in_text built_in))) in
-    subst (λ (these : List SourceFile). ReadsAll 4194304 (text_of (built_in_path built_in) (built_in_text built_in) ∷ []) (Ok (map view_file these))) (sym s) all
+    let here : Reads MAX_FILE_BYTES (text_of (built_in_path built_in) (built_in_text built_in)) (Ok (view_file source)) =
+    subst (λ (bytes : List ℕ). Reads MAX_FILE_BYTES (text_of (built_in_path built_in) bytes) (Ok (view_file source))) x (subst (λ (name : List ℕ). Reads MAX_FILE_BYTES (text_of name text) (Ok (view_file source))) p reads) in
+    let all : ReadsAll MAX_FILE_BYTES (text_of (built_in_path built_in) (built_in_text built_in) ∷ []) (Ok (view_file source ∷ [])) =
+    Continues MAX_FILE_BYTES (text_of (built_in_path built_in) (built_in_text built_in)) [] (view_file source) (Ok []) here (Ends (MAX_FILE_BYTES - length (built_in_text built_in))) in
+    subst (λ (these : List SourceFile). ReadsAll MAX_FILE_BYTES (text_of (built_in_path built_in) (built_in_text built_in) ∷ []) (Ok (map view_file these))) (sym s) all
 
-pub built_in_refused : (built_in : BuiltIn) (path text : List ℕ) (error : LoadError) → path ≡ built_in_path built_in → text ≡ built_in_text built_in → ReadsText path text 4194304 (Err error) → ReadsBuiltIn built_in (Err error)
+pub built_in_refused : (built_in : BuiltIn) (path text : List ℕ) (error : LoadError) → path ≡ built_in_path built_in → text ≡ built_in_text built_in → ReadsText path text MAX_FILE_BYTES (Err error) → ReadsBuiltIn built_in (Err error)
 built_in_refused built_in path text (Refused place rule) p x reads =
     let broken : Broken = record { place = place; rule = rule } in
-    let here : Reads 4194304 (text_of (built_in_path built_in) (built_in_text built_in)) (Err broken) =
-    subst (λ (bytes : List ℕ). Reads 4194304 (text_of (built_in_path built_in) bytes) (Err broken)) x (subst (λ (name : List ℕ). Reads 4194304 (text_of name text) (Err broken)) p reads) in
-    Stops 4194304 (text_of (built_in_path built_in) (built_in_text built_in)) [] broken here
+    let here : Reads MAX_FILE_BYTES (text_of (built_in_path built_in) (built_in_text built_in)) (Err broken) =
+    subst (λ (bytes : List ℕ). Reads MAX_FILE_BYTES (text_of (built_in_path built_in) bytes) (Err broken)) x (subst (λ (name : List ℕ). Reads MAX_FILE_BYTES (text_of name text) (Err broken)) p reads) in
+    Stops MAX_FILE_BYTES (text_of (built_in_path built_in) (built_in_text built_in)) [] broken here
 built_in_refused built_in path text ReadFault p x reads = tt
 built_in_refused built_in path text OutOfMemory p x reads = tt
 

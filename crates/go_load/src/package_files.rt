@@ -2,6 +2,7 @@
 
 ghost use Rattle.std.specs.Prelude.{◌≡◌, ◌≤◌, [], length, Option, IfOk, IfErr, IfSome, IsErrOf};
 ghost use Rattle.go_base.specs.Devices.{HasFaulted, Tree};
+ghost use Rattle.go_base.specs.declared.line.TheConstants.{MAX_FILE_BYTES};
 ghost use Rattle.go_sources.specs.Sources.{AreTold, IsText};
 ghost use Rattle.go_load.specs.FileReading.{ReadsText, ReadsPath, ReadsPaths, ReadsBuiltIn, AreOf};
 ghost use Rattle.go_finding.specs.Refusals.{Stops};
@@ -100,7 +101,7 @@ fn source_of(
     slot: Slot,
     room: usize,
 ) -> Result<SourceFile, LoadError>
-    requires { length bytes.items ≤ 4194304 }
+    requires { length bytes.items ≤ MAX_FILE_BYTES }
     ensures no_fault { IsErrOf result LoadError.ReadFault → ⊥ }
     ensures why { IfErr result (λ error. (files : Option Tree) → IsText files path.now bytes.items → Stops files error) }
     ensures answer { ReadsText path.now bytes.items room result }

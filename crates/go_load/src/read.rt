@@ -2,6 +2,7 @@
 
 ghost use Rattle.std.specs.Prelude.{◌≡◌, ◌≤◌, length, Option, IfErr, IsErrOf, slice_get};
 ghost use Rattle.go_base.specs.Devices.{Tree};
+ghost use Rattle.go_base.specs.declared.line.TheConstants.{MAX_FILE_BYTES};
 ghost use Rattle.go_ast.specs.Lexical.{IsTokenList};
 ghost use Rattle.go_sources.specs.Sources.{IsText};
 ghost use Rattle.go_finding.specs.Places.{start_in};
@@ -23,7 +24,7 @@ pub fn read_tree(
     number: u32,
     bytes: &[u8],
 ) -> Result<FileTree, LoadError>
-    requires { length bytes.now ≤ 4194304 }
+    requires { length bytes.now ≤ MAX_FILE_BYTES }
     ensures no_fault { IsErrOf result LoadError.ReadFault → ⊥ }
     ensures why { IfErr result (λ error. (files : Option Tree) → IsText files path.now bytes.now → Stops files error) }
     ensures answer { ReadsTree path.now bytes.now result }
@@ -39,7 +40,7 @@ pub fn read_tree(
 
 /// The tree of the tokens of a file.
 fn tree_of(alloc: Global, path: &str, bytes: &[u8], tokens: &Tokens) -> Result<FileTree, LoadError>
-    requires small { length bytes.now ≤ 4194304 }
+    requires small { length bytes.now ≤ MAX_FILE_BYTES }
     requires list { IsTokenList bytes.now tokens.now }
     ensures no_fault { IsErrOf result LoadError.ReadFault → ⊥ }
     ensures why { IfErr result (λ error. (files : Option Tree) → IsText files path.now bytes.now → Stops files error) }

@@ -1,5 +1,6 @@
 //! The scan of a whole file.
 
+ghost use Rattle.go_base.specs.declared.line.TheConstants.{MAX_FILE_BYTES};
 ghost use Rattle.std.specs.Prelude.{◌≡◌, ◌+◌, ◌++◌, ◌<◌, ◌≤◌, ◌^◌, length, IfOk, IfErr, OnOk};
 ghost use Rattle.go_ast.specs.Lexical.{ends_line, inserted, tokens_of, place_after, mark_width, IsTokenList};
 ghost use Rattle.go_scan.specs.Scanning.{view_place, IsRefusal, IsWithin};
@@ -143,7 +144,7 @@ fn refused(at: u32, fault: Fault) -> ScanError
 /// `Refused` names the first place where the bytes cannot be cut, in bytes from 0, and the rule that is broken there.
 /// The number of the file, from 0, is free: the answer speaks of bytes alone.
 pub fn scan(alloc: Global, file: u32, bytes: &[u8]) -> Result<Tokens, ScanError>
-    requires { length bytes.now ≤ 4194304 }
+    requires { length bytes.now ≤ MAX_FILE_BYTES }
     ensures tokens { IfOk result (λ tokens. IsTokenList bytes.now tokens) }
     ensures refused { IfErr result (λ error. IsRefusal bytes.now error) }
     ensures within { IfErr result (λ error. IsWithin bytes.now error) }

@@ -1,5 +1,6 @@
 //! The packages that every program can import without files of its own.
 
+ghost use Rattle.go_base.specs.declared.line.TheConstants.{MAX_FILE_BYTES};
 ghost use Rattle.std.specs.Prelude.{◌≡◌, ◌≤◌, length};
 ghost use Rattle.go_sources.specs.BuiltIns.{built_in_named, built_in_path, built_in_text};
 
@@ -68,7 +69,7 @@ impl BuiltIn {
     /// The text of its file.
     pub fn text(self) -> &'static str
         ensures says { result.now ≡ built_in_text self }
-        ensures small { length result.now ≤ 4194304 }
+        ensures small { length result.now ≤ MAX_FILE_BYTES }
     {
         match self {
             BuiltIn::Errors => ERRORS,

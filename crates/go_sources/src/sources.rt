@@ -1,5 +1,6 @@
 //! What a program is loaded from: files, packages and imports.
 
+ghost use Rattle.go_base.specs.declared.line.TheConstants.{MAX_FILE_BYTES};
 ghost use Rattle.std.specs.Prelude.{◌≡◌, ◌≤◌, length};
 ghost use Rattle.go_sources.specs.Reading.{HasTree};
 
@@ -15,7 +16,7 @@ pub struct SourceFile {
     pub tree: FileTree,
     /// The number of its package, from 0.
     pub package: u32,
-    pub ghost small: { length bytes ≤ 4194304 },
+    pub ghost small: { length bytes ≤ MAX_FILE_BYTES },
     // The tree is that of the bytes.
     pub ghost read: { ∥ HasTree bytes tree ∥₁ },
 }
