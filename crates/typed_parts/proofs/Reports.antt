@@ -1,5 +1,5 @@
 -- What is reported in two goes.
-use Rattle.std.proofs.Common.{◌≡◌, refl, ap, List, [], ◌∷◌, ◌++◌, map, Option, Some, None}
+use Rattle.std.proofs.Common.{◌≡◌, refl, ap, List, [], ◌∷◌, ◌++◌, map, Option, Some}
 use Rattle.go_faults.specs.declared.fault.Fault.{Fault}
 use Rattle.go_faults.specs.Faults.{least_with, lesser}
 use Rattle.typed_parts.specs.declared.ground.Ground.{Ground}

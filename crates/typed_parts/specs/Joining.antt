@@ -1,5 +1,6 @@
 -- Parts that came and are sound, put together.
 use Rattle.std.specs.Prelude.{List, ◌++◌, ◌∷◌, [], Bool, if◌then◌else◌, Option, Some, None, Result, Ok, Err}
+use Rattle.std.specs.Global.{Vec}
 use Rattle.std.specs.Option.{option_zip}
 use Rattle.go_base.specs.declared.rule.Rule.{Rule}
 use Rattle.typed_parts.specs.declared.meaning.Given.{Given}
@@ -29,6 +30,15 @@ abbrev pub with_last : {A : Type 0} → Option (List A) → Option A → Option 
 with_last (Some items) (Some last) = Some (items ++ last ∷ [])
 with_last (Some items) None = None
 with_last None last = None
+
+-- the list that a vector holds
+abbrev pub items_of : {A : Type 0} → Option (Vec A) → Option (List A)
+items_of (Some v) = Some v.items
+items_of None = None
+
+abbrev pub listed : {A E : Type 0} → Result (Option (Vec A)) E → Result (Option (List A)) E
+listed (Ok v) = Ok (items_of v)
+listed (Err error) = Err error
 
 -- a value of which something was asked
 abbrev pub asked : Given → Bool → Rule → Judged Given

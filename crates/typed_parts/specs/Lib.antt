@@ -6,3 +6,6 @@ pub mod Shapes
 pub mod Numbers
 pub mod Several
 pub mod Retyping
+pub mod Looks
+pub mod Adapting
+pub mod Wholes

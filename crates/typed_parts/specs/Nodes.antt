@@ -1,5 +1,5 @@
 -- The nodes of names and literals, and nodes that stand in others. Go specification, "Operands" and "Constants".
-use Rattle.std.specs.Prelude.{◌≡◌, ℤ, List, Option, Some, None, Result, Ok, Err}
+use Rattle.std.specs.Prelude.{◌≡◌, ℤ, Option, Some, None, Result, Ok, Err}
 use Rattle.std.specs.Global.{Box}
 use Rattle.std.specs.Option.{option_map}
 use Rattle.go_base.specs.declared.ids.TypeId.{TypeId}
@@ -11,10 +11,8 @@ use Rattle.go_rules.specs.Untyped.{basic_of}
 use Rattle.go_tree.specs.declared.exprs.ExprKind.{ExprKind}
 use Rattle.go_tree.specs.declared.exprs.ExprKind.TheVariants.{ConstOf}
 use Rattle.go_tree.specs.declared.exprs.TypedExpr.{TypedExpr}
-use Rattle.go_type.specs.declared.constants.Const.{Const}
 use Rattle.go_type.specs.declared.constants.Const.TheVariants as constant
 use Rattle.go_type.specs.Table.{basic_id}
-use Rattle.typed_parts.specs.Joining.{both}
 use Rattle.typed_parts.specs.Judged.{Judged, fine, breaks}
 
 abbrev pub node : Pos → TypeId → ExprKind → TypedExpr

@@ -1,6 +1,6 @@
 -- Constants that are known by an expression. Go specification, "Constants", "Index expressions" and "Length and
 -- capacity".
-use Rattle.std.specs.Prelude.{ℤ, pos, int_lt, Bool, true, false, not, if◌then◌else◌, List, length, Option, Some, None}
+use Rattle.std.specs.Prelude.{ℤ, pos, int_lt, not, if◌then◌else◌, length, Option, Some, None}
 use Rattle.go_base.specs.declared.rule.Rule.{Rule}
 use Rattle.go_base.specs.declared.rule.Rule.TheVariants.{ConstantOutOfRange}
 use Rattle.go_rules.specs.Operands.{is_integer}

@@ -1,5 +1,5 @@
 -- Several values. Go specification, "Calls" and "Assignment statements".
-use Rattle.std.specs.Prelude.{ℕ, ◌≤◌, nat_lt, List, [], ◌∷◌, length, is_some, if◌then◌else◌, Option, Some, None}
+use Rattle.std.specs.Prelude.{nat_lt, List, ◌∷◌, length, is_some, if◌then◌else◌, Option, Some, None}
 use Rattle.std.specs.List.{list_all}
 use Rattle.go_base.specs.declared.ids.TypeId.{TypeId}
 use Rattle.go_base.specs.declared.place.Pos.{Pos}

@@ -1,7 +1,7 @@
 //! Parts that came and are sound, put together.
 
-ghost use Rattle.std.specs.Prelude.{◌≡◌, OnOk};
-ghost use Rattle.typed_parts.specs.Joining.{asked, beside, both, only, sound, with_last};
+ghost use Rattle.std.specs.Prelude.{◌≡◌, IfOk};
+ghost use Rattle.typed_parts.specs.Joining.{asked, beside, both, items_of, only, sound, with_last};
 ghost use Rattle.typed_parts.specs.Judged.{reported};
 
 use crate::ground::Ground;
@@ -51,8 +51,13 @@ pub fn only<T: Drop>(part: Option<T>, holds: bool) -> Option<T>
 pub fn with_last<T: Drop>(
     items: Option<Vec<T>>,
     last: Option<T>,
-) -> Result<Option<Vec<T>>, NoMemory> {
-    let Some((mut items, last)) = items.zip(last) else {
+) -> Result<Option<Vec<T>>, NoMemory>
+    ensures { IfOk result (λ made. items_of made ≡ with_last (items_of items) last) }
+{
+    let Some(mut items) = items else {
+        return Ok(None);
+    };
+    let Some(last) = last else {
         return Ok(None);
     };
     items.push(last)?;

@@ -3,6 +3,7 @@
 
 ghost use Rattle.std.specs.Prelude.{◌≡◌, is_some};
 ghost use Rattle.typed_parts.specs.Judged.{reported};
+ghost use Rattle.typed_parts.specs.Looks.{is_place};
 ghost use Rattle.typed_parts.specs.Meanings.{is_constant, is_tuple, one_value, parenthesized, placed, single, type_in, type_meaning, type_of, value_meaning, value_of};
 
 use crate::ground::Ground;
@@ -166,19 +167,39 @@ fn placed(types: &Types, at: Pos, expr: TypedExpr) -> TypedExpr
 
 /// Whether an expression is a place: a variable, a dereference, an element of a slice, or a field or an element of an array
 /// that is a place.
-pub fn is_place(expr: &TypedExpr) -> bool {
+#[tactic(auto, using(crate::proofs::Forms::expr_is, crate::proofs::Forms::kind_forms))]
+pub fn is_place(expr: &TypedExpr) -> bool
+    ensures { result ≡ is_place expr.now }
+{
     match &expr.kind {
         ExprKind::VarOf(_) | ExprKind::Deref(_) => true,
-        ExprKind::IndexOf {
-            base: IndexBase::Slice,
-            ..
-        } => true,
-        ExprKind::IndexOf {
-            base: IndexBase::Array,
-            operand,
-            ..
-        } => is_place(operand),
         ExprKind::FieldOf { operand, .. } => is_place(operand),
-        _ => false,
+        ExprKind::IndexOf { base, operand, .. } => match base {
+            IndexBase::Slice => true,
+            IndexBase::Array => is_place(operand),
+            IndexBase::Text => false,
+        },
+        ExprKind::ConstOf(_)
+        | ExprKind::NilOf
+        | ExprKind::FunctionOf(_)
+        | ExprKind::LiteralOf(_)
+        | ExprKind::MethodValue { .. }
+        | ExprKind::MethodExpr { .. }
+        | ExprKind::MapIndex { .. }
+        | ExprKind::SliceOf { .. }
+        | ExprKind::AddressOf(_)
+        | ExprKind::UnaryOf { .. }
+        | ExprKind::BinaryOf { .. }
+        | ExprKind::CompareOf { .. }
+        | ExprKind::AndAlso { .. }
+        | ExprKind::OrElse { .. }
+        | ExprKind::Receive { .. }
+        | ExprKind::CallOf { .. }
+        | ExprKind::BuiltinOf { .. }
+        | ExprKind::ConvertTo(_)
+        | ExprKind::ToInterface(_)
+        | ExprKind::AssertTo { .. }
+        | ExprKind::CompositeOf(_)
+        | ExprKind::PartOf(_) => false,
     }
 }

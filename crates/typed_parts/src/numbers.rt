@@ -2,10 +2,12 @@
 //! "Slice expressions".
 
 ghost use Rattle.std.specs.Prelude.{◌≡◌, is_some};
+ghost use Rattle.typed_parts.specs.Judged.{Comes};
+ghost use Rattle.typed_parts.specs.Retyping.{IsAsUntyped};
+ghost use Rattle.typed_parts.specs.Wholes.{IsTextTyped, IsWhole};
 ghost use Rattle.typed_parts.specs.Numbers.{constant_in, integer_of, text_length, whole_breach};
 
 use crate::ground::Ground;
-use crate::joining::only;
 use crate::meaning::Given;
 use crate::retyping::retyped;
 use crate::shapes::is_untyped_text;
@@ -49,24 +51,19 @@ pub fn whole_index(
     ground: &mut Ground,
     i: Option<Given>,
     rule: Rule,
-) -> Result<Option<TypedExpr>, NoMemory> {
-    let is_whole = ask_whole(ground, &i, rule);
-    match only(i, is_whole) {
-        Some(i) => as_untyped(ground, i.expr, basic(Basic::Int)),
-        None => Ok(None),
-    }
-}
-
-fn ask_whole(ground: &mut Ground, i: &Option<Given>, rule: Rule) -> bool {
+) -> Result<Option<TypedExpr>, NoMemory>
+    ensures { Comes ground.old ground.new result (IsWhole ground.old.types i rule) }
+{
     let Some(i) = i else {
-        return false;
+        return Ok(None);
     };
     match whole_breach(&ground.types, &i.expr, rule) {
         Some(rule) => {
             ground.report(i.at, rule);
-            false
+            drop(i);
+            Ok(None)
         }
-        None => true,
+        None => as_untyped(ground, i.expr, basic(Basic::Int)),
     }
 }
 
@@ -89,29 +86,28 @@ pub fn as_untyped(
     ground: &mut Ground,
     expr: TypedExpr,
     to: TypeId,
-) -> Result<Option<TypedExpr>, NoMemory> {
-    if untyped_kind(&ground.types, expr.of).is_some() {
-        retyped(ground, expr, to)
-    } else {
-        Ok(Some(expr))
+) -> Result<Option<TypedExpr>, NoMemory>
+    ensures { Comes ground.old ground.new result (IsAsUntyped ground.old.types to expr) }
+{
+    match untyped_kind(&ground.types, expr.of) {
+        Some(_) => retyped(ground, expr, to),
+        None => Ok(Some(expr)),
     }
 }
 
 /// An untyped string as one of type `string`, and any other value as it is.
-pub fn with_text_type(ground: &mut Ground, x: Option<Given>) -> Result<Option<Given>, NoMemory> {
-    let Some(Given { at, expr }) = x else {
+pub fn with_text_type(ground: &mut Ground, x: Option<Given>) -> Result<Option<Given>, NoMemory>
+    ensures { Comes ground.old ground.new result (IsTextTyped ground.old.types x) }
+{
+    let Some(x) = x else {
         return Ok(None);
     };
-    match text_typed(ground, expr)? {
+    if !is_untyped_text(&ground.types, x.expr.of) {
+        return Ok(Some(x));
+    }
+    let Given { at, expr } = x;
+    match retyped(ground, expr, basic(Basic::Text))? {
         Some(expr) => Ok(Some(Given { at, expr })),
         None => Ok(None),
-    }
-}
-
-fn text_typed(ground: &mut Ground, expr: TypedExpr) -> Result<Option<TypedExpr>, NoMemory> {
-    if is_untyped_text(&ground.types, expr.of) {
-        retyped(ground, expr, basic(Basic::Text))
-    } else {
-        Ok(Some(expr))
     }
 }
