@@ -17,10 +17,10 @@ use Rattle.driver.specs.Generating.{IsGenerated, IsGeneratedRun, IsRunBehind, Co
 run_is : (count : ℕ) (ending : Ending) (output : List ℕ) → IsGeneratedRun count ending output → IsGenerated count (outcomes.Ended ending) output
 run_is count ending output is = record { ending = ending; outcome_is = refl; ran = is }
 
-pub generated_comes : (count : ℕ) (ending : Ending) (old new : Option (List ℕ)) → Finishes (IsGeneratedRun count) ending old new → Comes (IsGenerated count) (outcomes.Ended ending) old new
+pub generated_comes : (count : ℕ) (ending : Ending) (old new : Option (List ℕ)) → Finishes (IsGeneratedRun count) ending old new → Comes (λ whole. IsGenerated count) (outcomes.Ended ending) old new
 generated_comes count ending old new f = inl (finishes_as (IsGeneratedRun count) (IsGenerated count) ending (outcomes.Ended ending) old new (λ output is. run_is count ending output is) f)
 
-pub generated_stop_comes : (count : ℕ) (stop : Stop) (outcome : Outcome) (old new : Option (List ℕ)) → outcome ≡ outcome_at stop → IsUnfinished (IsGeneratedRun count) old new → Comes (IsGenerated count) outcome old new
+pub generated_stop_comes : (count : ℕ) (stop : Stop) (outcome : Outcome) (old new : Option (List ℕ)) → outcome ≡ outcome_at stop → IsUnfinished (IsGeneratedRun count) old new → Comes (λ whole. IsGenerated count) outcome old new
 generated_stop_comes count stop outcome old new e u =
     inr ((stop, e), unfinished_as (IsGeneratedRun count) (IsGenerated count) (λ (ending : Ending). outcomes.Ended ending) old new (run_is count) u)
 
@@ -37,9 +37,9 @@ pub behind_finishes : (text : List ℕ) (ending : Ending) (output : List ℕ) (o
 behind_finishes text ending output old mid new a b =
     finished (IsRunBehind text) ending (text ++ output) old new (record { run = output; parts = refl }) (Appends-trans old mid new text output a b)
 
-pub counted_does : (count : ℕ) (counts text : List ℕ) (result : Result Ending Stop) (old new : Option (List ℕ)) → Counts count counts → text ≡ counts → Does (IsRunBehind text) result old new → Does (IsGeneratedRun count) result old new
-counted_does count counts text result old new is e d = go result (subst (λ (t : List ℕ). Does (IsRunBehind t) result old new) e d)
+pub counted_does : (count : ℕ) (counts text : List ℕ) (result : Result Ending Stop) (old new : Option (List ℕ)) → Counts count counts → text ≡ counts → Does (λ whole. IsRunBehind text) result old new → Does (λ whole. IsGeneratedRun count) result old new
+counted_does count counts text result old new is e d = go result (subst (λ (t : List ℕ). Does (λ whole. IsRunBehind t) result old new) e d)
   where
-    go : (result : Result Ending Stop) → Does (IsRunBehind counts) result old new → Does (IsGeneratedRun count) result old new
+    go : (result : Result Ending Stop) → Does (λ whole. IsRunBehind counts) result old new → Does (λ whole. IsGeneratedRun count) result old new
     go (Ok ending) f = finishes_as (IsRunBehind counts) (IsGeneratedRun count) ending ending old new (λ output b. record { counts = counts; is_counts = is; behind = b }) f
     go (Err stop) u = unfinished_as (IsRunBehind counts) (IsGeneratedRun count) (λ (ending : Ending). ending) old new (λ ending output b. record { counts = counts; is_counts = is; behind = b }) u

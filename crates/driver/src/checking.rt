@@ -28,7 +28,7 @@ pub fn check_and_work<O: Sink>(
     sources: &Sources,
     out: &mut O,
 ) -> Outcome
-    ensures comes { Comes (IsResult command.now (files_of sources.now)) result (O.written out.old) (O.written out.new) }
+    ensures comes { Comes (λ whole. IsResult whole command.now (files_of sources.now)) result (O.written out.old) (O.written out.new) }
     ensures fault { result ≡ Outcome.WriteFault → HasFaulted (O.faults out.old) (O.faults out.new) }
     ensures later { O.faults out.old ≤ O.faults out.new }
 {
@@ -48,7 +48,7 @@ fn work_and_leave<O: Sink>(
     program: Program,
     out: &mut O,
 ) -> Outcome
-    ensures comes { Comes (IsResult command.now (files_of sources.now)) result (O.written out.old) (O.written out.new) }
+    ensures comes { Comes (λ whole. IsResult whole command.now (files_of sources.now)) result (O.written out.old) (O.written out.new) }
     ensures fault { result ≡ Outcome.WriteFault → HasFaulted (O.faults out.old) (O.faults out.new) }
     ensures later { O.faults out.old ≤ O.faults out.new }
 {
@@ -65,7 +65,7 @@ fn test_and_work<O: Sink>(
     program: &Program,
     out: &mut O,
 ) -> Outcome
-    ensures comes { Comes (IsResult command.now (files_of sources.now)) result (O.written out.old) (O.written out.new) }
+    ensures comes { Comes (λ whole. IsResult whole command.now (files_of sources.now)) result (O.written out.old) (O.written out.new) }
     ensures fault { result ≡ Outcome.WriteFault → HasFaulted (O.faults out.old) (O.faults out.new) }
     ensures later { O.faults out.old ≤ O.faults out.new }
 {
@@ -87,7 +87,7 @@ fn work_checked<O: Sink>(
     out: &mut O,
 ) -> Outcome
     requires { IsTypedProgram program.now }
-    ensures comes { Comes (IsResult command.now (files_of sources.now)) result (O.written out.old) (O.written out.new) }
+    ensures comes { Comes (λ whole. IsResult whole command.now (files_of sources.now)) result (O.written out.old) (O.written out.new) }
     ensures fault { result ≡ Outcome.WriteFault → HasFaulted (O.faults out.old) (O.faults out.new) }
     ensures later { O.faults out.old ≤ O.faults out.new }
 {

@@ -30,7 +30,7 @@ const BOUND: u64 = 10_000_000;
 
 /// Makes, checks, lists and runs the generated program of so many types.
 pub fn generate<O: Sink>(alloc: Global, count: u32, out: &mut O) -> Outcome
-    ensures comes { Comes (IsGenerated count) result (O.written out.old) (O.written out.new) }
+    ensures comes { Comes (λ whole. IsGenerated count) result (O.written out.old) (O.written out.new) }
     ensures fault { result ≡ Outcome.WriteFault → HasFaulted (O.faults out.old) (O.faults out.new) }
     ensures later { O.faults out.old ≤ O.faults out.new }
 {
@@ -42,7 +42,7 @@ pub fn generate<O: Sink>(alloc: Global, count: u32, out: &mut O) -> Outcome
 
 // Makes the program, and then writes the numbers of edges and runs it.
 fn made_and_run<O: Sink>(alloc: Global, count: u32, out: &mut O) -> Result<Ending, Stop>
-    ensures does { Does (IsGeneratedRun count) result (O.written out.old) (O.written out.new) }
+    ensures does { Does (λ whole. IsGeneratedRun count) result (O.written out.old) (O.written out.new) }
     ensures fault { IsErrOf result WriteFault → HasFaulted (O.faults out.old) (O.faults out.new) }
     ensures later { O.faults out.old ≤ O.faults out.new }
 {
@@ -61,7 +61,7 @@ fn write_and_run<O: Sink>(
     code: &Code,
     out: &mut O,
 ) -> Result<Ending, Stop>
-    ensures does { Does (IsRunBehind text.now) result (O.written out.old) (O.written out.new) }
+    ensures does { Does (λ whole. IsRunBehind text.now) result (O.written out.old) (O.written out.new) }
     ensures fault { IsErrOf result WriteFault → HasFaulted (O.faults out.old) (O.faults out.new) }
     ensures later { O.faults out.old ≤ O.faults out.new }
 {

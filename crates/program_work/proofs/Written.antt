@@ -1,5 +1,5 @@
 -- What was written of right outputs, part after part.
-use Rattle.std.proofs.Common.{◌∙◌, ℕ, List, [], ◌++◌, Option, Result, Ok, Err, IsErr, refl, sym, ap, inl, inr, append_assoc}
+use Rattle.std.proofs.Common.{◌∙◌, ℕ, Bool, false, List, [], ◌++◌, Option, Result, Ok, Err, IsErr, refl, sym, ap, inl, inr, append_assoc}
 use Rattle.std.proofs.lemmas.List.{append-nil}
 use Rattle.std.proofs.KnownBytes.{Appends-nil, Appends-trans}
 use Rattle.std.specs.Io.KnownBytes.{Appends}
@@ -56,6 +56,6 @@ unfinished_as P Q f old new turns (inl nothing) = inl nothing
 unfinished_as P Q f old new turns (inr s) = inr (record { value = f s.value; output = s.output; is_right = turns s.value s.output s.is_right; appends = s.appends })
 
 -- where a step has failed, the work has
-pub does_stop : {A : Type 0} (right : A → List ℕ → Type 0) (result : Result A Stop) (old new : Option (List ℕ)) → IsErr result → IsUnfinished right old new → Does right result old new
+pub does_stop : {A : Type 0} (right : Bool → A → List ℕ → Type 0) (result : Result A Stop) (old new : Option (List ℕ)) → IsErr result → IsUnfinished (right false) old new → Does right result old new
 does_stop right (Ok value) old new failed u = cc
 does_stop right (Err stop) old new failed u = u

@@ -1,6 +1,7 @@
 -- The work on a program that was loaded: its code is printed, a call graph listed, and it is run, each where that is
 -- asked.
-use Rattle.std.specs.Prelude.{◌≡◌, ℕ, List, [], ◌∷◌, ◌++◌, ◌⊎◌, Option, Some, None, true, false, All}
+use Rattle.std.specs.Prelude.{◌≡◌, ℕ, List, [], ◌∷◌, ◌++◌, ◌⊎◌, Bool, Option, Some, None, true, false, All, IfSome}
+use Rattle.std.specs.Prelude.{IsTrue, is_some}
 use Rattle.std.specs.Io.KnownBytes.{Appends}
 use Rattle.command_line.specs.declared.command.Graph.{Graph}
 use Rattle.command_line.specs.declared.command.Letters.{Letters}
@@ -13,8 +14,11 @@ use Rattle.go_base.specs.declared.place.Place.{Place}
 use Rattle.go_base.specs.declared.rule.Rule.TheVariants as rules
 use Rattle.go_sources.specs.declared.sources.SourceFile.{SourceFile}
 use Rattle.go_tree.specs.declared.program.Program.{Program}
+use Rattle.plan_laws.specs.Runs.{IsStuck}
 use Rattle.ssa_ir.specs.declared.code.Code.{Code}
 use Rattle.ssa_ir.specs.declared.code.Function.{Function}
+use Rattle.ssa_mean.specs.Answers.{Answers, AreAnswers}
+use Rattle.ssa_mean.specs.Runs.{IsRunOf}
 use Rattle.ssa_print.specs.Codes as shown
 use Rattle.ssa_print.specs.Operands.{setting_of}
 use Rattle.ssa_sane.specs.Sane.{IsSane}
@@ -43,16 +47,15 @@ pub record IsSound (code : Code) : Type 0 where
   pub sane : AreSane code.functions
   pub typed : IsTyped code
 
--- the text of a sound code, with what letters show of it
-pub record IsSoundText (letters : Letters) (text : List ℕ) : Type 0 where
-  pub code : Code
-  pub sound : IsSound code
-  pub is : shown.IsCodeText (setting_of code) letters.functions letters.counts text
+-- the text of a code, with what letters show of it
+abbrev pub IsTextOf : Option Code → Letters → List ℕ → Type 0
+IsTextOf None letters text = ⊥
+IsTextOf (Some code) letters text = shown.IsCodeText (setting_of code) letters.functions letters.counts text
 
 -- the text of a code, where that is asked; that the code is the program's is not said yet
-abbrev pub IsCodeText : Option Letters → List ℕ → Type 0
-IsCodeText None text = text ≡ []
-IsCodeText (Some letters) text = IsSoundText letters text
+abbrev pub IsCodeText : Option Code → Option Letters → List ℕ → Type 0
+IsCodeText of None text = text ≡ []
+IsCodeText of (Some letters) text = IsTextOf of letters text
 
 -- the listing of a graph of a program
 pub record IsGraphText (files : List SourceFile) (program : Program) (graph : Graph) (text : List ℕ) : Type 0 where
@@ -65,39 +68,62 @@ abbrev pub IsListing : List SourceFile → Program → Option Graph → List ℕ
 IsListing files program None text = text ≡ []
 IsListing files program (Some graph) text = IsGraphText files program graph text
 
--- how the work ends; of what a run writes, and of which ending it has, nothing is said yet
-pub data EndsIn (command : LoadCommand) (outcome : Outcome) (output : List ℕ) : Type 0 where
-  done : command.run ≡ false → outcome ≡ outcomes.Done → output ≡ [] → EndsIn command outcome output
-  ran : command.run ≡ true → (ending : Ending) → outcome ≡ outcomes.Ended ending → EndsIn command outcome output
+-- a run of a code with the choices and the bound of a command writes this output, and ends so, but where the code is
+-- stuck, as typed code never is
+abbrev pub IsRun : Code → LoadCommand → Ending → List ℕ → Type 0
+IsRun code command ending output =
+    (answers : Answers) → AreAnswers code.types answers →
+    IsRunOf code command.choices command.bound output ending ⊎ IsStuck code command.choices command.bound answers
 
--- the work that a command asks for of one program, which is built: the text of the code, the listing, and what the run
--- writes
-pub record IsWork (command : LoadCommand) (files : List SourceFile) (program : Program) (outcome : Outcome)
-    (output : List ℕ) : Type 0 where
+abbrev pub IsRunBy : Option Code → LoadCommand → Ending → List ℕ → Type 0
+IsRunBy None command ending output = ⊥
+IsRunBy (Some code) command ending output = IsRun code command ending output
+
+-- How the work ends. What a run writes, and which ending it has, is told where all of the output is: where the work
+-- came to its end, on a sink that tells what it holds.
+pub data EndsIn (whole : Bool) (command : LoadCommand) (of : Option Code) (outcome : Outcome) (output : List ℕ) : Type 0
+  where
+    done : command.run ≡ false → outcome ≡ outcomes.Done → output ≡ [] → EndsIn whole command of outcome output
+    ran : command.run ≡ true → (ending : Ending) → outcome ≡ outcomes.Ended ending
+        → (IsTrue whole → IsRunBy of command ending output) → EndsIn whole command of outcome output
+
+-- the work that a command asks for of one program, which is built: the text of a code, the listing, and what the run of
+-- that code writes
+pub record IsWork (whole : Bool) (command : LoadCommand) (files : List SourceFile) (program : Program)
+    (outcome : Outcome) (output : List ℕ) : Type 0 where
   pub built : wants_registers command ≡ false
+  pub of : Option Code
+  pub sound : IfSome of IsSound
   pub code : List ℕ
   pub listing : List ℕ
   pub run : List ℕ
-  pub is_code : IsCodeText command.build code
+  pub is_code : IsCodeText of command.build code
   pub is_listing : IsListing files program command.callgraph listing
-  pub ends : EndsIn command outcome run
+  pub ends : EndsIn whole command of outcome run
   pub parts : output ≡ code ++ (listing ++ run)
 
 -- the right outcome of the work on a program that breaks no rule: what is asked is not built, or the work is done
-pub data IsServed (command : LoadCommand) (files : List SourceFile) (program : Program) (outcome : Outcome)
-    (output : List ℕ) : Type 0 where
+pub data IsServed (whole : Bool) (command : LoadCommand) (files : List SourceFile) (program : Program)
+    (outcome : Outcome) (output : List ℕ) : Type 0 where
   outside : wants_registers command ≡ true → outcome ≡ outcomes.Refused (start_of (first_path files)) rules.NotBuiltYet
-      → output ≡ [] → IsServed command files program outcome output
-  worked : IsWork command files program outcome output → IsServed command files program outcome output
+      → output ≡ [] → IsServed whole command files program outcome output
+  worked : IsWork whole command files program outcome output → IsServed whole command files program outcome output
 
 -- the right outcome for files that were loaded: they break a rule; or they make a typed program, of which nothing else
 -- is said yet, and what is asked of it comes to this
-pub data IsResult (command : LoadCommand) (files : List SourceFile) (outcome : Outcome) (output : List ℕ) : Type 0 where
-  broken : IsBroken files outcome → output ≡ [] → IsResult command files outcome output
-  served : (program : Program) → IsTypedProgram program → IsServed command files program outcome output
-      → IsResult command files outcome output
+pub data IsResult (whole : Bool) (command : LoadCommand) (files : List SourceFile) (outcome : Outcome)
+    (output : List ℕ) : Type 0 where
+  broken : IsBroken files outcome → output ≡ [] → IsResult whole command files outcome output
+  served : (program : Program) → IsTypedProgram program → IsServed whole command files program outcome output
+      → IsResult whole command files outcome output
 
 -- ---- what the parts of the code come to
+
+-- what the run of a code wrote
+pub record HasRun (code : Code) (command : LoadCommand) (ending : Ending) (old new : Option (List ℕ)) : Type 0 where
+  pub output : List ℕ
+  pub appends : Appends old new output
+  pub is_run : IsTrue (is_some old) → IsRun code command ending output
 
 -- the outcome where what is asked is not built, for the file at a path
 abbrev pub IsNotBuilt : List ℕ → Outcome → Type 0

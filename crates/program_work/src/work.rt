@@ -1,13 +1,13 @@
 //! The work on a program that breaks no rule: its code is printed, a call graph listed, and it is run, in this order.
 
-ghost use Rattle.std.specs.Prelude.{◌≡◌, ◌≤◌, IsErrOf, None, Some, true, false};
+ghost use Rattle.std.specs.Prelude.{◌≡◌, ◌≤◌, IfOk, IsErrOf, None, Some, true, false};
 ghost use Rattle.go_base.specs.Devices.{HasFaulted};
 ghost use Rattle.go_interp.specs.Output.{HasWritten};
 ghost use Rattle.go_sources.specs.Sources.{files_of};
 ghost use Rattle.program_work.specs.Asked.{wants_registers};
 ghost use Rattle.program_work.specs.Graphs.{AreAsked};
 ghost use Rattle.program_work.specs.Outputs.{Comes, Does};
-ghost use Rattle.program_work.specs.Working.{first_path, IsNotBuilt, IsServed, IsSound, IsWork};
+ghost use Rattle.program_work.specs.Working.{first_path, HasRun, IsNotBuilt, IsServed, IsSound, IsWork};
 ghost use Rattle.program_work.specs.declared.stop.Stop.TheVariants.{WriteFault};
 
 use crate::coding::sound_code;
@@ -32,7 +32,7 @@ pub fn work_on<O: Sink>(
     program: &Program,
     out: &mut O,
 ) -> Outcome
-    ensures comes { Comes (IsServed command.now (files_of sources.now) program.now) result (O.written out.old) (O.written out.new) }
+    ensures comes { Comes (λ whole. IsServed whole command.now (files_of sources.now) program.now) result (O.written out.old) (O.written out.new) }
     ensures fault { result ≡ Outcome.WriteFault → HasFaulted (O.faults out.old) (O.faults out.new) }
     ensures later { O.faults out.old ≤ O.faults out.new }
 {
@@ -92,7 +92,7 @@ fn work_built<O: Sink>(
     out: &mut O,
 ) -> Result<Outcome, Stop>
     requires { wants_registers command.now ≡ false }
-    ensures does { Does (IsWork command.now (files_of sources.now) program.now) result (O.written out.old) (O.written out.new) }
+    ensures does { Does (λ whole. IsWork whole command.now (files_of sources.now) program.now) result (O.written out.old) (O.written out.new) }
     ensures fault { IsErrOf result WriteFault → HasFaulted (O.faults out.old) (O.faults out.new) }
     ensures later { O.faults out.old ≤ O.faults out.new }
 {
@@ -119,7 +119,7 @@ fn print_and_work<O: Sink>(
 ) -> Result<Outcome, Stop>
     requires built { wants_registers command.now ≡ false }
     requires asked { command.now.build ≡ Some letters }
-    ensures does { Does (IsWork command.now (files_of sources.now) program.now) result (O.written out.old) (O.written out.new) }
+    ensures does { Does (λ whole. IsWork whole command.now (files_of sources.now) program.now) result (O.written out.old) (O.written out.new) }
     ensures fault { IsErrOf result WriteFault → HasFaulted (O.faults out.old) (O.faults out.new) }
     ensures later { O.faults out.old ≤ O.faults out.new }
 {
@@ -145,7 +145,7 @@ fn work_with_code<O: Sink>(
     requires asked { command.now.build ≡ Some letters }
     requires sound { IsSound code.now }
     requires graph { AreAsked command.now.callgraph program.now edges.now }
-    ensures does { Does (IsWork command.now (files_of sources.now) program.now) result (O.written out.old) (O.written out.new) }
+    ensures does { Does (λ whole. IsWork whole command.now (files_of sources.now) program.now) result (O.written out.old) (O.written out.new) }
     ensures fault { IsErrOf result WriteFault → HasFaulted (O.faults out.old) (O.faults out.new) }
     ensures later { O.faults out.old ≤ O.faults out.new }
 {
@@ -168,7 +168,7 @@ fn list_alone<O: Sink>(
 ) -> Result<Outcome, Stop>
     requires no_code { command.now.build ≡ None }
     requires no_run { command.now.run ≡ false }
-    ensures does { Does (IsWork command.now (files_of sources.now) program.now) result (O.written out.old) (O.written out.new) }
+    ensures does { Does (λ whole. IsWork whole command.now (files_of sources.now) program.now) result (O.written out.old) (O.written out.new) }
     ensures fault { IsErrOf result WriteFault → HasFaulted (O.faults out.old) (O.faults out.new) }
     ensures later { O.faults out.old ≤ O.faults out.new }
 {
@@ -186,7 +186,7 @@ fn list_and_run<O: Sink>(
 ) -> Result<Outcome, Stop>
     requires no_code { command.now.build ≡ None }
     requires run { command.now.run ≡ true }
-    ensures does { Does (IsWork command.now (files_of sources.now) program.now) result (O.written out.old) (O.written out.new) }
+    ensures does { Does (λ whole. IsWork whole command.now (files_of sources.now) program.now) result (O.written out.old) (O.written out.new) }
     ensures fault { IsErrOf result WriteFault → HasFaulted (O.faults out.old) (O.faults out.new) }
     ensures later { O.faults out.old ≤ O.faults out.new }
 {
@@ -203,6 +203,7 @@ fn run_code<O: Sink>(
     command: &LoadCommand,
     out: &mut O,
 ) -> Result<Ending, Stop>
+    ensures ran { IfOk result (λ ending. HasRun code.now command.now ending (O.written out.old) (O.written out.new)) }
     ensures written { HasWritten (O.written out.old) (O.written out.new) }
     ensures fault { IsErrOf result WriteFault → HasFaulted (O.faults out.old) (O.faults out.new) }
     ensures later { O.faults out.old ≤ O.faults out.new }

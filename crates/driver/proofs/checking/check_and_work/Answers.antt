@@ -7,4 +7,4 @@ pub returns-in-Err-Refused-clause-comes : goal.returns-in-Err-Refused-clause-com
 returns-in-Err-Refused-clause-comes g c = refusal_comes c.args.command.now (files_of c.args.sources.now) c.refused.result _ c.refused.ensures
 
 pub returns-in-Err-OutOfMemory-clause-comes : goal.returns-in-Err-OutOfMemory-clause-comes
-returns-in-Err-OutOfMemory-clause-comes g c = wants_comes (IsResult c.args.command.now (files_of c.args.sources.now)) _
+returns-in-Err-OutOfMemory-clause-comes g c = wants_comes (λ whole. IsResult whole c.args.command.now (files_of c.args.sources.now)) _

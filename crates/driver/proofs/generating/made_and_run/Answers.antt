@@ -5,11 +5,11 @@ use Rattle.driver.proofs.generating.made_and_run.Goals as goal
 
 pub returns-in_err-code-clause-does : goal.returns-in_err-code-clause-does
 returns-in_err-code-clause-does g c =
-    does_stop (IsGeneratedRun c.args.count) c.from_residual-in_err-code.result _ _ c.from_residual-in_err-code.ensures.0 (nothing_yet (IsGeneratedRun c.args.count) _)
+    does_stop (λ whole. IsGeneratedRun c.args.count) c.from_residual-in_err-code.result _ _ c.from_residual-in_err-code.ensures.0 (nothing_yet (IsGeneratedRun c.args.count) _)
 
 pub returns-in_err-counts-clause-does : goal.returns-in_err-counts-clause-does
 returns-in_err-counts-clause-does g c =
-    does_stop (IsGeneratedRun c.args.count) c.from_residual-in_err-counts.result _ _ c.from_residual-in_err-counts.ensures.0 (nothing_yet (IsGeneratedRun c.args.count) _)
+    does_stop (λ whole. IsGeneratedRun c.args.count) c.from_residual-in_err-counts.result _ _ c.from_residual-in_err-counts.ensures.0 (nothing_yet (IsGeneratedRun c.args.count) _)
 
 pub returns-clause-does : goal.returns-clause-does
 returns-clause-does g c =

@@ -13,7 +13,7 @@ returns-in-Ok-clause-comes g c =
 
 pub returns-in-Ok-clause-fault : goal.returns-in-Ok-clause-fault
 returns-in-Ok-clause-fault g c =
-    λ e. absurd (work_faultless c.args.command.now (files_of c.args.sources.now) c.args.program.now c.in-Ok.outcome _ _ c.in-Ok.ensures.does e)
+    λ e. absurd (work_faultless _ c.args.command.now (files_of c.args.sources.now) c.args.program.now c.in-Ok.outcome _ _ c.in-Ok.ensures.does e)
 
 pub returns-in-Err-clause-comes : goal.returns-in-Err-clause-comes
 returns-in-Err-clause-comes g c =
