@@ -1,5 +1,5 @@
 -- What is read and written at parts of cells.
-use Rattle.std.proofs.Common.{◌≡◌, ◌≢◌, ap, sym, refl, ◌∙◌, map, List, [], ◌∷◌, Option, Some, None, ℕ, zero, suc, ℤ, pos, ◌<◌, ◌≤◌, ◌==◌, length, get_or, Bor, Result, Ok, Err, OnOk, OnErr, slice_get, slice_set, Bool, false, true}
+use Rattle.std.proofs.Common.{◌≡◌, ◌≢◌, ap, sym, subst, refl, IsSome, ◌∙◌, map, List, [], ◌∷◌, Option, Some, None, ℕ, zero, suc, ℤ, pos, ◌<◌, ◌≤◌, ◌==◌, length, get_or, Bor, Result, Ok, Err, OnOk, OnErr, slice_get, slice_set, Bool, false, true}
 use Rattle.std.specs.Global.{Vec}
 use Rattle.std.specs.Option.{option_map, option_and_then, option_copied}
 use Rattle.std.specs.Slice.{IsItemAt}
@@ -7,11 +7,11 @@ use Rattle.std.proofs.lemmas.Option.{slice_get-map, slice_get_past, slice_get_re
 use Rattle.std.proofs.Math.Dec.{eqb-suc-zero}
 use Rattle.std.proofs.lemmas.Bool.{true≢false}
 use Rattle.std.specs.Vec.{with_items}
-use Rattle.std.proofs.lemmas.List.{map-set, with_items_is}
+use Rattle.std.proofs.lemmas.List.{length-map, map-set, with_items_is}
 use Rattle.go_value.specs.Kinds.{integer, has_parts, renumbered}
 use Rattle.go_value.specs.Values as vals
 use Rattle.go_value.specs.Values.{Val, Field, Parts, parts, none, part, parts_of, number, value_of}
-use Rattle.go_store.specs.Cells.{held, packed, place_of, plain_number, value_in, value_at, read_at, changed_in, changed_at, updated, integer_in}
+use Rattle.go_store.specs.Cells.{held, packed, packed_bytes, place_of, plain_number, value_in, value_at, read_at, changed_in, changed_at, updated, written_at, integer_in}
 use Rattle.go_store.specs.declared.cells.Cell.{Cell}
 use Rattle.go_store.specs.declared.leaves.Leaf.{Leaf}
 use Rattle.go_store.specs.declared.cells.Place.{Place}
@@ -22,7 +22,7 @@ use Rattle.go_value.proofs.KindOf.{not_int, other_renumbered}
 use Rattle.go_value.proofs.Variants.{int_is}
 use Rattle.go_value.specs.declared.values.Value.TheVariants as values
 use Rattle.go_store.proofs.Integers.{integer_from}
-use Rattle.go_store.proofs.Held.{one_is, ints_are, many_are, place_is}
+use Rattle.go_store.proofs.Held.{one_is, ints_are, bytes_are, many_are, place_is}
 
 -- ---- parts by their places
 
@@ -177,16 +177,22 @@ whole_integer leaf = ap integer (one_is leaf)
 pub ints_no_integer : (ints : Vec ℤ) → integer (held (cells.Ints ints)) ≡ None
 ints_no_integer ints = ap integer (ints_are ints)
 
+pub bytes_no_integer : (bytes : Vec ℕ) → integer (held (cells.Bytes bytes)) ≡ None
+bytes_no_integer bytes = ap integer (bytes_are bytes)
+
 pub many_no_integer : (places : Vec Place) → integer (held (cells.Many places)) ≡ None
 many_no_integer places = ap integer (many_are places)
 
-pub ruleset of_integers = (int_integer, not_int, whole_integer, ints_no_integer, many_no_integer)
+pub ruleset of_integers = (int_integer, not_int, whole_integer, ints_no_integer, bytes_no_integer, many_no_integer)
 
 pub one_rolled : (leaf : Leaf) → held (roll-Cell (layers.Cell-F.One leaf)) ≡ value_of leaf.value
 one_rolled leaf = ap held (cells.rolls-One leaf) ∙ one_is leaf
 
 pub ints_rolled : (ints : Vec ℤ) → held (roll-Cell (layers.Cell-F.Ints ints)) ≡ packed ints.items
 ints_rolled ints = ap held (cells.rolls-Ints ints) ∙ ints_are ints
+
+pub bytes_rolled : (bytes : Vec ℕ) → held (roll-Cell (layers.Cell-F.Bytes bytes)) ≡ packed_bytes bytes.items
+bytes_rolled bytes = ap held (cells.rolls-Bytes bytes) ∙ bytes_are bytes
 
 pub many_rolled : (places : Vec Place) → held (roll-Cell (layers.Cell-F.Many places)) ≡ parts (parts_of (map place_of places.items))
 many_rolled places = ap held (cells.rolls-Many places) ∙ many_are places
@@ -225,6 +231,14 @@ pub no_number_deeper : (ints : List ℤ) (step : ℕ) (rest : List ℕ) (b : Boo
 no_number_deeper ints step [] b h e = cc
 no_number_deeper ints step (next ∷ rest) b h e = sym (ap integer_in (read_packed ints step (next ∷ rest)) ∙ no_numbers next rest (slice_get ints step))
 
+pub byte_here : (bytes : List ℕ) (step : ℕ) (rest : List ℕ) (b : ℕ) (n : ℤ) → rest ≡ [] → step < length bytes → b ≡ get_or bytes step b → n ≡ pos b → Some n ≡ integer_in (read_at (packed_bytes bytes) (step ∷ rest))
+byte_here bytes step rest b n end below is same =
+    ap Some same ∙ number_here (map pos bytes) step rest (Some (pos b)) end (sym (slice_get-map pos bytes step ∙ ap (option_map pos) (got bytes step b below is)))
+
+pub byte_past : (bytes : List ℕ) (step : ℕ) (rest : List ℕ) → rest ≡ [] → length bytes ≤ step → None ≡ integer_in (read_at (packed_bytes bytes) (step ∷ rest))
+byte_past bytes step rest end past =
+    number_here (map pos bytes) step rest None end (sym (slice_get-map pos bytes step ∙ ap (option_map pos) (slice_get_past bytes step past)))
+
 pub some_integer : (o : Option Val) (n : ℤ) → integer_in o ≡ Some n → o ≡ Some (vals.number n)
 some_integer None n h = cc
 some_integer (Some it) n h = ap Some (integer_from it n (sym h))
@@ -239,6 +253,9 @@ read_past cell steps places step rest is split there =
 
 pub read_ints : (cell : Cell) (steps : List ℕ) (ints : Vec ℤ) (step : ℕ) (rest : List ℕ) → cell ≡ cells.Ints ints → steps ≡ step ∷ rest → read_at (held cell) steps ≡ read_at (packed ints.items) (step ∷ rest)
 read_ints cell steps ints step rest is split = ap (λ s. read_at (held cell) s) split ∙ ap (λ c. read_at (held c) (step ∷ rest)) is ∙ ap (λ it. read_at it (step ∷ rest)) (ints_are ints)
+
+pub read_bytes : (cell : Cell) (steps : List ℕ) (bytes : Vec ℕ) (step : ℕ) (rest : List ℕ) → cell ≡ cells.Bytes bytes → steps ≡ step ∷ rest → read_at (held cell) steps ≡ read_at (packed_bytes bytes.items) (step ∷ rest)
+read_bytes cell steps bytes step rest is split = ap (λ s. read_at (held cell) s) split ∙ ap (λ c. read_at (held c) (step ∷ rest)) is ∙ ap (λ it. read_at it (step ∷ rest)) (bytes_are bytes)
 
 pub read_leaf : (cell : Cell) (steps : List ℕ) (leaf : Leaf) (step : ℕ) (rest : List ℕ) → cell ≡ cells.One leaf → steps ≡ step ∷ rest → read_at (held cell) steps ≡ None
 read_leaf cell steps leaf step rest is split = ap (λ s. read_at (held cell) s) split ∙ ap (λ c. read_at (held c) (step ∷ rest)) is ∙ read_one leaf step rest
@@ -255,6 +272,18 @@ number_written change ints step rest n same end below =
 pub number_there : (ints : List ℤ) (step : ℕ) (rest : List ℕ) → rest ≡ [] → step < length ints → read_at (packed ints) (step ∷ rest) ≡ Some (vals.number (get_or ints step (pos 0)))
 number_there ints step rest end below =
     ap (λ rs. read_at (packed ints) (step ∷ rs)) end ∙ read_packed ints step [] ∙ ap (option_and_then (λ n. read_at (number n) [])) (there ints step below)
+
+below_mapped : (bytes : List ℕ) (step : ℕ) → step < length bytes → step < length (map pos bytes)
+below_mapped bytes step below = subst (λ n. step < n) (sym (length-map bytes pos)) below
+
+pub byte_set : (bytes : List ℕ) (step : ℕ) (rest : List ℕ) (b : ℕ) → rest ≡ [] → step < length bytes → packed_bytes (slice_set bytes step b) ≡ written_at (vals.number (pos b)) (packed_bytes bytes) (step ∷ rest)
+byte_set bytes step rest b end below =
+    ap packed (map-set pos bytes step b)
+    ∙ number_written (λ _. vals.number (pos b)) (map pos bytes) step rest (pos b) (λ old. refl) end (below_mapped bytes step below)
+
+pub byte_there : (bytes : List ℕ) (step : ℕ) (rest : List ℕ) → rest ≡ [] → step < length bytes → IsSome (read_at (packed_bytes bytes) (step ∷ rest))
+byte_there bytes step rest end below =
+    subst (λ o. IsSome o) (sym (number_there (map pos bytes) step rest end (below_mapped bytes step below))) refl
 
 pub number_past : (change : Val → Val) (ints : List ℤ) (step : ℕ) (rest : List ℕ) → length ints ≤ step → packed ints ≡ updated change (packed ints) (step ∷ rest)
 number_past change ints step rest past = sym (write_packed_past change ints step rest (slice_get_past ints step past))
@@ -304,6 +333,16 @@ ints_written change cell steps ints v step rest new here is split long same =
 
 pub ints_same : (cell : Cell) (ints v : Vec ℤ) (new : List ℤ) → v ≡ ints → cell ≡ cells.Ints ints → length new ≡ v.len → new ≡ ints.items → held (cells.Ints (with_items v new)) ≡ held cell
 ints_same cell ints v new here is long same = ints_are (with_items v new) ∙ ap packed (with_items_is v new long ∙ same) ∙ sym (ap held is ∙ ints_are ints)
+
+updated_bytes : (change : Val → Val) (cell : Cell) (bytes : Vec ℕ) (steps : List ℕ) → cell ≡ cells.Bytes bytes → updated change (held cell) steps ≡ updated change (packed_bytes bytes.items) steps
+updated_bytes change cell bytes steps is = ap (λ c. updated change (held c) steps) is ∙ ap (λ it. updated change it steps) (bytes_are bytes)
+
+pub bytes_written : (change : Val → Val) (cell : Cell) (bytes v : Vec ℕ) (steps : List ℕ) (new : List ℕ) → v ≡ bytes → cell ≡ cells.Bytes bytes → length new ≡ v.len → packed_bytes new ≡ updated change (packed_bytes bytes.items) steps → held (cells.Bytes (with_items v new)) ≡ updated change (held cell) steps
+bytes_written change cell bytes v steps new here is long same =
+    bytes_are (with_items v new) ∙ ap packed_bytes (with_items_is v new long) ∙ same ∙ sym (updated_bytes change cell bytes steps is)
+
+pub bytes_same : (cell : Cell) (bytes v : Vec ℕ) (new : List ℕ) → v ≡ bytes → cell ≡ cells.Bytes bytes → length new ≡ v.len → new ≡ bytes.items → held (cells.Bytes (with_items v new)) ≡ held cell
+bytes_same cell bytes v new here is long same = bytes_are (with_items v new) ∙ ap packed_bytes (with_items_is v new long ∙ same) ∙ sym (ap held is ∙ bytes_are bytes)
 
 same_parts : (it : Parts) (step : ℕ) → changed_in (λ x. x) it step ≡ it
 same_parts none step = refl
