@@ -1,8 +1,8 @@
 -- Arrays whose elements are read or replaced in a run.
-use Rattle.std.proofs.Common.{◌≡◌, ap, sym, subst, refl, ◌∙◌, map, List, [], ◌∷◌, ◌++◌, ℕ, zero, suc, ◌+◌, ◌≤◌, ℤ, pos, length, take, drop, arith, Option, Some, None, Result, Ok, Err, OnOk, leb, cond, Bool, true, false}
+use Rattle.std.proofs.Common.{◌≡◌, ap, sym, subst, refl, ◌∙◌, map, List, [], ◌∷◌, ◌++◌, ℕ, zero, suc, ◌+◌, ◌-◌, ◌≤◌, ℤ, pos, length, replicate, take, drop, arith, Option, Some, None, Result, Ok, Err, OnOk, leb, cond, Bool, true, false}
 use Rattle.std.specs.Global.{Vec}
 use Rattle.std.proofs.lemmas.Bool.{le-leb}
-use Rattle.std.proofs.lemmas.List.{map-append, length-map, drop-map}
+use Rattle.std.proofs.lemmas.List.{map-append, length-map, drop-map, take_all}
 use Rattle.std.specs.List.{take-map}
 use borrow.Rule.Slice.PartMut.{put_mid}
 use Rattle.go_value.specs.Values as vals
@@ -51,6 +51,26 @@ pub numbers_pushed : (ints more : List ℤ) → packed (ints ++ more) ≡ with_e
 numbers_pushed ints more =
     ap (λ (fields : List Field). parts (parts_of fields)) (map-append plain_number ints more ∙ ap (λ fs. map plain_number ints ++ fs) (sym (numbers_plain more)))
     ∙ ap parts (sym (extended_fields (map number more) (map plain_number ints)))
+
+pub times_mapped : {X Y : Type 0} (f : X → Y) (times : ℕ) (it : X) → map f (replicate times it) ≡ replicate times (f it)
+times_mapped f zero it = refl
+times_mapped f (suc times) it = ap (λ ys. f it ∷ ys) (times_mapped f times it)
+
+pub number_times : (ints : List ℤ) (times : ℕ) (n : ℤ) → packed (ints ++ replicate times n) ≡ with_elements (replicate times (number n)) (packed ints)
+number_times ints times n =
+    numbers_pushed ints (replicate times n) ∙ ap (λ vs. with_elements vs (packed ints)) (times_mapped number times n)
+
+pub byte_times : (bytes : List ℕ) (times b : ℕ) → packed_bytes (bytes ++ replicate times b) ≡ with_elements (replicate times (number (pos b))) (packed_bytes bytes)
+byte_times bytes times b =
+    ap packed (map-append pos bytes (replicate times b) ∙ ap (λ xs. map pos bytes ++ xs) (times_mapped pos times b))
+    ∙ number_times (map pos bytes) times (pos b)
+
+-- what is longer than before by so many
+pub resized : {X : Type 0} (xs new : List X) (len times room : ℕ) (it : X) → len ≡ length xs → room ≡ len + times → new ≡ take room xs ++ replicate (room - len) it → new ≡ xs ++ replicate times it
+resized xs new len times room it long is made =
+    let more : room - len ≡ times = omega arith in
+    let all : length xs ≤ room = omega arith in
+    made ∙ ap (λ ys. ys ++ replicate (room - len) it) (take_all room xs all) ∙ ap (λ n. xs ++ replicate n it) more
 
 -- ---- what is replaced
 

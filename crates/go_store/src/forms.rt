@@ -119,6 +119,11 @@ pub(crate) fn make_alike(alloc: Global, array: &mut Cell, other: &mut Cell) -> R
     Ok(())
 }
 
+/// Whether a cell is an array of integers in one of the two forms.
+pub(crate) fn is_packed(cell: &Cell) -> bool {
+    is_bytes(cell) || is_ints(cell)
+}
+
 fn is_bytes(cell: &Cell) -> bool {
     match cell {
         Cell::Bytes(_) => true,

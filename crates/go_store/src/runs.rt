@@ -9,7 +9,7 @@ ghost use Rattle.go_store.specs.Arrays.{array_of, run_of, with_elements, with_ru
 ghost use Rattle.go_store.specs.Cells.{held, held_in, packed, packed_bytes, spread, updated};
 
 use crate::cells::{Cell, Place, cell_of_copy, copy_cell};
-use crate::forms::{are_bytes, ints_of, make_alike, narrow_onto, widen, widen_onto};
+use crate::forms::{are_bytes, ints_of, is_packed, make_alike, narrow_onto, widen, widen_onto};
 use crate::leaves::integer;
 use crate::memory::lost;
 use crate::parts::whole_int;
@@ -128,9 +128,70 @@ pub(crate) fn push_times(
 ) -> Result<(), NoMemory>
     ensures { OnOk result (held array.new ≡ with_elements (replicate times (value_of value.now)) (held array.old)) }
 {
+    match integer(value) {
+        Some(number) if is_packed(array) => push_number_times(alloc, array, number, times),
+        _ => push_copies_of(alloc, array, value, times),
+    }
+}
+
+fn push_copies_of(
+    alloc: Global,
+    array: &mut Cell,
+    value: &Value,
+    times: usize,
+) -> Result<(), NoMemory>
+    ensures { OnOk result (held array.new ≡ with_elements (replicate times (value_of value.now)) (held array.old)) }
+{
     for _ in 0..times {
         push_element(alloc, array, cell_of_copy(alloc, value)?)?;
     }
+    Ok(())
+}
+
+fn push_number_times(
+    alloc: Global,
+    array: &mut Cell,
+    number: i128,
+    times: usize,
+) -> Result<(), NoMemory>
+    ensures { OnOk result (held array.new ≡ with_elements (replicate times (vals.number number)) (held array.old)) }
+{
+    if u8::try_from(number).is_err() {
+        widen(alloc, array)?;
+    }
+    fill(array, number, times)
+}
+
+fn fill(array: &mut Cell, number: i128, times: usize) -> Result<(), NoMemory>
+    ensures { OnOk result (held array.new ≡ with_elements (replicate times (vals.number number)) (held array.old)) }
+{
+    match array {
+        Cell::Ints(ints) => fill_ints(ints, number, times),
+        Cell::Bytes(bytes) => fill_bytes(bytes, number, times),
+        Cell::One(_) | Cell::Many(_) => Err(lost()),
+    }
+}
+
+fn fill_ints(ints: &mut Vec<i128>, number: i128, times: usize) -> Result<(), NoMemory>
+    ensures { OnOk result (packed ints.new.items ≡ with_elements (replicate times (vals.number number)) (packed ints.old.items)) }
+{
+    let Some(len) = ints.len().checked_add(times) else {
+        return Err(lost());
+    };
+    ints.resize(len, number)?;
+    Ok(())
+}
+
+fn fill_bytes(bytes: &mut Vec<u8>, number: i128, times: usize) -> Result<(), NoMemory>
+    ensures { OnOk result (packed_bytes bytes.new.items ≡ with_elements (replicate times (vals.number number)) (packed_bytes bytes.old.items)) }
+{
+    let Ok(byte) = u8::try_from(number) else {
+        return Err(lost());
+    };
+    let Some(len) = bytes.len().checked_add(times) else {
+        return Err(lost());
+    };
+    bytes.resize(len, byte)?;
     Ok(())
 }
 

@@ -6,7 +6,7 @@ use Rattle.go_value.specs.Values.{Val, value_of}
 use Rattle.go_store.specs.Arrays.{with_elements}
 use Rattle.go_store.specs.Cells.{held}
 use Rattle.go_store.proofs.Lengthened.{once_more, no_more}
-use Rattle.go_store.proofs.runs.push_times.Goals as goal
+use Rattle.go_store.proofs.runs.push_copies_of.Goals as goal
 
 pub loop-init : goal.loop-init
 loop-init c = sym (no_more (held c.args.array.now))
