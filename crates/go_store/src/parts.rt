@@ -8,7 +8,7 @@ ghost use Rattle.go_store.specs.Cells.{held, packed, packed_bytes, read_at, writ
 
 use crate::cells::{Cell, whole};
 use crate::forms::ints_of;
-use crate::leaves::integer;
+use crate::leaves::{Leaf, integer};
 use crate::memory::lost;
 use go_base::NoMemory;
 use go_value::Value;
@@ -117,13 +117,8 @@ pub(crate) fn part<'a>(cell: &'a Cell, steps: &[u32]) -> Option<&'a Cell>
     }
 }
 
-/// Puts a new cell in the place of a part; `new` holds what stood there after it.
-pub(crate) fn write(
-    alloc: Global,
-    cell: &mut Cell,
-    steps: &[u32],
-    new: &mut Cell,
-) -> Result<(), NoMemory>
+/// Puts a new cell, which is no integer, in the place of a part; `new` holds what stood there after it.
+pub(crate) fn write(cell: &mut Cell, steps: &[u32], new: &mut Cell) -> Result<(), NoMemory>
     ensures ok { OnOk result (held cell.new ≡ written_at (held new.old) (held cell.old) steps.now) }
     ensures there { OnOk result (IsSome (read_at (held cell.old) steps.now)) }
     ensures err { OnErr result (held cell.new ≡ held cell.old) }
@@ -134,16 +129,46 @@ pub(crate) fn write(
     };
     match cell {
         Cell::Many(places) => match places.get_mut(*step as usize) {
-            Some(place) => write(alloc, &mut place.cell, rest, new),
+            Some(place) => write(&mut place.cell, rest, new),
             None => Err(lost()),
         },
-        Cell::Ints(ints) => match whole_int(new) {
-            Some(number) => write_number(ints.as_mut_slice(), *step, rest, number),
+        Cell::Ints(_) | Cell::Bytes(_) | Cell::One(_) => Err(lost()),
+    }
+}
+
+/// Puts an integer in the place of a part.
+pub(crate) fn write_int(
+    alloc: Global,
+    cell: &mut Cell,
+    steps: &[u32],
+    number: i128,
+) -> Result<(), NoMemory>
+    ensures ok { OnOk result (held cell.new ≡ written_at (vals.number number) (held cell.old) steps.now) }
+    ensures there { OnOk result (IsSome (read_at (held cell.old) steps.now)) }
+    ensures err { OnErr result (held cell.new ≡ held cell.old) }
+{
+    let Some((step, rest)) = steps.split_first() else {
+        become_int(cell, number);
+        return Ok(());
+    };
+    match cell {
+        Cell::Many(places) => match places.get_mut(*step as usize) {
+            Some(place) => write_int(alloc, &mut place.cell, rest, number),
             None => Err(lost()),
         },
-        Cell::Bytes(_) => write_in_bytes(alloc, cell, *step, rest, new),
+        Cell::Ints(ints) => write_number(ints.as_mut_slice(), *step, rest, number),
+        Cell::Bytes(_) => write_in_bytes(alloc, cell, *step, rest, number),
         Cell::One(_) => Err(lost()),
     }
+}
+
+#[tactic(auto, using(crate::proofs::Held::one_is, go_value::proofs::Variants::int_is))]
+fn become_int(cell: &mut Cell, number: i128)
+    ensures { held cell.new ≡ vals.number number }
+{
+    *cell = Cell::One(Leaf {
+        value: Value::Int(number),
+    });
 }
 
 /// Puts an integer in the place of one of an array of bytes, which keeps 16 bytes an integer from then on where the new
@@ -153,15 +178,12 @@ fn write_in_bytes(
     cell: &mut Cell,
     step: u32,
     rest: &[u32],
-    new: &Cell,
+    number: i128,
 ) -> Result<(), NoMemory>
-    ensures ok { OnOk result (held cell.new ≡ written_at (held new.now) (held cell.old) (step ∷ rest.now)) }
+    ensures ok { OnOk result (held cell.new ≡ written_at (vals.number number) (held cell.old) (step ∷ rest.now)) }
     ensures there { OnOk result (IsSome (read_at (held cell.old) (step ∷ rest.now))) }
     ensures err { OnErr result (held cell.new ≡ held cell.old) }
 {
-    let Some(number) = whole_int(new) else {
-        return Err(lost());
-    };
     match u8::try_from(number) {
         Ok(byte) => write_byte(cell, step, rest, byte),
         Err(_) => write_wide(alloc, cell, step, rest, number),

@@ -5,11 +5,13 @@ ghost use Rattle.go_value.specs.Address.{part_of};
 ghost use Rattle.go_value.specs.Gives.{FaultsIff};
 ghost use Rattle.go_store.specs.Cells.{held, integer_in};
 ghost use Rattle.go_store.specs.Stores.{stored, made, part_in, loaded, with_part_in, put_in};
+ghost use Rattle.go_value.specs.Values as vals;
 ghost use Rattle.go_value.specs.Values.{value_of};
 
 use crate::cells::{Cell, cell_of};
+use crate::leaves::integer;
 use crate::memory::lost;
-use crate::parts::{read, read_int, write};
+use crate::parts::{read, read_int, write, write_int};
 use go_base::{CellId, NoMemory};
 use go_maps::Maps;
 use go_value::{Address, Fault, Form, Pointer, Value, ValueError};
@@ -128,6 +130,36 @@ impl Store {
         ensures there { OnOk result (IsSome (part_in (stored self.old) cell steps.now)) }
         ensures err { OnErr result (stored self.new ≡ stored self.old) }
     {
+        match integer(&value) {
+            Some(number) => {
+                drop(value);
+                self.write_int_part(cell, steps, number)
+            }
+            None => self.write_value_part(cell, steps, value),
+        }
+    }
+
+    fn write_int_part(&mut self, cell: CellId, steps: &[u32], number: i128) -> Result<(), NoMemory>
+        ensures ok { OnOk result (stored self.new ≡ with_part_in (λ _. vals.number number) (stored self.old) cell steps.now) }
+        ensures there { OnOk result (IsSome (part_in (stored self.old) cell steps.now)) }
+        ensures err { OnErr result (stored self.new ≡ stored self.old) }
+    {
+        match self.cells.get_mut(cell.number as usize) {
+            Some(cell) => write_int(self.alloc, cell, steps, number),
+            None => Err(lost()),
+        }
+    }
+
+    fn write_value_part(
+        &mut self,
+        cell: CellId,
+        steps: &[u32],
+        value: Value,
+    ) -> Result<(), NoMemory>
+        ensures ok { OnOk result (stored self.new ≡ with_part_in (λ _. value_of value) (stored self.old) cell steps.now) }
+        ensures there { OnOk result (IsSome (part_in (stored self.old) cell steps.now)) }
+        ensures err { OnErr result (stored self.new ≡ stored self.old) }
+    {
         let mut new = cell_of(self.alloc, value)?;
         let written = self.write_cell(cell, steps, &mut new);
         drop(new);
@@ -140,7 +172,7 @@ impl Store {
         ensures err { OnErr result (stored self.new ≡ stored self.old) }
     {
         match self.cells.get_mut(cell.number as usize) {
-            Some(cell) => write(self.alloc, cell, steps, new),
+            Some(cell) => write(cell, steps, new),
             None => Err(lost()),
         }
     }
