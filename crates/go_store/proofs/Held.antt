@@ -1,6 +1,5 @@
 -- What a cell holds, by its variant.
-use Rattle.std.proofs.Common.{◌≡◌, ◌+◌, ap, sym, refl, ◌∙◌, map, List, [], ◌∷◌, ◌++◌, Option, Some, None, ℕ, zero, suc, ℤ, pos, slice_get, Bool, false}
-use Rattle.std.specs.Option.{option_map}
+use Rattle.std.proofs.Common.{◌≡◌, ◌+◌, ap, sym, refl, ◌∙◌, map, List, [], ◌∷◌, ◌++◌, ℕ, ℤ, pos, Bool, false}
 use Rattle.go_store.specs.declared.cells.Cell.{Cell}
 use Rattle.go_store.specs.declared.leaves.Leaf.{Leaf}
 use Rattle.go_store.specs.declared.cells.Place.{Place}
@@ -14,7 +13,7 @@ use Rattle.go_value.specs.declared.values.Value.{Value}
 use Rattle.go_value.specs.declared.values.Value.TheVariants as values
 use Rattle.go_value.proofs.KindOf.{not_parts}
 use Rattle.go_value.proofs.Variants.{part_is, int_is, parts_is}
-use Rattle.go_value.specs.Values.{Val, Field, Parts, parts, parts_of, value_of, part_of}
+use Rattle.go_value.specs.Values.{Val, Field, parts, parts_of, value_of, part_of}
 use Rattle.go_store.specs.Cells.{held, place_of, cell_layer, place_layer, packed, packed_bytes, plain_number}
 
 abbrev seen : Cell-F Cell Place → Val

@@ -1,5 +1,5 @@
 -- Parts that are integers.
-use Rattle.std.proofs.Common.{◌≡◌, ◌<◌, List, length, get_or, false, is_none, subst, sym, ap, refl, ◌∙◌, Bool, Option, Some, None, ℕ, ℤ, pos}
+use Rattle.std.proofs.Common.{◌≡◌, ◌<◌, List, length, get_or, false, is_none, subst, sym, ap, ◌∙◌, Option, Some, None, ℕ, ℤ, pos}
 use Rattle.std.proofs.lemmas.List.{get_or_default}
 use Rattle.go_value.specs.Kinds.{integer}
 use Rattle.go_value.specs.Values as vals

@@ -1,8 +1,7 @@
 -- Arrays with further elements.
-use Rattle.std.proofs.Common.{◌≡◌, ap, sym, refl, ◌∙◌, map, List, [], ◌∷◌, ◌++◌, ℕ, suc, ◌+◌, ℤ, pos, ◌<◌, length, take, get_or, replicate, false}
+use Rattle.std.proofs.Common.{◌≡◌, ap, sym, refl, ◌∙◌, map, List, [], ◌∷◌, ◌++◌, ℕ, ◌+◌, ℤ, pos, ◌<◌, length, take, get_or, replicate, false}
 use Rattle.std.specs.Global.{Vec}
 use Rattle.std.proofs.lemmas.List.{map-append, take_more, replicate-append-replicate}
-use Rattle.go_value.specs.Kinds.{integer}
 use Rattle.go_value.specs.Values as vals
 use Rattle.go_value.specs.Values.{Val, Field, Parts, parts, none, part, parts_of, number, value_of}
 use Rattle.go_value.specs.declared.values.Value.{Value}

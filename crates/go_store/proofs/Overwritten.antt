@@ -1,13 +1,13 @@
 -- Arrays whose elements are read or replaced in a run.
-use Rattle.std.proofs.Common.{◌≡◌, ap, sym, subst, refl, ◌∙◌, map, List, [], ◌∷◌, ◌++◌, ℕ, zero, suc, ◌+◌, ◌-◌, ◌≤◌, ℤ, pos, length, replicate, take, drop, arith, Option, Some, None, Result, Ok, Err, OnOk, leb, cond, Bool, true, false}
+use Rattle.std.proofs.Common.{◌≡◌, ap, sym, subst, refl, ◌∙◌, map, List, [], ◌∷◌, ◌++◌, ℕ, zero, suc, ◌+◌, ◌-◌, ◌≤◌, ℤ, pos, length, replicate, take, drop, arith, Some, None, Result, Ok, Err, OnOk, cond}
 use Rattle.std.specs.Global.{Vec}
 use Rattle.std.proofs.lemmas.Bool.{le-leb}
 use Rattle.std.proofs.lemmas.List.{map-append, length-map, drop-map, take_all}
 use Rattle.std.specs.List.{take-map}
 use borrow.Rule.Slice.PartMut.{put_mid}
 use Rattle.go_value.specs.Values as vals
-use Rattle.go_value.specs.Values.{Val, Field, Parts, parts, none, part, parts_of, number}
-use Rattle.go_store.specs.Arrays.{elements, extended, overwritten, run_of, run_among, values_in, with_elements, with_run}
+use Rattle.go_value.specs.Values.{Val, Field, parts, part, parts_of, number}
+use Rattle.go_store.specs.Arrays.{elements, overwritten, run_of, run_among, values_in, with_elements, with_run}
 use Rattle.go_store.specs.Cells.{held, held_in, packed, packed_bytes, spread, place_of, plain_number}
 use Rattle.go_store.specs.declared.cells.Place.{Place}
 use Rattle.go_store.specs.declared.cells.Cell.{Cell}

@@ -8,7 +8,7 @@ use Rattle.std.proofs.Math.Dec.{eqb-suc-zero}
 use Rattle.std.proofs.lemmas.Bool.{true≢false}
 use Rattle.std.specs.Vec.{with_items}
 use Rattle.std.proofs.lemmas.List.{length-map, map-set, with_items_is}
-use Rattle.go_value.specs.Kinds.{integer, has_parts, renumbered}
+use Rattle.go_value.specs.Kinds.{integer, has_parts}
 use Rattle.go_value.specs.Values as vals
 use Rattle.go_value.specs.Values.{Val, Field, Parts, parts, none, part, parts_of, number, value_of}
 use Rattle.go_store.specs.Cells.{held, packed, packed_bytes, place_of, plain_number, value_in, value_at, read_at, changed_in, changed_at, updated, written_at, integer_in}
@@ -18,7 +18,7 @@ use Rattle.go_store.specs.declared.cells.Place.{Place}
 use Rattle.go_store.specs.declared.cells.Cell.TheVariants as cells
 use Rattle.go_store.specs.declared.cells.Cell.TheOpen as layers
 use Rattle.go_store.specs.declared.cells.Cell.TheViews.{roll-Cell}
-use Rattle.go_value.proofs.KindOf.{not_int, other_renumbered}
+use Rattle.go_value.proofs.KindOf.{not_int}
 use Rattle.go_value.proofs.Variants.{int_is}
 use Rattle.go_value.specs.declared.values.Value.TheVariants as values
 use Rattle.go_store.proofs.Integers.{integer_from}
@@ -99,16 +99,6 @@ changed_fields change [] k f h = cc
 changed_fields change (g ∷ fields) zero f h = let same : g ≡ f = cc in ap (λ (x : Field). part (change x.value) x.blank (parts_of fields)) same
 changed_fields change (g ∷ fields) (suc k) f h = ap (part g.value g.blank) (changed_fields change fields k f h)
 
-unchanged_fields : (change : Val → Val) (fields : List Field) (k : ℕ) → slice_get fields k ≡ None → changed_in change (parts_of fields) k ≡ parts_of fields
-unchanged_fields change [] k h = refl
-unchanged_fields change (g ∷ fields) zero h = cc
-unchanged_fields change (g ∷ fields) (suc k) h = ap (part g.value g.blank) (unchanged_fields change fields k h)
-
-kept_fields : (change : Val → Val) (fields : List Field) (k : ℕ) → ((f : Field) → slice_get fields k ≡ Some f → change f.value ≡ f.value) → changed_in change (parts_of fields) k ≡ parts_of fields
-kept_fields change [] k h = refl
-kept_fields change (g ∷ fields) zero h = ap (λ v. part v g.blank (parts_of fields)) (h g refl)
-kept_fields change (g ∷ fields) (suc k) h = ap (part g.value g.blank) (kept_fields change fields k h)
-
 abbrev pub changed_place : (Val → Val) → List ℕ → Place → Cell → Type 0
 changed_place change rest p cell = held cell ≡ updated change (held p.cell) rest
 
@@ -123,16 +113,10 @@ write_many change places step rest p cell there h =
     ap (λ (fields : List Field). parts (parts_of fields)) (map-set place_of places step (record { cell = cell; blank = p.blank }) ∙ ap (slice_set (map place_of places) step) (place_changed change rest p cell h))
     ∙ ap parts (sym (changed_fields (λ inner. updated change inner rest) (map place_of places) step (place_of p) (slice_get-map place_of places step ∙ ap (option_map place_of) there)))
 
-pub write_past : (change : Val → Val) (places : List Place) (step : ℕ) (rest : List ℕ) → slice_get places step ≡ None → updated change (parts (parts_of (map place_of places))) (step ∷ rest) ≡ parts (parts_of (map place_of places))
-write_past change places step rest past = ap parts (unchanged_fields (λ inner. updated change inner rest) (map place_of places) step (slice_get-map place_of places step ∙ ap (option_map place_of) past))
-
 pub write_packed : (change : Val → Val) (ints : List ℤ) (step : ℕ) (old new : ℤ) → slice_get ints step ≡ Some old → change (number old) ≡ number new → packed (slice_set ints step new) ≡ updated change (packed ints) (step ∷ [])
 write_packed change ints step old new there same =
     ap (λ (fields : List Field). parts (parts_of fields)) (map-set plain_number ints step new ∙ ap (λ v. slice_set (map plain_number ints) step (record { value = v; blank = false })) (sym same))
     ∙ ap parts (sym (changed_fields change (map plain_number ints) step (plain_number old) (slice_get-map plain_number ints step ∙ ap (option_map plain_number) there)))
-
-pub write_packed_past : (change : Val → Val) (ints : List ℤ) (step : ℕ) (rest : List ℕ) → slice_get ints step ≡ None → updated change (packed ints) (step ∷ rest) ≡ packed ints
-write_packed_past change ints step rest past = ap parts (unchanged_fields (λ inner. updated change inner rest) (map plain_number ints) step (slice_get-map plain_number ints step ∙ ap (option_map plain_number) past))
 
 plain_at : (ints : List ℤ) (k : ℕ) (f : Field) → slice_get (map plain_number ints) k ≡ Some f → (n : ℤ) × (f ≡ plain_number n)
 plain_at [] k f h = cc
@@ -140,34 +124,6 @@ plain_at (n ∷ ints) zero f h = (n, cc)
 plain_at (n ∷ ints) (suc k) f h = plain_at ints k f h
 
 -- an integer has no parts
-pub write_packed_deeper : (change : Val → Val) (ints : List ℤ) (step next : ℕ) (rest : List ℕ) → updated change (packed ints) (step ∷ (next ∷ rest)) ≡ packed ints
-write_packed_deeper change ints step next rest =
-    ap parts (kept_fields (λ inner. updated change inner (next ∷ rest)) (map plain_number ints) step (λ f there. let plain = plain_at ints step f there in ap (λ (x : Field). changed_at (λ inner. updated change inner rest) x.value next) plain.1 ∙ sym (ap (λ (x : Field). x.value) plain.1)))
-
-still : (change : Val → Val) (it : Val) (step : ℕ) → has_parts it ≡ false → changed_at change it step ≡ it
-still change (vals.truth a) step h = refl
-still change (vals.number a) step h = refl
-still change (vals.text a) step h = refl
-still change (vals.pointer a) step h = refl
-still change (vals.slice a) step h = refl
-still change (vals.map_number a) step h = refl
-still change (vals.chan_number a) step h = refl
-still change vals.nil_function step h = refl
-still change (vals.closure a b) step h = refl
-still change (vals.bound a b) step h = refl
-still change (vals.expression a b c) step h = refl
-still change vals.nil_interface step h = refl
-still change (vals.dynamic a b) step h = refl
-still change (vals.parts a) step h = cc
-still change (vals.text_range a b) step h = refl
-still change (vals.map_range a b) step h = refl
-
-pub write_one : (change : Val → Val) (leaf : Leaf) (step : ℕ) (rest : List ℕ) → updated change (held (cells.One leaf)) (step ∷ rest) ≡ held (cells.One leaf)
-write_one change leaf step rest =
-    ap (λ it. updated change it (step ∷ rest)) (one_is leaf)
-    ∙ still (λ inner. updated change inner rest) (value_of leaf.value) step leaf.whole
-    ∙ sym (one_is leaf)
-
 pub int_integer : (it : ℤ) → integer (value_of (values.Int it)) ≡ Some it
 int_integer it = ap integer (int_is it)
 
@@ -190,9 +146,6 @@ one_rolled leaf = ap held (cells.rolls-One leaf) ∙ one_is leaf
 
 pub ints_rolled : (ints : Vec ℤ) → held (roll-Cell (layers.Cell-F.Ints ints)) ≡ packed ints.items
 ints_rolled ints = ap held (cells.rolls-Ints ints) ∙ ints_are ints
-
-pub bytes_rolled : (bytes : Vec ℕ) → held (roll-Cell (layers.Cell-F.Bytes bytes)) ≡ packed_bytes bytes.items
-bytes_rolled bytes = ap held (cells.rolls-Bytes bytes) ∙ bytes_are bytes
 
 pub many_rolled : (places : Vec Place) → held (roll-Cell (layers.Cell-F.Many places)) ≡ parts (parts_of (map place_of places.items))
 many_rolled places = ap held (cells.rolls-Many places) ∙ many_are places
@@ -285,21 +238,11 @@ pub byte_there : (bytes : List ℕ) (step : ℕ) (rest : List ℕ) → rest ≡ 
 byte_there bytes step rest end below =
     subst (λ o. IsSome o) (sym (number_there (map pos bytes) step rest end (below_mapped bytes step below))) refl
 
-pub number_past : (change : Val → Val) (ints : List ℤ) (step : ℕ) (rest : List ℕ) → length ints ≤ step → packed ints ≡ updated change (packed ints) (step ∷ rest)
-number_past change ints step rest past = sym (write_packed_past change ints step rest (slice_get_past ints step past))
-
-pub number_kept : (change : Val → Val) (ints : List ℤ) (step : ℕ) (rest : List ℕ) (b : Bool) → b ≡ (length rest == 0) → b ≡ false → packed ints ≡ updated change (packed ints) (step ∷ rest)
-number_kept change ints step [] b h e = absurd (true≢false (sym h ∙ e))
-number_kept change ints step (next ∷ rest) b h e = sym (write_packed_deeper change ints step next rest)
-
 pub updated_into : (change : Val → Val) (cell : Cell) (steps : List ℕ) (places : Vec Place) (step : ℕ) (rest : List ℕ) → cell ≡ cells.Many places → steps ≡ step ∷ rest → updated change (held cell) steps ≡ updated change (parts (parts_of (map place_of places.items))) (step ∷ rest)
 updated_into change cell steps places step rest is split = ap (λ s. updated change (held cell) s) split ∙ ap (λ c. updated change (held c) (step ∷ rest)) is ∙ ap (λ it. updated change it (step ∷ rest)) (many_are places)
 
 pub updated_ints : (change : Val → Val) (cell : Cell) (steps : List ℕ) (ints : Vec ℤ) (step : ℕ) (rest : List ℕ) → cell ≡ cells.Ints ints → steps ≡ step ∷ rest → updated change (held cell) steps ≡ updated change (packed ints.items) (step ∷ rest)
 updated_ints change cell steps ints step rest is split = ap (λ s. updated change (held cell) s) split ∙ ap (λ c. updated change (held c) (step ∷ rest)) is ∙ ap (λ it. updated change it (step ∷ rest)) (ints_are ints)
-
-pub updated_leaf : (change : Val → Val) (cell : Cell) (steps : List ℕ) (leaf : Leaf) (step : ℕ) (rest : List ℕ) → cell ≡ cells.One leaf → steps ≡ step ∷ rest → updated change (held cell) steps ≡ held cell
-updated_leaf change cell steps leaf step rest is split = ap (λ s. updated change (held cell) s) split ∙ ap (λ c. updated change (held c) (step ∷ rest)) is ∙ write_one change leaf step rest ∙ ap held (sym is)
 
 -- a place of an array is written
 pub place_written : (change : Val → Val) (cell : Cell) (steps : List ℕ) (places : Vec Place) (step : ℕ) (rest : List ℕ) (p : Place) (new : Cell) (after : Vec Place) → cell ≡ cells.Many places → steps ≡ step ∷ rest → slice_get places.items step ≡ Some p → held new ≡ updated change (held p.cell) rest → after.items ≡ slice_set places.items step (record { cell = new; blank = p.blank }) → held (cells.Many after) ≡ updated change (held cell) steps
@@ -307,13 +250,6 @@ place_written change cell steps places step rest p new after is split there same
     many_are after
     ∙ ap (λ (items : List Place). parts (parts_of (map place_of items))) set
     ∙ write_many change places.items step rest p new there same
-    ∙ sym (updated_into change cell steps places step rest is split)
-
-pub place_kept : (change : Val → Val) (cell : Cell) (steps : List ℕ) (places : Vec Place) (step : ℕ) (rest : List ℕ) (after : Vec Place) → cell ≡ cells.Many places → steps ≡ step ∷ rest → slice_get places.items step ≡ None → after.items ≡ places.items → held (cells.Many after) ≡ updated change (held cell) steps
-place_kept change cell steps places step rest after is split past same =
-    many_are after
-    ∙ ap (λ (items : List Place). parts (parts_of (map place_of items))) same
-    ∙ sym (write_past change places.items step rest past)
     ∙ sym (updated_into change cell steps places step rest is split)
 
 pub past_get : {X : Type 0} (xs ys : List X) (i : ℕ) → xs ≡ ys → length xs ≤ i → slice_get ys i ≡ None

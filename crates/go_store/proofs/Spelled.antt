@@ -1,7 +1,6 @@
 -- Texts and the integers that they are made of.
-use Rattle.std.proofs.Common.{◌≡◌, ◌<◌, ◌≤◌, ◌+◌, ℕ, zero, suc, ℤ, pos, ap, sym, refl, subst, ◌∙◌, inl, inr, map, List, [], ◌∷◌, ◌++◌, drop, take, get_or, length, Option, Some, None, IsSome, ◌-◌, false, unwrap_or, Result, Ok, Err, OnOk, OnErr, arith, add-one, append_assoc, length-drop}
+use Rattle.std.proofs.Common.{◌≡◌, ◌<◌, ◌≤◌, ◌+◌, ℕ, zero, suc, ℤ, pos, ap, sym, refl, subst, ◌∙◌, inl, inr, map, List, [], ◌∷◌, ◌++◌, drop, take, get_or, length, Option, Some, None, IsSome, ◌-◌, false, unwrap_or, Result, OnOk, OnErr, arith, append_assoc, length-drop}
 use Rattle.std.specs.List.{flat_map}
-use Rattle.std.specs.Char.{encode_utf8}
 use Rattle.std.proofs.lemmas.Bool.{false≢true}
 use Rattle.std.proofs.lemmas.List.{append-nil, length-map, map-append, take_more, drop_all, drop-drop}
 use Rattle.std.proofs.lemmas.List.Concat.{flat_map-append}
@@ -10,9 +9,8 @@ use Rattle.bstr.proofs.lemmas.EncodeLemmas.{decoded-encode}
 use Rattle.bstr.proofs.lemmas.PieceLemmas.{piece-bounds}
 use Rattle.go_value.specs.Gives.{Gives}
 use Rattle.go_value.specs.Runes.{IsFirstRune, no_rune}
-use Rattle.go_value.specs.Values.{Val, number, parts, none, part}
+use Rattle.go_value.specs.Values.{Val, number, parts, part}
 use Rattle.go_value.specs.Values.{parts_of}
-use Rattle.go_value.specs.declared.faults.Fault.{Fault}
 use Rattle.go_value.specs.declared.faults.ValueError.{ValueError}
 use Rattle.go_value.proofs.RuneAt.{first_rune, none_first}
 use Rattle.go_store.specs.Arrays.{array_of, elements, with_elements}

@@ -17,7 +17,6 @@ use borrow.Enum.Known as known
 use borrow.Enum.Known.{choose}
 use borrow.Enum.Total.{values_o, peek_at}
 use borrow.Enum.Lend.{put_if, put_payload_o, put_payload_o_as}
-use borrow.Struct.Lend.{own_same}
 use borrow.Struct.Alike.{lies_alike}
 use Rattle.std.specs.contracts.vec.Vec as vec
 use Rattle.std.specs.contracts.alloc.Global as allocs
@@ -33,7 +32,6 @@ use Rattle.go_store.proofs.cells.Cell.TheLaws as cell_laws
 use Rattle.go_store.proofs.cells.Cell.TheLaws.TheKnot as knot_laws
 use Rattle.go_store.specs.declared.cells.Cell.{Cell}
 use Rattle.go_store.specs.declared.cells.Place.{Place}
-use Rattle.go_store.specs.declared.leaves.Leaf.{Leaf}
 use Rattle.go_store.specs.declared.cells.Cell.TheVariants as cells
 use Rattle.go_store.specs.declared.cells.Cell.TheOpen as layers
 use Rattle.go_store.specs.declared.cells.Cell.TheOpen.{Cell-F}
@@ -101,23 +99,3 @@ pub put_many_is : (x : Cell) (old new : Vec Place) → x ≡ cells.Many old → 
 put_many_is x old new is =
     ap (λ (z : Cell). put_many z new) is
     ∙ ap (λ (layer : Layer). put_many_by layer (cells.Many old) new) (cells.outs-Many old)
-
-abbrev pub put_one : Cell → Leaf → Cell
-put_one x y = put_payload_o_as contract.the_type 0 (leaf_contract.the_field ∷ []) (leaf_laws.the_field_loose, tt {2}) (known.at contract.enum 0)
-    (λ v us i. payload (variants contract.the_type) (intoss contract.enum.parts (contract.enum.beta (choose contract.enum.parts 0 v) i)) us)
-    (λ v i. tag (variants contract.the_type) (intoss contract.enum.parts (contract.enum.beta (choose contract.enum.parts 0 v) i)))
-    (refl {A = Ty} {a = layout (shape contract.the_type)}) 0 16
-    (values_o contract.enum 0)
-    (declared.row leaf_contract.the_type) (λ x. x) (λ x. x) (λ y b o. own_same leaf_contract.the_type y b o) (λ y b o. sym (own_same leaf_contract.the_type y b o)) x y
-
-abbrev put_one_by : Layer → Cell → Leaf → Cell
-put_one_by layer x y = put_if contract.the_type 0 (leaf_contract.the_field ∷ []) (leaf_laws.the_field_loose, tt {2}) (known.at contract.enum 0)
-    (λ v us i. payload (variants contract.the_type) (intoss contract.enum.parts (contract.enum.beta (choose contract.enum.parts 0 v) i)) us)
-    (λ v i. tag (variants contract.the_type) (intoss contract.enum.parts (contract.enum.beta (choose contract.enum.parts 0 v) i)))
-    (refl {A = Ty} {a = layout (shape contract.the_type)}) 0 16
-    (peek_at contract.the_parts 0 (split-Cell the_family layer)) x y
-
-pub put_one_is : (x : Cell) (old new : Leaf) → x ≡ cells.One old → put_one x new ≡ cells.One new
-put_one_is x old new is =
-    ap (λ (z : Cell). put_one z new) is
-    ∙ ap (λ (layer : Layer). put_one_by layer (cells.One old) new) (cells.outs-One old)
