@@ -1,10 +1,8 @@
 -- What append makes of slices and stores.
-use Rattle.std.proofs.Common.{◌≡◌, ap, sym, refl, ◌∙◌, List, [], ◌∷◌, ℕ, zero, suc, ◌+◌, ◌*◌, ◌<◌, ◌≤◌, cond, leb, div-le_self, ◌||◌, ◌==◌, ◌/◌, max, Option, Some, None, Bool, true, false, arith, length}
+use Rattle.std.proofs.Common.{◌≡◌, ap, ◌∙◌, [], ◌∷◌, ℕ, zero, suc, ◌+◌, ◌*◌, ◌<◌, ◌≤◌, cond, leb, div-le_self, ◌||◌, ◌==◌, ◌/◌, max, Some, None, false, arith}
 use Rattle.std.proofs.Math.Dec.{eqb-suc-zero}
 use Rattle.std.proofs.lemmas.Bool.{lt-leb}
-use Rattle.go_value.specs.Values.{Val}
 use Rattle.go_value.specs.declared.address.SliceValue.{SliceValue}
-use Rattle.go_value.specs.declared.faults.Fault.{Fault}
 use Rattle.go_value.specs.declared.faults.Fault.TheVariants as fault
 use Rattle.go_store.specs.Slices.{append_fault, elements_of, most_elements, run_in}
 use Rattle.go_store.specs.Stores.{Stored}

@@ -1,5 +1,5 @@
 -- Cells of a store, one of which is changed.
-use Rattle.std.proofs.Common.{◌≡◌, ap, sym, refl, ◌∙◌, map, List, [], ◌∷◌, Option, Some, None, ℕ, zero, suc, ◌++◌, ◌-◌, length, take, arith, length-append, slice_index, slice_get, slice_set}
+use Rattle.std.proofs.Common.{◌≡◌, ap, sym, refl, ◌∙◌, map, List, [], ◌∷◌, Some, ℕ, zero, suc, ◌++◌, ◌-◌, length, take, arith, length-append, slice_index, slice_get, slice_set}
 use Rattle.std.specs.Option.{option_map, option_and_then, option_map_or}
 use Rattle.std.proofs.lemmas.Option.{slice_get-map}
 use Rattle.go_value.specs.Values.{Val}
@@ -17,11 +17,6 @@ pub cell_changed : (change : Val → Val) (cells : List Cell) (k : ℕ) (cell ne
 cell_changed change [] k cell new there same = cc
 cell_changed change (c ∷ cells) zero cell new there same = let e : c ≡ cell = cc in ap (λ v. v ∷ map held cells) (same ∙ ap (λ x. change (held x)) (sym e))
 cell_changed change (c ∷ cells) (suc k) cell new there same = ap (λ vs. held c ∷ vs) (cell_changed change cells k cell new there same)
-
-pub cell_past : (change : Val → Val) (cells : List Cell) (k : ℕ) → slice_get cells k ≡ None → changed_item change (map held cells) k ≡ map held cells
-cell_past change [] k past = refl
-cell_past change (c ∷ cells) zero past = cc
-cell_past change (c ∷ cells) (suc k) past = ap (λ vs. held c ∷ vs) (cell_past change cells k past)
 
 pub held_at : (cells : List Cell) (k : ℕ) → slice_get (map held cells) k ≡ option_map held (slice_get cells k)
 held_at cells k = slice_get-map held cells k

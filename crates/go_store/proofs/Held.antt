@@ -1,6 +1,5 @@
 -- What a cell holds, by its variant.
-use Rattle.std.proofs.Common.{◌≡◌, ◌+◌, ap, sym, refl, ◌∙◌, map, List, [], ◌∷◌, ◌++◌, Option, Some, None, ℕ, zero, suc, ℤ, slice_get, Bool, false}
-use Rattle.std.specs.Option.{option_map}
+use Rattle.std.proofs.Common.{◌≡◌, ◌+◌, ap, sym, refl, ◌∙◌, map, List, [], ◌∷◌, ◌++◌, ℕ, ℤ, pos, Bool, false}
 use Rattle.go_store.specs.declared.cells.Cell.{Cell}
 use Rattle.go_store.specs.declared.leaves.Leaf.{Leaf}
 use Rattle.go_store.specs.declared.cells.Place.{Place}
@@ -14,8 +13,8 @@ use Rattle.go_value.specs.declared.values.Value.{Value}
 use Rattle.go_value.specs.declared.values.Value.TheVariants as values
 use Rattle.go_value.proofs.KindOf.{not_parts}
 use Rattle.go_value.proofs.Variants.{part_is, int_is, parts_is}
-use Rattle.go_value.specs.Values.{Val, Field, Parts, parts, parts_of, value_of, part_of}
-use Rattle.go_store.specs.Cells.{held, place_of, cell_layer, place_layer, packed, plain_number}
+use Rattle.go_value.specs.Values.{Val, Field, parts, parts_of, value_of, part_of}
+use Rattle.go_store.specs.Cells.{held, place_of, cell_layer, place_layer, packed, packed_bytes, plain_number}
 
 abbrev seen : Cell-F Cell Place → Val
 seen x = cell_layer (map-Cell Cell Place Val Field held place_of x)
@@ -30,12 +29,27 @@ one_is it = ap held (sym (cells.rolls-One it)) ∙ rolled (layers.Cell-F.One it)
 pub ints_are : (it : _) → held (cells.Ints it) ≡ packed it.items
 ints_are it = ap held (sym (cells.rolls-Ints it)) ∙ rolled (layers.Cell-F.Ints it)
 
+pub bytes_are : (it : _) → held (cells.Bytes it) ≡ packed_bytes it.items
+bytes_are it = ap held (sym (cells.rolls-Bytes it)) ∙ rolled (layers.Cell-F.Bytes it)
+
 pub many_are : (it : _) → held (cells.Many it) ≡ parts (parts_of (map place_of it.items))
 many_are it = ap held (sym (cells.rolls-Many it)) ∙ rolled (layers.Cell-F.Many it)
 
 pub place_is : (it : Place) → place_of it ≡ record { value = held it.cell; blank = it.blank }
 unfolding held place_of
 place_is it = fold-roll-Place Val Field cell_layer place_layer (record { cell = it.cell; blank = it.blank })
+
+-- ---- bytes as parts
+
+abbrev pub plain_byte : ℕ → Field
+plain_byte byte = plain_number (pos byte)
+
+pub plain_bytes : (bytes : List ℕ) → map plain_number (map pos bytes) ≡ map plain_byte bytes
+plain_bytes [] = refl
+plain_bytes (b ∷ bytes) = ap (λ fields. plain_byte b ∷ fields) (plain_bytes bytes)
+
+pub bytes_parts : (bytes : List ℕ) → packed_bytes bytes ≡ parts (parts_of (map plain_byte bytes))
+bytes_parts bytes = ap (λ (fields : List Field). parts (parts_of fields)) (plain_bytes bytes)
 
 -- ---- parts and their places
 
@@ -53,5 +67,7 @@ place_again it cell same = place_is (record { cell = cell; blank = it.blank }) �
 
 pub part_of_number : (n : ℤ) → part_of (record { value = values.Int n; blank = false }) ≡ plain_number n
 part_of_number n = part_is (record { value = values.Int n; blank = false }) ∙ ap (λ v. field v false) (int_is n)
+
+pub ruleset of_forms = (one_is, ints_are, bytes_are, many_are)
 
 pub ruleset of_cells = (one_is, parts_is, not_parts)

@@ -1,5 +1,5 @@
 -- Parts that are integers.
-use Rattle.std.proofs.Common.{◌≡◌, ◌<◌, List, length, get_or, false, is_none, subst, sym, ap, refl, ◌∙◌, Bool, Option, Some, None, ℕ, ℤ}
+use Rattle.std.proofs.Common.{◌≡◌, ◌<◌, List, length, get_or, false, is_none, subst, sym, ap, ◌∙◌, Option, Some, None, ℕ, ℤ, pos}
 use Rattle.std.proofs.lemmas.List.{get_or_default}
 use Rattle.go_value.specs.Kinds.{integer}
 use Rattle.go_value.specs.Values as vals
@@ -38,3 +38,10 @@ plain_integer it n h = ap (λ (f : Field). integer f.value) (sym (part_is it) �
 
 pub plain_at : (parts : List Part) (i : ℕ) (d e it : Part) → i < length parts → it ≡ get_or parts i d → IsPlain (part_of it) → IsPlain (part_of (get_or parts i e))
 plain_at parts i d e it below is h = subst (λ x. IsPlain (part_of x)) (is ∙ get_or_default parts i d e below) h
+
+pub plain_byte_from : (it : Part) (n : ℤ) (b : ℕ) → it.blank ≡ false → Some n ≡ integer (value_of it.value) → n ≡ pos b → part_of it ≡ plain_number (pos b)
+plain_byte_from it n b blank is same =
+    part_is it
+    ∙ ap (λ v. record { value = v; blank = it.blank }) (integer_from (value_of it.value) n is)
+    ∙ ap (λ b. record { value = vals.number n; blank = b }) blank
+    ∙ ap plain_number same

@@ -1,17 +1,16 @@
 -- Arrays with further elements.
-use Rattle.std.proofs.Common.{◌≡◌, ap, sym, refl, ◌∙◌, map, List, [], ◌∷◌, ◌++◌, ℕ, suc, ◌+◌, ℤ, ◌<◌, length, take, get_or, replicate, false}
+use Rattle.std.proofs.Common.{◌≡◌, ap, sym, refl, ◌∙◌, map, List, [], ◌∷◌, ◌++◌, ℕ, ◌+◌, ℤ, pos, ◌<◌, length, take, get_or, replicate, false}
 use Rattle.std.specs.Global.{Vec}
 use Rattle.std.proofs.lemmas.List.{map-append, take_more, replicate-append-replicate}
-use Rattle.go_value.specs.Kinds.{integer}
 use Rattle.go_value.specs.Values as vals
 use Rattle.go_value.specs.Values.{Val, Field, Parts, parts, none, part, parts_of, number, value_of}
 use Rattle.go_value.specs.declared.values.Value.{Value}
 use Rattle.go_store.specs.Arrays.{array_of, elements, extended, with_elements}
-use Rattle.go_store.specs.Cells.{held, packed, spread, place_of, plain_number}
+use Rattle.go_store.specs.Cells.{held, packed, packed_bytes, spread, place_of, plain_number}
 use Rattle.go_store.specs.declared.cells.Cell.{Cell}
 use Rattle.go_store.specs.declared.cells.Place.{Place}
 use Rattle.go_store.specs.declared.cells.Cell.TheVariants as cells
-use Rattle.go_store.proofs.Held.{ints_are, many_are, place_is}
+use Rattle.go_store.proofs.Held.{bytes_are, ints_are, many_are, place_is}
 
 abbrev pub plain : Val → Field
 plain it = record { value = it; blank = false }
@@ -26,6 +25,9 @@ extended_fields items (f ∷ fields) = ap (part f.value f.blank) (extended_field
 
 pub number_pushed : (ints : List ℤ) (n : ℤ) → packed (ints ++ (n ∷ [])) ≡ with_elements (vals.number n ∷ []) (packed ints)
 number_pushed ints n = ap (λ (fields : List Field). parts (parts_of fields)) (map-append plain_number ints (n ∷ [])) ∙ ap parts (sym (extended_fields (vals.number n ∷ []) (map plain_number ints)))
+
+pub byte_pushed : (bytes : List ℕ) (b : ℕ) → packed_bytes (bytes ++ (b ∷ [])) ≡ with_elements (vals.number (pos b) ∷ []) (packed_bytes bytes)
+byte_pushed bytes b = ap packed (map-append pos bytes (b ∷ [])) ∙ number_pushed (map pos bytes) (pos b)
 
 pub place_pushed : (places : List Place) (cell : Cell) → spread (places ++ (record { cell = cell; blank = false } ∷ [])) ≡ with_elements (held cell ∷ []) (spread places)
 place_pushed places cell =
@@ -93,6 +95,9 @@ next_item items k it d old now after before step below is =
 
 pub ints_empty : (ints : Vec ℤ) → ints.items ≡ [] → held (cells.Ints ints) ≡ array_of []
 ints_empty ints none_yet = ints_are ints ∙ ap packed none_yet
+
+pub bytes_empty : (bytes : Vec ℕ) → bytes.items ≡ [] → held (cells.Bytes bytes) ≡ array_of []
+bytes_empty bytes none_yet = bytes_are bytes ∙ ap packed_bytes none_yet
 
 pub many_empty : (places : Vec Place) → places.items ≡ [] → held (cells.Many places) ≡ array_of []
 many_empty places none_yet = many_are places ∙ ap spread none_yet

@@ -1,18 +1,18 @@
 -- Arrays whose elements are read or replaced in a run.
-use Rattle.std.proofs.Common.{◌≡◌, ap, sym, subst, refl, ◌∙◌, map, List, [], ◌∷◌, ◌++◌, ℕ, zero, suc, ◌+◌, ◌≤◌, ℤ, length, take, drop, arith, Option, Some, None, Result, Ok, Err, OnOk, leb, cond, Bool, true, false}
+use Rattle.std.proofs.Common.{◌≡◌, ap, sym, subst, refl, ◌∙◌, map, List, [], ◌∷◌, ◌++◌, ℕ, zero, suc, ◌+◌, ◌-◌, ◌≤◌, ℤ, pos, length, replicate, take, drop, arith, Some, None, Result, Ok, Err, OnOk, cond}
 use Rattle.std.specs.Global.{Vec}
 use Rattle.std.proofs.lemmas.Bool.{le-leb}
-use Rattle.std.proofs.lemmas.List.{map-append, length-map, drop-map}
+use Rattle.std.proofs.lemmas.List.{map-append, length-map, drop-map, take_all}
 use Rattle.std.specs.List.{take-map}
 use borrow.Rule.Slice.PartMut.{put_mid}
 use Rattle.go_value.specs.Values as vals
-use Rattle.go_value.specs.Values.{Val, Field, Parts, parts, none, part, parts_of, number}
-use Rattle.go_store.specs.Arrays.{elements, extended, overwritten, run_of, run_among, values_in, with_elements, with_run}
-use Rattle.go_store.specs.Cells.{held, held_in, packed, spread, place_of, plain_number}
+use Rattle.go_value.specs.Values.{Val, Field, parts, part, parts_of, number}
+use Rattle.go_store.specs.Arrays.{elements, overwritten, run_of, run_among, values_in, with_elements, with_run}
+use Rattle.go_store.specs.Cells.{held, held_in, packed, packed_bytes, spread, place_of, plain_number}
 use Rattle.go_store.specs.declared.cells.Place.{Place}
 use Rattle.go_store.specs.declared.cells.Cell.{Cell}
 use Rattle.go_store.specs.declared.cells.Cell.TheVariants as cells
-use Rattle.go_store.proofs.Held.{place_is, ints_are, many_are}
+use Rattle.go_store.proofs.Held.{place_is, ints_are, bytes_are, bytes_parts, many_are, plain_byte, plain_bytes}
 use Rattle.go_store.proofs.Lengthened.{extended_fields, plain}
 
 -- ---- what is read
@@ -52,6 +52,26 @@ numbers_pushed ints more =
     ap (λ (fields : List Field). parts (parts_of fields)) (map-append plain_number ints more ∙ ap (λ fs. map plain_number ints ++ fs) (sym (numbers_plain more)))
     ∙ ap parts (sym (extended_fields (map number more) (map plain_number ints)))
 
+pub times_mapped : {X Y : Type 0} (f : X → Y) (times : ℕ) (it : X) → map f (replicate times it) ≡ replicate times (f it)
+times_mapped f zero it = refl
+times_mapped f (suc times) it = ap (λ ys. f it ∷ ys) (times_mapped f times it)
+
+pub number_times : (ints : List ℤ) (times : ℕ) (n : ℤ) → packed (ints ++ replicate times n) ≡ with_elements (replicate times (number n)) (packed ints)
+number_times ints times n =
+    numbers_pushed ints (replicate times n) ∙ ap (λ vs. with_elements vs (packed ints)) (times_mapped number times n)
+
+pub byte_times : (bytes : List ℕ) (times b : ℕ) → packed_bytes (bytes ++ replicate times b) ≡ with_elements (replicate times (number (pos b))) (packed_bytes bytes)
+byte_times bytes times b =
+    ap packed (map-append pos bytes (replicate times b) ∙ ap (λ xs. map pos bytes ++ xs) (times_mapped pos times b))
+    ∙ number_times (map pos bytes) times (pos b)
+
+-- what is longer than before by so many
+pub resized : {X : Type 0} (xs new : List X) (len times room : ℕ) (it : X) → len ≡ length xs → room ≡ len + times → new ≡ take room xs ++ replicate (room - len) it → new ≡ xs ++ replicate times it
+resized xs new len times room it long is made =
+    let more : room - len ≡ times = omega arith in
+    let all : length xs ≤ room = omega arith in
+    made ∙ ap (λ ys. ys ++ replicate (room - len) it) (take_all room xs all) ∙ ap (λ n. xs ++ replicate n it) more
+
 -- ---- what is replaced
 
 over_first : {X : Type 0} (f : X → Field) (new xs : List X) → length new ≤ length xs → overwritten (parts_of (map f new)) (parts_of (map f xs)) zero ≡ parts_of (map f (new ++ drop (length new) xs))
@@ -75,6 +95,13 @@ over f new (x ∷ xs) (suc first) within =
 pub numbers_over : (new ints : List ℤ) (first : ℕ) → first + length new ≤ length ints → packed (put_mid first (length new) ints new) ≡ with_run (packed new) first (packed ints)
 numbers_over new ints first within = ap parts (sym (over plain_number new ints first within))
 
+pub bytes_over : (new bytes : List ℕ) (first : ℕ) → first + length new ≤ length bytes → packed_bytes (put_mid first (length new) bytes new) ≡ with_run (packed_bytes new) first (packed_bytes bytes)
+bytes_over new bytes first within =
+    bytes_parts (put_mid first (length new) bytes new)
+    ∙ ap parts (sym (over plain_byte new bytes first within))
+    ∙ ap (λ (fields : List Field). parts (overwritten (parts_of fields) (parts_of (map plain_byte bytes)) first)) (sym (plain_bytes new))
+    ∙ ap (λ (fields : List Field). parts (overwritten (parts_of (map plain_number (map pos new))) (parts_of fields) first)) (sym (plain_bytes bytes))
+
 pub places_over : (new places : List Place) (first : ℕ) → first + length new ≤ length places → spread (put_mid first (length new) places new) ≡ with_run (spread new) first (spread places)
 places_over new places first within = ap parts (sym (over place_of new places first within))
 
@@ -83,6 +110,15 @@ places_over new places first within = ap parts (sym (over place_of new places fi
 pub ints_run : (cell : Cell) (ints : Vec ℤ) (xs : List ℤ) (first len : ℕ) → cell ≡ cells.Ints ints → xs ≡ ints.items → first + len ≤ length xs → run_of (held cell) first len ≡ Some (map number (take len (drop first xs)))
 ints_run cell ints xs first len is same within =
     ap (λ c. run_of (held c) first len) is ∙ ap (λ it. run_of it first len) (ints_are ints ∙ ap packed (sym same)) ∙ run_numbers xs first len within
+
+run_of_bytes : (bytes : List ℕ) (first len : ℕ) → first + len ≤ length bytes → run_of (packed_bytes bytes) first len ≡ Some (map number (map pos (take len (drop first bytes))))
+run_of_bytes bytes first len within =
+    run_numbers (map pos bytes) first len (subst (λ n. first + len ≤ n) (sym (length-map bytes pos)) within)
+    ∙ ap (λ (xs : List ℤ). Some (map number xs)) (ap (take len) (drop-map pos first bytes) ∙ take-map pos len (drop first bytes))
+
+pub bytes_run : (cell : Cell) (bytes : Vec ℕ) (xs : List ℕ) (first len : ℕ) → cell ≡ cells.Bytes bytes → xs ≡ bytes.items → first + len ≤ length xs → run_of (held cell) first len ≡ Some (map number (map pos (take len (drop first xs))))
+bytes_run cell bytes xs first len is same within =
+    ap (λ c. run_of (held c) first len) is ∙ ap (λ it. run_of it first len) (bytes_are bytes ∙ ap packed_bytes (sym same)) ∙ run_of_bytes xs first len within
 
 pub places_run : (cell : Cell) (places : Vec Place) (xs : List Place) (first len : ℕ) → cell ≡ cells.Many places → xs ≡ places.items → first + len ≤ length xs → run_of (held cell) first len ≡ Some (map held_in (take len (drop first xs)))
 places_run cell places xs first len is same within =

@@ -1,5 +1,5 @@
 -- What is read and written at parts of cells.
-use Rattle.std.proofs.Common.{◌≡◌, ◌≢◌, ap, sym, refl, ◌∙◌, map, List, [], ◌∷◌, Option, Some, None, ℕ, zero, suc, ℤ, pos, ◌<◌, ◌≤◌, ◌==◌, length, get_or, Bor, Result, Ok, Err, OnOk, OnErr, slice_get, slice_set, Bool, false, true}
+use Rattle.std.proofs.Common.{◌≡◌, ◌≢◌, ap, sym, subst, refl, IsSome, ◌∙◌, map, List, [], ◌∷◌, Option, Some, None, ℕ, zero, suc, ℤ, pos, ◌<◌, ◌≤◌, ◌==◌, length, get_or, Bor, Result, Ok, Err, OnOk, OnErr, slice_get, slice_set, Bool, false, true}
 use Rattle.std.specs.Global.{Vec}
 use Rattle.std.specs.Option.{option_map, option_and_then, option_copied}
 use Rattle.std.specs.Slice.{IsItemAt}
@@ -7,22 +7,22 @@ use Rattle.std.proofs.lemmas.Option.{slice_get-map, slice_get_past, slice_get_re
 use Rattle.std.proofs.Math.Dec.{eqb-suc-zero}
 use Rattle.std.proofs.lemmas.Bool.{true≢false}
 use Rattle.std.specs.Vec.{with_items}
-use Rattle.std.proofs.lemmas.List.{map-set, with_items_is}
-use Rattle.go_value.specs.Kinds.{integer, has_parts, renumbered}
+use Rattle.std.proofs.lemmas.List.{length-map, map-set, with_items_is}
+use Rattle.go_value.specs.Kinds.{integer, has_parts}
 use Rattle.go_value.specs.Values as vals
 use Rattle.go_value.specs.Values.{Val, Field, Parts, parts, none, part, parts_of, number, value_of}
-use Rattle.go_store.specs.Cells.{held, packed, place_of, plain_number, value_in, value_at, read_at, changed_in, changed_at, updated, integer_in}
+use Rattle.go_store.specs.Cells.{held, packed, packed_bytes, place_of, plain_number, value_in, value_at, read_at, changed_in, changed_at, updated, written_at, integer_in}
 use Rattle.go_store.specs.declared.cells.Cell.{Cell}
 use Rattle.go_store.specs.declared.leaves.Leaf.{Leaf}
 use Rattle.go_store.specs.declared.cells.Place.{Place}
 use Rattle.go_store.specs.declared.cells.Cell.TheVariants as cells
 use Rattle.go_store.specs.declared.cells.Cell.TheOpen as layers
 use Rattle.go_store.specs.declared.cells.Cell.TheViews.{roll-Cell}
-use Rattle.go_value.proofs.KindOf.{not_int, other_renumbered}
+use Rattle.go_value.proofs.KindOf.{not_int}
 use Rattle.go_value.proofs.Variants.{int_is}
 use Rattle.go_value.specs.declared.values.Value.TheVariants as values
 use Rattle.go_store.proofs.Integers.{integer_from}
-use Rattle.go_store.proofs.Held.{one_is, ints_are, many_are, place_is}
+use Rattle.go_store.proofs.Held.{one_is, ints_are, bytes_are, many_are, place_is}
 
 -- ---- parts by their places
 
@@ -99,16 +99,6 @@ changed_fields change [] k f h = cc
 changed_fields change (g ∷ fields) zero f h = let same : g ≡ f = cc in ap (λ (x : Field). part (change x.value) x.blank (parts_of fields)) same
 changed_fields change (g ∷ fields) (suc k) f h = ap (part g.value g.blank) (changed_fields change fields k f h)
 
-unchanged_fields : (change : Val → Val) (fields : List Field) (k : ℕ) → slice_get fields k ≡ None → changed_in change (parts_of fields) k ≡ parts_of fields
-unchanged_fields change [] k h = refl
-unchanged_fields change (g ∷ fields) zero h = cc
-unchanged_fields change (g ∷ fields) (suc k) h = ap (part g.value g.blank) (unchanged_fields change fields k h)
-
-kept_fields : (change : Val → Val) (fields : List Field) (k : ℕ) → ((f : Field) → slice_get fields k ≡ Some f → change f.value ≡ f.value) → changed_in change (parts_of fields) k ≡ parts_of fields
-kept_fields change [] k h = refl
-kept_fields change (g ∷ fields) zero h = ap (λ v. part v g.blank (parts_of fields)) (h g refl)
-kept_fields change (g ∷ fields) (suc k) h = ap (part g.value g.blank) (kept_fields change fields k h)
-
 abbrev pub changed_place : (Val → Val) → List ℕ → Place → Cell → Type 0
 changed_place change rest p cell = held cell ≡ updated change (held p.cell) rest
 
@@ -123,16 +113,10 @@ write_many change places step rest p cell there h =
     ap (λ (fields : List Field). parts (parts_of fields)) (map-set place_of places step (record { cell = cell; blank = p.blank }) ∙ ap (slice_set (map place_of places) step) (place_changed change rest p cell h))
     ∙ ap parts (sym (changed_fields (λ inner. updated change inner rest) (map place_of places) step (place_of p) (slice_get-map place_of places step ∙ ap (option_map place_of) there)))
 
-pub write_past : (change : Val → Val) (places : List Place) (step : ℕ) (rest : List ℕ) → slice_get places step ≡ None → updated change (parts (parts_of (map place_of places))) (step ∷ rest) ≡ parts (parts_of (map place_of places))
-write_past change places step rest past = ap parts (unchanged_fields (λ inner. updated change inner rest) (map place_of places) step (slice_get-map place_of places step ∙ ap (option_map place_of) past))
-
 pub write_packed : (change : Val → Val) (ints : List ℤ) (step : ℕ) (old new : ℤ) → slice_get ints step ≡ Some old → change (number old) ≡ number new → packed (slice_set ints step new) ≡ updated change (packed ints) (step ∷ [])
 write_packed change ints step old new there same =
     ap (λ (fields : List Field). parts (parts_of fields)) (map-set plain_number ints step new ∙ ap (λ v. slice_set (map plain_number ints) step (record { value = v; blank = false })) (sym same))
     ∙ ap parts (sym (changed_fields change (map plain_number ints) step (plain_number old) (slice_get-map plain_number ints step ∙ ap (option_map plain_number) there)))
-
-pub write_packed_past : (change : Val → Val) (ints : List ℤ) (step : ℕ) (rest : List ℕ) → slice_get ints step ≡ None → updated change (packed ints) (step ∷ rest) ≡ packed ints
-write_packed_past change ints step rest past = ap parts (unchanged_fields (λ inner. updated change inner rest) (map plain_number ints) step (slice_get-map plain_number ints step ∙ ap (option_map plain_number) past))
 
 plain_at : (ints : List ℤ) (k : ℕ) (f : Field) → slice_get (map plain_number ints) k ≡ Some f → (n : ℤ) × (f ≡ plain_number n)
 plain_at [] k f h = cc
@@ -140,34 +124,6 @@ plain_at (n ∷ ints) zero f h = (n, cc)
 plain_at (n ∷ ints) (suc k) f h = plain_at ints k f h
 
 -- an integer has no parts
-pub write_packed_deeper : (change : Val → Val) (ints : List ℤ) (step next : ℕ) (rest : List ℕ) → updated change (packed ints) (step ∷ (next ∷ rest)) ≡ packed ints
-write_packed_deeper change ints step next rest =
-    ap parts (kept_fields (λ inner. updated change inner (next ∷ rest)) (map plain_number ints) step (λ f there. let plain = plain_at ints step f there in ap (λ (x : Field). changed_at (λ inner. updated change inner rest) x.value next) plain.1 ∙ sym (ap (λ (x : Field). x.value) plain.1)))
-
-still : (change : Val → Val) (it : Val) (step : ℕ) → has_parts it ≡ false → changed_at change it step ≡ it
-still change (vals.truth a) step h = refl
-still change (vals.number a) step h = refl
-still change (vals.text a) step h = refl
-still change (vals.pointer a) step h = refl
-still change (vals.slice a) step h = refl
-still change (vals.map_number a) step h = refl
-still change (vals.chan_number a) step h = refl
-still change vals.nil_function step h = refl
-still change (vals.closure a b) step h = refl
-still change (vals.bound a b) step h = refl
-still change (vals.expression a b c) step h = refl
-still change vals.nil_interface step h = refl
-still change (vals.dynamic a b) step h = refl
-still change (vals.parts a) step h = cc
-still change (vals.text_range a b) step h = refl
-still change (vals.map_range a b) step h = refl
-
-pub write_one : (change : Val → Val) (leaf : Leaf) (step : ℕ) (rest : List ℕ) → updated change (held (cells.One leaf)) (step ∷ rest) ≡ held (cells.One leaf)
-write_one change leaf step rest =
-    ap (λ it. updated change it (step ∷ rest)) (one_is leaf)
-    ∙ still (λ inner. updated change inner rest) (value_of leaf.value) step leaf.whole
-    ∙ sym (one_is leaf)
-
 pub int_integer : (it : ℤ) → integer (value_of (values.Int it)) ≡ Some it
 int_integer it = ap integer (int_is it)
 
@@ -177,10 +133,13 @@ whole_integer leaf = ap integer (one_is leaf)
 pub ints_no_integer : (ints : Vec ℤ) → integer (held (cells.Ints ints)) ≡ None
 ints_no_integer ints = ap integer (ints_are ints)
 
+pub bytes_no_integer : (bytes : Vec ℕ) → integer (held (cells.Bytes bytes)) ≡ None
+bytes_no_integer bytes = ap integer (bytes_are bytes)
+
 pub many_no_integer : (places : Vec Place) → integer (held (cells.Many places)) ≡ None
 many_no_integer places = ap integer (many_are places)
 
-pub ruleset of_integers = (int_integer, not_int, whole_integer, ints_no_integer, many_no_integer)
+pub ruleset of_integers = (int_integer, not_int, whole_integer, ints_no_integer, bytes_no_integer, many_no_integer)
 
 pub one_rolled : (leaf : Leaf) → held (roll-Cell (layers.Cell-F.One leaf)) ≡ value_of leaf.value
 one_rolled leaf = ap held (cells.rolls-One leaf) ∙ one_is leaf
@@ -225,6 +184,14 @@ pub no_number_deeper : (ints : List ℤ) (step : ℕ) (rest : List ℕ) (b : Boo
 no_number_deeper ints step [] b h e = cc
 no_number_deeper ints step (next ∷ rest) b h e = sym (ap integer_in (read_packed ints step (next ∷ rest)) ∙ no_numbers next rest (slice_get ints step))
 
+pub byte_here : (bytes : List ℕ) (step : ℕ) (rest : List ℕ) (b : ℕ) (n : ℤ) → rest ≡ [] → step < length bytes → b ≡ get_or bytes step b → n ≡ pos b → Some n ≡ integer_in (read_at (packed_bytes bytes) (step ∷ rest))
+byte_here bytes step rest b n end below is same =
+    ap Some same ∙ number_here (map pos bytes) step rest (Some (pos b)) end (sym (slice_get-map pos bytes step ∙ ap (option_map pos) (got bytes step b below is)))
+
+pub byte_past : (bytes : List ℕ) (step : ℕ) (rest : List ℕ) → rest ≡ [] → length bytes ≤ step → None ≡ integer_in (read_at (packed_bytes bytes) (step ∷ rest))
+byte_past bytes step rest end past =
+    number_here (map pos bytes) step rest None end (sym (slice_get-map pos bytes step ∙ ap (option_map pos) (slice_get_past bytes step past)))
+
 pub some_integer : (o : Option Val) (n : ℤ) → integer_in o ≡ Some n → o ≡ Some (vals.number n)
 some_integer None n h = cc
 some_integer (Some it) n h = ap Some (integer_from it n (sym h))
@@ -239,6 +206,9 @@ read_past cell steps places step rest is split there =
 
 pub read_ints : (cell : Cell) (steps : List ℕ) (ints : Vec ℤ) (step : ℕ) (rest : List ℕ) → cell ≡ cells.Ints ints → steps ≡ step ∷ rest → read_at (held cell) steps ≡ read_at (packed ints.items) (step ∷ rest)
 read_ints cell steps ints step rest is split = ap (λ s. read_at (held cell) s) split ∙ ap (λ c. read_at (held c) (step ∷ rest)) is ∙ ap (λ it. read_at it (step ∷ rest)) (ints_are ints)
+
+pub read_bytes : (cell : Cell) (steps : List ℕ) (bytes : Vec ℕ) (step : ℕ) (rest : List ℕ) → cell ≡ cells.Bytes bytes → steps ≡ step ∷ rest → read_at (held cell) steps ≡ read_at (packed_bytes bytes.items) (step ∷ rest)
+read_bytes cell steps bytes step rest is split = ap (λ s. read_at (held cell) s) split ∙ ap (λ c. read_at (held c) (step ∷ rest)) is ∙ ap (λ it. read_at it (step ∷ rest)) (bytes_are bytes)
 
 pub read_leaf : (cell : Cell) (steps : List ℕ) (leaf : Leaf) (step : ℕ) (rest : List ℕ) → cell ≡ cells.One leaf → steps ≡ step ∷ rest → read_at (held cell) steps ≡ None
 read_leaf cell steps leaf step rest is split = ap (λ s. read_at (held cell) s) split ∙ ap (λ c. read_at (held c) (step ∷ rest)) is ∙ read_one leaf step rest
@@ -256,12 +226,17 @@ pub number_there : (ints : List ℤ) (step : ℕ) (rest : List ℕ) → rest ≡
 number_there ints step rest end below =
     ap (λ rs. read_at (packed ints) (step ∷ rs)) end ∙ read_packed ints step [] ∙ ap (option_and_then (λ n. read_at (number n) [])) (there ints step below)
 
-pub number_past : (change : Val → Val) (ints : List ℤ) (step : ℕ) (rest : List ℕ) → length ints ≤ step → packed ints ≡ updated change (packed ints) (step ∷ rest)
-number_past change ints step rest past = sym (write_packed_past change ints step rest (slice_get_past ints step past))
+below_mapped : (bytes : List ℕ) (step : ℕ) → step < length bytes → step < length (map pos bytes)
+below_mapped bytes step below = subst (λ n. step < n) (sym (length-map bytes pos)) below
 
-pub number_kept : (change : Val → Val) (ints : List ℤ) (step : ℕ) (rest : List ℕ) (b : Bool) → b ≡ (length rest == 0) → b ≡ false → packed ints ≡ updated change (packed ints) (step ∷ rest)
-number_kept change ints step [] b h e = absurd (true≢false (sym h ∙ e))
-number_kept change ints step (next ∷ rest) b h e = sym (write_packed_deeper change ints step next rest)
+pub byte_set : (bytes : List ℕ) (step : ℕ) (rest : List ℕ) (b : ℕ) → rest ≡ [] → step < length bytes → packed_bytes (slice_set bytes step b) ≡ written_at (vals.number (pos b)) (packed_bytes bytes) (step ∷ rest)
+byte_set bytes step rest b end below =
+    ap packed (map-set pos bytes step b)
+    ∙ number_written (λ _. vals.number (pos b)) (map pos bytes) step rest (pos b) (λ old. refl) end (below_mapped bytes step below)
+
+pub byte_there : (bytes : List ℕ) (step : ℕ) (rest : List ℕ) → rest ≡ [] → step < length bytes → IsSome (read_at (packed_bytes bytes) (step ∷ rest))
+byte_there bytes step rest end below =
+    subst (λ o. IsSome o) (sym (number_there (map pos bytes) step rest end (below_mapped bytes step below))) refl
 
 pub updated_into : (change : Val → Val) (cell : Cell) (steps : List ℕ) (places : Vec Place) (step : ℕ) (rest : List ℕ) → cell ≡ cells.Many places → steps ≡ step ∷ rest → updated change (held cell) steps ≡ updated change (parts (parts_of (map place_of places.items))) (step ∷ rest)
 updated_into change cell steps places step rest is split = ap (λ s. updated change (held cell) s) split ∙ ap (λ c. updated change (held c) (step ∷ rest)) is ∙ ap (λ it. updated change it (step ∷ rest)) (many_are places)
@@ -269,22 +244,12 @@ updated_into change cell steps places step rest is split = ap (λ s. updated cha
 pub updated_ints : (change : Val → Val) (cell : Cell) (steps : List ℕ) (ints : Vec ℤ) (step : ℕ) (rest : List ℕ) → cell ≡ cells.Ints ints → steps ≡ step ∷ rest → updated change (held cell) steps ≡ updated change (packed ints.items) (step ∷ rest)
 updated_ints change cell steps ints step rest is split = ap (λ s. updated change (held cell) s) split ∙ ap (λ c. updated change (held c) (step ∷ rest)) is ∙ ap (λ it. updated change it (step ∷ rest)) (ints_are ints)
 
-pub updated_leaf : (change : Val → Val) (cell : Cell) (steps : List ℕ) (leaf : Leaf) (step : ℕ) (rest : List ℕ) → cell ≡ cells.One leaf → steps ≡ step ∷ rest → updated change (held cell) steps ≡ held cell
-updated_leaf change cell steps leaf step rest is split = ap (λ s. updated change (held cell) s) split ∙ ap (λ c. updated change (held c) (step ∷ rest)) is ∙ write_one change leaf step rest ∙ ap held (sym is)
-
 -- a place of an array is written
 pub place_written : (change : Val → Val) (cell : Cell) (steps : List ℕ) (places : Vec Place) (step : ℕ) (rest : List ℕ) (p : Place) (new : Cell) (after : Vec Place) → cell ≡ cells.Many places → steps ≡ step ∷ rest → slice_get places.items step ≡ Some p → held new ≡ updated change (held p.cell) rest → after.items ≡ slice_set places.items step (record { cell = new; blank = p.blank }) → held (cells.Many after) ≡ updated change (held cell) steps
 place_written change cell steps places step rest p new after is split there same set =
     many_are after
     ∙ ap (λ (items : List Place). parts (parts_of (map place_of items))) set
     ∙ write_many change places.items step rest p new there same
-    ∙ sym (updated_into change cell steps places step rest is split)
-
-pub place_kept : (change : Val → Val) (cell : Cell) (steps : List ℕ) (places : Vec Place) (step : ℕ) (rest : List ℕ) (after : Vec Place) → cell ≡ cells.Many places → steps ≡ step ∷ rest → slice_get places.items step ≡ None → after.items ≡ places.items → held (cells.Many after) ≡ updated change (held cell) steps
-place_kept change cell steps places step rest after is split past same =
-    many_are after
-    ∙ ap (λ (items : List Place). parts (parts_of (map place_of items))) same
-    ∙ sym (write_past change places.items step rest past)
     ∙ sym (updated_into change cell steps places step rest is split)
 
 pub past_get : {X : Type 0} (xs ys : List X) (i : ℕ) → xs ≡ ys → length xs ≤ i → slice_get ys i ≡ None
@@ -304,6 +269,16 @@ ints_written change cell steps ints v step rest new here is split long same =
 
 pub ints_same : (cell : Cell) (ints v : Vec ℤ) (new : List ℤ) → v ≡ ints → cell ≡ cells.Ints ints → length new ≡ v.len → new ≡ ints.items → held (cells.Ints (with_items v new)) ≡ held cell
 ints_same cell ints v new here is long same = ints_are (with_items v new) ∙ ap packed (with_items_is v new long ∙ same) ∙ sym (ap held is ∙ ints_are ints)
+
+updated_bytes : (change : Val → Val) (cell : Cell) (bytes : Vec ℕ) (steps : List ℕ) → cell ≡ cells.Bytes bytes → updated change (held cell) steps ≡ updated change (packed_bytes bytes.items) steps
+updated_bytes change cell bytes steps is = ap (λ c. updated change (held c) steps) is ∙ ap (λ it. updated change it steps) (bytes_are bytes)
+
+pub bytes_written : (change : Val → Val) (cell : Cell) (bytes v : Vec ℕ) (steps : List ℕ) (new : List ℕ) → v ≡ bytes → cell ≡ cells.Bytes bytes → length new ≡ v.len → packed_bytes new ≡ updated change (packed_bytes bytes.items) steps → held (cells.Bytes (with_items v new)) ≡ updated change (held cell) steps
+bytes_written change cell bytes v steps new here is long same =
+    bytes_are (with_items v new) ∙ ap packed_bytes (with_items_is v new long) ∙ same ∙ sym (updated_bytes change cell bytes steps is)
+
+pub bytes_same : (cell : Cell) (bytes v : Vec ℕ) (new : List ℕ) → v ≡ bytes → cell ≡ cells.Bytes bytes → length new ≡ v.len → new ≡ bytes.items → held (cells.Bytes (with_items v new)) ≡ held cell
+bytes_same cell bytes v new here is long same = bytes_are (with_items v new) ∙ ap packed_bytes (with_items_is v new long ∙ same) ∙ sym (ap held is ∙ bytes_are bytes)
 
 same_parts : (it : Parts) (step : ℕ) → changed_in (λ x. x) it step ≡ it
 same_parts none step = refl

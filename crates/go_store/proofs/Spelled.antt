@@ -1,23 +1,24 @@
 -- Texts and the integers that they are made of.
-use Rattle.std.proofs.Common.{◌≡◌, ◌<◌, ◌≤◌, ◌+◌, ℕ, zero, suc, ℤ, pos, ap, sym, refl, subst, ◌∙◌, inl, inr, map, List, [], ◌∷◌, ◌++◌, drop, take, get_or, length, Option, Some, None, IsSome, ◌-◌, false, unwrap_or, Result, Ok, Err, OnOk, arith, add-one, append_assoc, length-drop}
+use Rattle.std.proofs.Common.{◌≡◌, ◌<◌, ◌≤◌, ◌+◌, ℕ, zero, suc, ℤ, pos, ap, sym, refl, subst, ◌∙◌, inl, inr, map, List, [], ◌∷◌, ◌++◌, drop, take, get_or, length, Option, Some, None, IsSome, ◌-◌, false, unwrap_or, Result, OnOk, OnErr, arith, append_assoc, length-drop}
 use Rattle.std.specs.List.{flat_map}
-use Rattle.std.specs.Char.{encode_utf8}
 use Rattle.std.proofs.lemmas.Bool.{false≢true}
-use Rattle.std.proofs.lemmas.List.{append-nil, map-append, take_more, drop_all, drop-drop}
+use Rattle.std.proofs.lemmas.List.{append-nil, length-map, map-append, take_more, drop_all, drop-drop}
 use Rattle.std.proofs.lemmas.List.Concat.{flat_map-append}
 use Rattle.bstr.specs.Utf8.{decoded, Decoded}
 use Rattle.bstr.proofs.lemmas.EncodeLemmas.{decoded-encode}
 use Rattle.bstr.proofs.lemmas.PieceLemmas.{piece-bounds}
 use Rattle.go_value.specs.Gives.{Gives}
 use Rattle.go_value.specs.Runes.{IsFirstRune, no_rune}
-use Rattle.go_value.specs.Values.{Val, number, parts, none, part}
+use Rattle.go_value.specs.Values.{Val, number, parts, part}
 use Rattle.go_value.specs.Values.{parts_of}
-use Rattle.go_value.specs.declared.faults.Fault.{Fault}
 use Rattle.go_value.specs.declared.faults.ValueError.{ValueError}
 use Rattle.go_value.proofs.RuneAt.{first_rune, none_first}
 use Rattle.go_store.specs.Arrays.{array_of, elements, with_elements}
-use Rattle.go_store.specs.Cells.{packed, plain_number}
-use Rattle.go_store.specs.Conversions.{AreRunes, within_limit}
+use Rattle.go_store.specs.Cells.{packed, packed_bytes, plain_number}
+use Rattle.go_store.specs.Conversions.{AreRunes, MakesSlice, byte_of, new_slice, numbers_of, within_limit}
+use Rattle.go_store.specs.Stores.{Stored, made}
+use Rattle.go_value.specs.declared.address.SliceValue.{SliceValue}
+use Rattle.go_store.proofs.Reached.{on_ok}
 
 -- ---- integers as elements
 
@@ -44,6 +45,24 @@ elements_ints (Some items) ints old now some old_is now_is is =
     sym (ap (with_elements items) old_is) ∙ sym now_is ∙ is in
     let r : elements items ≡ parts_of (map plain_number ints) = cc in
     ap Some (back items ints r)
+
+-- ---- bytes
+
+spelled : (bytes : List ℕ) → flat_map byte_of (map number (map pos bytes)) ≡ bytes
+spelled [] = refl
+spelled (b ∷ bytes) = ap (λ bs. b ∷ bs) (spelled bytes)
+
+pub of_bytes : (result : Result (List ℕ) ValueError) (o : Option (List Val)) (bytes : List ℕ) → o ≡ Some (map number (map pos bytes)) → Gives (λ text. text) result (within_limit bytes) → Gives (λ text. text) result (within_limit (flat_map byte_of (unwrap_or o [])))
+of_bytes result o bytes there given =
+    subst (λ b. Gives (λ text. text) result (within_limit b)) (sym (spelled bytes) ∙ ap (λ p. flat_map byte_of (unwrap_or p [])) (sym there)) given
+
+pub makes_bytes : (old new : Stored) (bytes : List ℕ) (result : Result SliceValue ValueError) → Gives (λ slice. slice) result (new_slice old (length bytes)) → OnOk result (new ≡ made old (packed_bytes bytes)) → OnErr result (new ≡ old) → MakesSlice old (numbers_of bytes) result new
+makes_bytes old new bytes result given ok err =
+    record {
+      value = subst (λ n. Gives (λ slice. slice) result (new_slice old n)) (sym (length-map bytes pos)) given;
+      ok = on_ok result ok (λ same. same ∙ ap (made old) (packed_is (map pos bytes)));
+      err = err;
+    }
 
 -- ---- one more
 

@@ -1,11 +1,12 @@
 -- What stands in a cell after a write in its variant.
-use Rattle.std.proofs.Common.{◌≡◌, ap, sym, refl, ◌∙◌, List, [], ◌∷◌, ℤ}
+use Rattle.std.proofs.Common.{◌≡◌, ap, sym, refl, ◌∙◌, List, [], ◌∷◌, ℕ, ℤ}
 use Rattle.std.specs.Global.{Vec}
-use mir.Syntax.{Ty, ty_int, w128}
+use mir.Syntax.{Ty, ty_int, w8, w128}
 use denote.Signed.{SInt}
-use denote.Builtin.{i128}
-use denote.Struct.Field.{row_field, i128-field}
-use denote.Struct.Laws.{i128-laws, i128-copy}
+use denote.Plain.{UInt}
+use denote.Builtin.{i128, u8}
+use denote.Struct.Field.{row_field, i128-field, u8-field}
+use denote.Struct.Laws.{i128-laws, i128-copy, u8-laws, u8-copy}
 use denote.Struct.Owning as owning
 use denote.Struct.Declared as declared
 use denote.Param.Laws.{row_loose, of_field}
@@ -16,7 +17,6 @@ use borrow.Enum.Known as known
 use borrow.Enum.Known.{choose}
 use borrow.Enum.Total.{values_o, peek_at}
 use borrow.Enum.Lend.{put_if, put_payload_o, put_payload_o_as}
-use borrow.Struct.Lend.{own_same}
 use borrow.Struct.Alike.{lies_alike}
 use Rattle.std.specs.contracts.vec.Vec as vec
 use Rattle.std.specs.contracts.alloc.Global as allocs
@@ -32,7 +32,6 @@ use Rattle.go_store.proofs.cells.Cell.TheLaws as cell_laws
 use Rattle.go_store.proofs.cells.Cell.TheLaws.TheKnot as knot_laws
 use Rattle.go_store.specs.declared.cells.Cell.{Cell}
 use Rattle.go_store.specs.declared.cells.Place.{Place}
-use Rattle.go_store.specs.declared.leaves.Leaf.{Leaf}
 use Rattle.go_store.specs.declared.cells.Cell.TheVariants as cells
 use Rattle.go_store.specs.declared.cells.Cell.TheOpen as layers
 use Rattle.go_store.specs.declared.cells.Cell.TheOpen.{Cell-F}
@@ -61,6 +60,26 @@ put_ints_is x old new is =
     ap (λ (z : Cell). put_ints z new) is
     ∙ ap (λ (layer : Layer). put_ints_by layer (cells.Ints old) new) (cells.outs-Ints old)
 
+abbrev pub put_bytes : Cell → Vec ℕ → Cell
+put_bytes x y = put_payload_o contract.the_type 3 (vec.the_field (UInt w8) allocs.the_row impls.ghosts ∷ []) (vec_laws.the_field_loose u8 allocs.the_row impls.ghosts (of_field u8-field u8-laws (refl {A = List Ty} {a = ty_int w8 ∷ []}) (copy_shared u8-field u8-copy)) alloc_laws.the_row_laws, tt {2}) (known.at contract.enum 3)
+    (λ v us i. payload (variants contract.the_type) (intoss contract.enum.parts (contract.enum.beta (choose contract.enum.parts 3 v) i)) us)
+    (λ v i. tag (variants contract.the_type) (intoss contract.enum.parts (contract.enum.beta (choose contract.enum.parts 3 v) i)))
+    (refl {A = Ty} {a = layout (shape contract.the_type)}) 0 8
+    (values_o contract.enum 3)
+    (λ x. x) x y
+
+abbrev put_bytes_by : Layer → Cell → Vec ℕ → Cell
+put_bytes_by layer x y = put_if contract.the_type 3 (vec.the_field (UInt w8) allocs.the_row impls.ghosts ∷ []) (vec_laws.the_field_loose u8 allocs.the_row impls.ghosts (of_field u8-field u8-laws (refl {A = List Ty} {a = ty_int w8 ∷ []}) (copy_shared u8-field u8-copy)) alloc_laws.the_row_laws, tt {2}) (known.at contract.enum 3)
+    (λ v us i. payload (variants contract.the_type) (intoss contract.enum.parts (contract.enum.beta (choose contract.enum.parts 3 v) i)) us)
+    (λ v i. tag (variants contract.the_type) (intoss contract.enum.parts (contract.enum.beta (choose contract.enum.parts 3 v) i)))
+    (refl {A = Ty} {a = layout (shape contract.the_type)}) 0 8
+    (peek_at contract.the_parts 3 (split-Cell the_family layer)) x y
+
+pub put_bytes_is : (x : Cell) (old new : Vec ℕ) → x ≡ cells.Bytes old → put_bytes x new ≡ cells.Bytes new
+put_bytes_is x old new is =
+    ap (λ (z : Cell). put_bytes z new) is
+    ∙ ap (λ (layer : Layer). put_bytes_by layer (cells.Bytes old) new) (cells.outs-Bytes old)
+
 abbrev pub put_many : Cell → Vec Place → Cell
 put_many x y = put_payload_o_as contract.the_type 2 (row_field (vec.the_row knot.hole-Place allocs.the_row impls.ghosts) ∷ []) (row_loose (vec.the_row knot.hole-Place allocs.the_row impls.ghosts) (vec_laws.the_row_laws knot.hole-Place allocs.the_row impls.ghosts knot_laws.laws-Place alloc_laws.the_row_laws), tt {2}) (known.at contract.enum 2)
     (λ v us i. payload (variants contract.the_type) (intoss contract.enum.parts (contract.enum.beta (choose contract.enum.parts 2 v) i)) us)
@@ -80,23 +99,3 @@ pub put_many_is : (x : Cell) (old new : Vec Place) → x ≡ cells.Many old → 
 put_many_is x old new is =
     ap (λ (z : Cell). put_many z new) is
     ∙ ap (λ (layer : Layer). put_many_by layer (cells.Many old) new) (cells.outs-Many old)
-
-abbrev pub put_one : Cell → Leaf → Cell
-put_one x y = put_payload_o_as contract.the_type 0 (leaf_contract.the_field ∷ []) (leaf_laws.the_field_loose, tt {2}) (known.at contract.enum 0)
-    (λ v us i. payload (variants contract.the_type) (intoss contract.enum.parts (contract.enum.beta (choose contract.enum.parts 0 v) i)) us)
-    (λ v i. tag (variants contract.the_type) (intoss contract.enum.parts (contract.enum.beta (choose contract.enum.parts 0 v) i)))
-    (refl {A = Ty} {a = layout (shape contract.the_type)}) 0 16
-    (values_o contract.enum 0)
-    (declared.row leaf_contract.the_type) (λ x. x) (λ x. x) (λ y b o. own_same leaf_contract.the_type y b o) (λ y b o. sym (own_same leaf_contract.the_type y b o)) x y
-
-abbrev put_one_by : Layer → Cell → Leaf → Cell
-put_one_by layer x y = put_if contract.the_type 0 (leaf_contract.the_field ∷ []) (leaf_laws.the_field_loose, tt {2}) (known.at contract.enum 0)
-    (λ v us i. payload (variants contract.the_type) (intoss contract.enum.parts (contract.enum.beta (choose contract.enum.parts 0 v) i)) us)
-    (λ v i. tag (variants contract.the_type) (intoss contract.enum.parts (contract.enum.beta (choose contract.enum.parts 0 v) i)))
-    (refl {A = Ty} {a = layout (shape contract.the_type)}) 0 16
-    (peek_at contract.the_parts 0 (split-Cell the_family layer)) x y
-
-pub put_one_is : (x : Cell) (old new : Leaf) → x ≡ cells.One old → put_one x new ≡ cells.One new
-put_one_is x old new is =
-    ap (λ (z : Cell). put_one z new) is
-    ∙ ap (λ (layer : Layer). put_one_by layer (cells.One old) new) (cells.outs-One old)

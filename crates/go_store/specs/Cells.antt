@@ -1,6 +1,6 @@
 -- Variables and their parts: the value that a cell holds, and what reading and writing a part of it gives. Go
 -- specification, "Variables" and "Assignment statements".
-use Rattle.std.specs.Prelude.{ℕ, zero, suc, ℤ, List, [], ◌∷◌, map, Option, Some, None, false, ◌≡◌}
+use Rattle.std.specs.Prelude.{ℕ, zero, suc, ℤ, pos, List, [], ◌∷◌, map, Option, Some, None, false, ◌≡◌}
 use Rattle.std.specs.Option.{option_and_then}
 use Rattle.go_store.specs.declared.cells.Cell.{Cell}
 use Rattle.go_store.specs.declared.cells.Place.{Place}
@@ -18,10 +18,15 @@ plain_number it = record { value = number it; blank = false }
 abbrev pub packed : List ℤ → Val
 packed ints = parts (parts_of (map plain_number ints))
 
+-- the array of integers that bytes are
+abbrev pub packed_bytes : List ℕ → Val
+packed_bytes bytes = packed (map pos bytes)
+
 abbrev pub cell_layer : layers.Cell-F Val Field → Val
 cell_layer (layers.Cell-F.One it) = value_of it.value
 cell_layer (layers.Cell-F.Ints it) = packed it.items
 cell_layer (layers.Cell-F.Many it) = parts (parts_of it.items)
+cell_layer (layers.Cell-F.Bytes it) = packed_bytes it.items
 
 abbrev pub place_layer : layers.Place-F Val Field → Field
 place_layer it = record { value = it.cell; blank = it.blank }

@@ -1,24 +1,31 @@
 //! Cells: what a store writes in place.
 
-ghost use Rattle.std.specs.Prelude.{◌≡◌, IfOk, ◌<◌, ℕ, length, slice_index_or, IsTrue, map};
+ghost use Rattle.std.specs.Prelude.{◌≡◌, IfOk, IfSome, ◌<◌, ℕ, pos, length, slice_index_or, IsTrue, map};
 ghost use Rattle.go_value.specs.Values.{value_of, part_of, parts_of};
 ghost use Rattle.go_value.specs.Values as vals;
 ghost use Rattle.go_value.specs.declared.values.Part.{Part as PartType};
-ghost use Rattle.go_store.specs.Cells.{held, packed, place_of, IsPlain};
+ghost use Rattle.go_store.specs.Cells.{held, packed, packed_bytes, place_of, plain_number, IsPlain};
 
 use crate::leaves::{Leaf, integer};
+use crate::memory::lost;
 use go_base::NoMemory;
 use go_value::{Part, Value};
 use std::alloc::Global;
 
-/// A cell, or a part of one. Parts of a value stand one by one, and integers together.
+/// A cell, or a part of one. Parts of a value stand one by one, and integers together: in a byte each where all are
+/// below 256, and else in 16 bytes each.
 #[cycle(cell)]
 #[derive(Drop)]
 pub(crate) enum Cell {
     One(Leaf),
     Ints(Vec<i128>),
     Many(Vec<Place>),
+    Bytes(Vec<u8>),
 }
+
+/// The fewest parts of a value that are kept as bytes. Fewer are mostly the fields of a struct, which soon get larger
+/// integers.
+const LEAST_BYTES: usize = 16;
 
 #[cycle(cell)]
 #[derive(Drop)]
@@ -83,8 +90,19 @@ fn are_ints(parts: &[Part]) -> bool
     !parts.is_empty()
 }
 
-#[tactic(auto, using(crate::proofs::Held::ints_are))]
+#[tactic(auto, using(crate::proofs::Held::bytes_are))]
 fn cell_of_ints(alloc: Global, parts: &[Part]) -> Result<Cell, NoMemory>
+    requires { (k : ℕ) (d : PartType) → k < length parts.now → IsPlain (part_of (slice_index_or parts.now k d)) }
+    ensures { IfOk result (λ cell. held cell ≡ vals.parts (parts_of (map part_of parts.now))) }
+{
+    if parts.len() >= LEAST_BYTES && are_bytes(parts) {
+        return cell_of_bytes(alloc, parts);
+    }
+    cell_of_wide_ints(alloc, parts)
+}
+
+#[tactic(auto, using(crate::proofs::Held::ints_are))]
+fn cell_of_wide_ints(alloc: Global, parts: &[Part]) -> Result<Cell, NoMemory>
     requires { (k : ℕ) (d : PartType) → k < length parts.now → IsPlain (part_of (slice_index_or parts.now k d)) }
     ensures { IfOk result (λ cell. held cell ≡ vals.parts (parts_of (map part_of parts.now))) }
 {
@@ -98,9 +116,47 @@ fn cell_of_ints(alloc: Global, parts: &[Part]) -> Result<Cell, NoMemory>
     Ok(Cell::Ints(ints))
 }
 
+/// Whether parts are integers below 256.
+fn are_bytes(parts: &[Part]) -> bool {
+    for part in parts {
+        if byte_of_part(part).is_none() {
+            return false;
+        }
+    }
+    true
+}
+
+/// The integer below 256 that a part is. None where it is none, or a field named `_`.
+fn byte_of_part(part: &Part) -> Option<u8>
+    ensures { IfSome result (λ byte. part_of part.now ≡ plain_number (pos byte)) }
+{
+    if part.blank {
+        return None;
+    }
+    let number = integer(&part.value)?;
+    match u8::try_from(number) {
+        Ok(byte) => Some(byte),
+        Err(_) => None,
+    }
+}
+
+#[tactic(auto, using(crate::proofs::Held::bytes_are))]
+fn cell_of_bytes(alloc: Global, parts: &[Part]) -> Result<Cell, NoMemory>
+    ensures { IfOk result (λ cell. held cell ≡ vals.parts (parts_of (map part_of parts.now))) }
+{
+    let mut bytes = Vec::with_capacity(alloc, parts.len())?;
+    for part in parts {
+        match byte_of_part(part) {
+            Some(byte) => bytes.push(byte)?,
+            None => return Err(lost()),
+        }
+    }
+    Ok(Cell::Bytes(bytes))
+}
+
 /// The value that a cell holds.
 #[cycle(pack)]
-#[tactic(auto, using(crate::proofs::Held::one_is, crate::proofs::Held::ints_are, crate::proofs::Held::many_are))]
+#[tactic(auto, using(crate::proofs::Held::of_forms))]
 pub(crate) fn whole(alloc: Global, cell: &Cell) -> Result<Value, NoMemory>
     ensures { IfOk result (λ value. value_of value ≡ held cell.now) }
 {
@@ -108,6 +164,7 @@ pub(crate) fn whole(alloc: Global, cell: &Cell) -> Result<Value, NoMemory>
         Cell::One(leaf) => leaf.value.copy(alloc),
         Cell::Ints(ints) => whole_ints(alloc, ints.as_slice()),
         Cell::Many(places) => whole_places(alloc, places.as_slice()),
+        Cell::Bytes(bytes) => whole_bytes(alloc, bytes.as_slice()),
     }
 }
 
@@ -136,9 +193,19 @@ fn whole_ints(alloc: Global, ints: &[i128]) -> Result<Value, NoMemory>
     Value::parts(alloc, parts)
 }
 
+fn whole_bytes(alloc: Global, bytes: &[u8]) -> Result<Value, NoMemory>
+    ensures { IfOk result (λ value. value_of value ≡ packed_bytes bytes.now) }
+{
+    let mut parts = Vec::with_capacity(alloc, bytes.len())?;
+    for byte in bytes {
+        parts.push(Part::plain(Value::Int(i128::from(*byte))))?;
+    }
+    Value::parts(alloc, parts)
+}
+
 /// The same cell once more.
 #[cycle(again)]
-#[tactic(auto, using(crate::proofs::Held::one_is, crate::proofs::Held::ints_are, crate::proofs::Held::many_are))]
+#[tactic(auto, using(crate::proofs::Held::of_forms))]
 pub(crate) fn copy_cell(alloc: Global, cell: &Cell) -> Result<Cell, NoMemory>
     ensures { IfOk result (λ copy. held copy ≡ held cell.now) }
 {
@@ -146,6 +213,7 @@ pub(crate) fn copy_cell(alloc: Global, cell: &Cell) -> Result<Cell, NoMemory>
         Cell::One(leaf) => Ok(Cell::One(leaf.copy(alloc)?)),
         Cell::Ints(ints) => Ok(Cell::Ints(Vec::from_slice(alloc, ints.as_slice())?)),
         Cell::Many(places) => copy_places(alloc, places.as_slice()),
+        Cell::Bytes(bytes) => Ok(Cell::Bytes(Vec::from_slice(alloc, bytes.as_slice())?)),
     }
 }
 

@@ -29,6 +29,17 @@ impl Store {
         Ok(ints)
     }
 
+    /// The bytes of a slice of bytes.
+    #[tactic(auto, using(crate::proofs::Spelled::elements_ints))]
+    fn bytes_of(&self, alloc: Global, slice: &SliceValue) -> Result<Vec<u8>, NoMemory>
+        ensures { IfOk result (λ bytes. elements_of (stored self.now) slice.now ≡ Some (map number (numbers_of bytes.items))) }
+    {
+        let mut run = no_bytes(alloc);
+        self.push_slice(&mut run, slice)?;
+        let bytes = bytes_in(run)?;
+        Ok(bytes)
+    }
+
     /// A slice of a new array of integers, whose capacity is its length. `MakeSliceLen` exactly where there are more
     /// than 16,777,216. After an error the store is as before.
     #[tactic(auto, using(crate::proofs::Spelled::packed_is, crate::proofs::Held::ints_are))]
@@ -40,6 +51,18 @@ impl Store {
             return Err(ValueError::Fault(Fault::MakeSliceLen));
         }
         Ok(self.slice_of_array(Cell::Ints(ints), len, len)?)
+    }
+
+    /// A slice of a new array of bytes, as `slice_of_ints`.
+    #[tactic(auto, using(crate::proofs::Held::bytes_are))]
+    fn slice_of_bytes(&mut self, bytes: Vec<u8>) -> Result<SliceValue, ValueError>
+        ensures { MakesSlice (stored self.old) (numbers_of bytes.items) result (stored self.new) }
+    {
+        let len = bytes.len() as u64;
+        if len > u64::from(MAX_SLICE_LEAVES) {
+            return Err(ValueError::Fault(Fault::MakeSliceLen));
+        }
+        Ok(self.slice_of_array(Cell::Bytes(bytes), len, len)?)
     }
 }
 
@@ -60,37 +83,30 @@ fn ints_in(array: Cell) -> Result<Vec<i128>, NoMemory>
     }
 }
 
+#[tactic(auto, using(crate::proofs::Held::bytes_are))]
+fn no_bytes(alloc: Global) -> Cell
+    ensures { held result ≡ packed [] }
+{
+    Cell::Bytes(Vec::new(alloc))
+}
+
+#[tactic(auto, using(crate::proofs::Held::bytes_are))]
+fn bytes_in(array: Cell) -> Result<Vec<u8>, NoMemory>
+    ensures { IfOk result (λ bytes. held array ≡ packed (numbers_of bytes.items)) }
+{
+    match array {
+        Cell::Bytes(bytes) => Ok(bytes),
+        _ => Err(lost()),
+    }
+}
+
 /// The text of a slice of bytes. `TextTooLong` exactly where there are more than 268,435,456.
-#[tactic(auto, using(crate::proofs::Spelled::of_slice))]
+#[tactic(auto, using(crate::proofs::Spelled::of_bytes))]
 pub fn text_of_bytes(alloc: Global, store: &Store, slice: &SliceValue) -> Result<Bytes, ValueError>
     ensures text { Gives (λ text. text) result (within_limit (flat_map byte_of (items_of (stored store.now) slice.now))) }
     ensures there { OnOk result (IsSome (elements_of (stored store.now) slice.now)) }
 {
-    let ints = store.ints_of(alloc, slice)?;
-    let bytes = bytes_of_ints(alloc, ints.as_slice())?;
-    within_limit(bytes)
-}
-
-fn bytes_of_ints(alloc: Global, ints: &[i128]) -> Result<Vec<u8>, NoMemory>
-    ensures { IfOk result (λ bytes. bytes.items ≡ flat_map byte_of (map number ints.now)) }
-{
-    let mut bytes = Vec::with_capacity(alloc, ints.len())?;
-    for number in ints {
-        push_byte(&mut bytes, *number)?;
-    }
-    Ok(bytes)
-}
-
-fn push_byte(bytes: &mut Vec<u8>, value: i128) -> Result<(), NoMemory>
-    ensures { OnOk result (bytes.new.items ≡ bytes.old.items ++ byte_of (number value)) }
-{
-    match u8::try_from(value) {
-        Ok(byte) => {
-            bytes.push(byte)?;
-            Ok(())
-        }
-        Err(_) => Err(lost()),
-    }
+    within_limit(store.bytes_of(alloc, slice)?)
 }
 
 /// The text of a slice of code points. One that is none counts as U+FFFD. `TextTooLong` exactly where the text would
@@ -138,18 +154,8 @@ pub fn bytes_of_text(
     if bytes.len() > MAX_SLICE_LEAVES as usize {
         return Err(ValueError::Fault(Fault::MakeSliceLen));
     }
-    let ints = ints_of_bytes(alloc, bytes)?;
-    store.slice_of_ints(ints)
-}
-
-fn ints_of_bytes(alloc: Global, bytes: &[u8]) -> Result<Vec<i128>, NoMemory>
-    ensures { IfOk result (λ ints. ints.items ≡ numbers_of bytes.now) }
-{
-    let mut ints = Vec::with_capacity(alloc, bytes.len())?;
-    for byte in bytes {
-        ints.push(i128::from(*byte))?;
-    }
-    Ok(ints)
+    let bytes = Vec::from_slice(alloc, bytes)?;
+    store.slice_of_bytes(bytes)
 }
 
 /// A slice of the code points of a text, in a new array. `MakeSliceLen` exactly where there are more than 16,777,216.

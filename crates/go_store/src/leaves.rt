@@ -1,7 +1,7 @@
 //! Values that stand in cells one by one.
 
 ghost use Rattle.std.specs.Prelude.{◌≡◌, false, IfOk};
-ghost use Rattle.go_value.specs.Kinds.{integer, has_parts, renumbered};
+ghost use Rattle.go_value.specs.Kinds.{integer, has_parts};
 ghost use Rattle.go_value.specs.Values.{value_of};
 
 use go_base::NoMemory;
@@ -23,13 +23,6 @@ impl Leaf {
         Ok(Leaf {
             value: self.value.copy(alloc)?,
         })
-    }
-
-    /// Puts an integer in the place of one.
-    pub(crate) fn renumber(&mut self, number: i128)
-        ensures { value_of self.new.value ≡ renumbered number (value_of self.old.value) }
-    {
-        self.value.put_int(number);
     }
 }
 

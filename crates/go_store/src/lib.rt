@@ -3,6 +3,7 @@
 
 mod cells;
 mod conversions;
+mod forms;
 mod leaves;
 mod map_calls;
 mod memory;

@@ -13,7 +13,9 @@ ghost use Rattle.go_store.specs.Stores.{loaded, made, stored, with_part_in};
 use crate::cells::Cell;
 use crate::memory::lost;
 use crate::parts::part;
-use crate::runs::{empty_array, push_all, push_run, push_times, push_zeros, write_run};
+use crate::runs::{
+    empty_array, empty_bytes, empty_ints, push_all, push_run, push_times, push_zeros, write_run,
+};
 use crate::store::Store;
 use go_base::{CellId, NoMemory};
 use go_value::{Address, Fault, Pointer, SliceValue, Value, ValueError, check_index, pointer_to};
@@ -235,7 +237,7 @@ impl Store {
         ensures err { OnErr result (stored self.new ≡ stored self.old) }
     {
         match self.cells.get_mut(cell.number as usize) {
-            Some(cell) => write_run(cell, steps, first as usize, elements),
+            Some(cell) => write_run(self.alloc, cell, steps, first as usize, elements),
             None => Err(lost()),
         }
     }
@@ -293,12 +295,13 @@ impl Store {
     }
 
     /// An array without elements, for as many as are told, of the kind of the array that a pointer points into.
-    #[tactic(auto, using(crate::proofs::Lengthened::ints_empty, crate::proofs::Lengthened::many_empty))]
+    #[tactic(auto, using(crate::proofs::Lengthened::many_empty))]
     fn empty_like(&self, at: &Pointer, room: usize) -> Result<Cell, NoMemory>
         ensures { IfOk result (λ array. held array ≡ array_of []) }
     {
         match self.array(at) {
-            Some((Cell::Ints(_), _)) => Ok(Cell::Ints(Vec::with_capacity(self.alloc, room)?)),
+            Some((Cell::Bytes(_), _)) => empty_bytes(self.alloc, room),
+            Some((Cell::Ints(_), _)) => empty_ints(self.alloc, room),
             _ => Ok(Cell::Many(Vec::with_capacity(self.alloc, room)?)),
         }
     }

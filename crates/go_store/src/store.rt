@@ -1,14 +1,15 @@
 //! The store of cells. Go specification, "Variables" and "Assignment statements".
 
-ghost use Rattle.std.specs.Prelude.{◌≡◌, ◌↔◌, [], Some, None, IsSome, IfSome, IfNone, IfOk, IfErr, IsErr, IsErrOf, OnOk, OnErr, length};
+ghost use Rattle.std.specs.Prelude.{◌≡◌, ◌↔◌, [], Some, None, IsSome, IfSome, IfNone, IfOk, IsErrOf, OnOk, OnErr, length};
 ghost use Rattle.go_value.specs.Address.{part_of};
 ghost use Rattle.go_value.specs.Gives.{FaultsIff};
 ghost use Rattle.go_store.specs.Cells.{held, integer_in};
-ghost use Rattle.go_store.specs.Stores.{stored, made, part_in, loaded, loaded_int, with_part_in, put_in, put_int_in};
-ghost use Rattle.go_value.specs.Kinds.{renumbered};
+ghost use Rattle.go_store.specs.Stores.{stored, made, part_in, loaded, with_part_in, put_in};
+ghost use Rattle.go_value.specs.Values as vals;
 ghost use Rattle.go_value.specs.Values.{value_of};
 
 use crate::cells::{Cell, cell_of};
+use crate::leaves::integer;
 use crate::memory::lost;
 use crate::parts::{read, read_int, write, write_int};
 use go_base::{CellId, NoMemory};
@@ -129,6 +130,36 @@ impl Store {
         ensures there { OnOk result (IsSome (part_in (stored self.old) cell steps.now)) }
         ensures err { OnErr result (stored self.new ≡ stored self.old) }
     {
+        match integer(&value) {
+            Some(number) => {
+                drop(value);
+                self.write_int_part(cell, steps, number)
+            }
+            None => self.write_value_part(cell, steps, value),
+        }
+    }
+
+    fn write_int_part(&mut self, cell: CellId, steps: &[u32], number: i128) -> Result<(), NoMemory>
+        ensures ok { OnOk result (stored self.new ≡ with_part_in (λ _. vals.number number) (stored self.old) cell steps.now) }
+        ensures there { OnOk result (IsSome (part_in (stored self.old) cell steps.now)) }
+        ensures err { OnErr result (stored self.new ≡ stored self.old) }
+    {
+        match self.cells.get_mut(cell.number as usize) {
+            Some(cell) => write_int(self.alloc, cell, steps, number),
+            None => Err(lost()),
+        }
+    }
+
+    fn write_value_part(
+        &mut self,
+        cell: CellId,
+        steps: &[u32],
+        value: Value,
+    ) -> Result<(), NoMemory>
+        ensures ok { OnOk result (stored self.new ≡ with_part_in (λ _. value_of value) (stored self.old) cell steps.now) }
+        ensures there { OnOk result (IsSome (part_in (stored self.old) cell steps.now)) }
+        ensures err { OnErr result (stored self.new ≡ stored self.old) }
+    {
         let mut new = cell_of(self.alloc, value)?;
         let written = self.write_cell(cell, steps, &mut new);
         drop(new);
@@ -143,27 +174,6 @@ impl Store {
         match self.cells.get_mut(cell.number as usize) {
             Some(cell) => write(cell, steps, new),
             None => Err(lost()),
-        }
-    }
-
-    /// The integer that the part holds that a pointer points to. `NilPointer` exactly where it is nil. It takes no
-    /// memory.
-    pub fn load_int(&self, at: &Pointer) -> Result<i128, Fault>
-        ensures { result ≡ loaded_int (stored self.now) at.now }
-    {
-        match at.cell {
-            Some(cell) => Ok(self.read_int_part(cell, at.path.as_slice()).unwrap_or(0)),
-            None => Err(Fault::NilPointer),
-        }
-    }
-
-    /// The integer that the part holds that an address leads to, as `load_int`.
-    pub fn load_int_at(&self, at: &Address) -> Result<i128, Fault>
-        ensures { result ≡ loaded_int (stored self.now) at.now }
-    {
-        match cell_and_steps(at) {
-            Some((cell, steps)) => Ok(self.read_int_part(cell, steps).unwrap_or(0)),
-            None => Err(Fault::NilPointer),
         }
     }
 
@@ -182,45 +192,6 @@ impl Store {
         match self.cells.get(cell.number as usize) {
             Some(cell) => read_int(cell, steps),
             None => None,
-        }
-    }
-
-    /// Puts an integer in the place of the one that a pointer points to. `NilPointer` exactly where it is nil. It takes
-    /// no memory.
-    pub fn put_int(&mut self, at: &Pointer, value: i128) -> Result<(), Fault>
-        ensures put { stored self.new ≡ put_int_in value (stored self.old) at.now }
-        ensures nil { IsErr result ↔ (at.now.cell ≡ None) }
-        ensures fault { IfErr result (λ fault. fault ≡ Fault.NilPointer) }
-    {
-        match at.cell {
-            Some(cell) => {
-                self.write_int_part(cell, at.path.as_slice(), value);
-                Ok(())
-            }
-            None => Err(Fault::NilPointer),
-        }
-    }
-
-    /// Puts an integer in the place of the one that an address leads to, as `put_int`.
-    pub fn put_int_at(&mut self, at: &Address, value: i128) -> Result<(), Fault>
-        ensures put { stored self.new ≡ put_int_in value (stored self.old) at.now }
-        ensures nil { IsErr result ↔ (at.now.cell ≡ None) }
-        ensures fault { IfErr result (λ fault. fault ≡ Fault.NilPointer) }
-    {
-        match cell_and_steps(at) {
-            Some((cell, steps)) => {
-                self.write_int_part(cell, steps, value);
-                Ok(())
-            }
-            None => Err(Fault::NilPointer),
-        }
-    }
-
-    fn write_int_part(&mut self, cell: CellId, steps: &[u32], value: i128)
-        ensures { stored self.new ≡ with_part_in (renumbered value) (stored self.old) cell steps.now }
-    {
-        if let Some(cell) = self.cells.get_mut(cell.number as usize) {
-            write_int(cell, steps, value);
         }
     }
 

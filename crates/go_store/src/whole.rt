@@ -39,6 +39,6 @@ fn whole_value(cell: &Cell) -> Option<&Value>
 {
     match cell {
         Cell::One(leaf) => Some(&leaf.value),
-        Cell::Ints(_) | Cell::Many(_) => None,
+        Cell::Ints(_) | Cell::Many(_) | Cell::Bytes(_) => None,
     }
 }

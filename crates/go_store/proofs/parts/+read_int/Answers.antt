@@ -1,8 +1,8 @@
 use Rattle.std.proofs.Common.{rules, ◌≡◌, ◌∷◌, ◌∙◌, ap, sym, subst, refl, cond, Some, None, IfSome, IfOk, Option, List, ℕ, ℤ, arith}
 use Rattle.std.proofs.Common.{slice_get}
 use Rattle.std.proofs.lemmas.Option.{slice_get_past}
-use Rattle.go_store.specs.Cells.{integer_in, packed, read_at}
-use Rattle.go_store.proofs.Reached.{got, past_get, read_into, read_past, read_ints, read_leaf}
+use Rattle.go_store.specs.Cells.{integer_in, packed, packed_bytes, read_at}
+use Rattle.go_store.proofs.Reached.{got, past_get, read_into, read_past, read_ints, read_bytes, read_leaf}
 use Rattle.go_store.proofs.parts.+read_int.Goals as goal
 
 pub returns-in-Some-get : goal.returns-in-Some-get
@@ -18,3 +18,6 @@ returns-in-Ints t c = c.number_at.ensures ∙ ap (λ xs. integer_in (read_at (pa
 
 pub returns-in-One : goal.returns-in-One
 returns-in-One t c = ap integer_in (sym (read_leaf c.args.cell.now c.args.steps.now _ c.in-Some.step.now c.in-Some.rest.now c.in-One.is c.in-Some.ensures.cases.0))
+
+pub returns-in-Bytes : goal.returns-in-Bytes
+returns-in-Bytes t c = c.byte_at.ensures ∙ ap (λ xs. integer_in (read_at (packed_bytes xs) (c.in-Some.step.now ∷ c.in-Some.rest.now))) c.as_slice-in-Bytes.ensures.value ∙ ap integer_in (sym (read_bytes c.args.cell.now c.args.steps.now c.in-Bytes.bytes c.in-Some.step.now c.in-Some.rest.now c.in-Bytes.is c.in-Some.ensures.cases.0))

@@ -8,8 +8,8 @@ use Rattle.go_value.specs.Values as vals
 use Rattle.go_value.specs.Values.{Val}
 use Rattle.go_store.specs.Cells.{held, updated, written_at, packed, read_at}
 use Rattle.go_store.specs.declared.cells.Place.{Place}
-use Rattle.go_store.proofs.Reached.{got, on_ok, on_err, place_written, place_same, ints_written, ints_same, read_into, read_ints, some_number}
-use Rattle.go_store.proofs.Written.{put_many_is, put_ints_is}
+use Rattle.go_store.proofs.Reached.{got, on_ok, on_err, place_written, place_same, read_into}
+use Rattle.go_store.proofs.Written.{put_many_is}
 use Rattle.go_store.proofs.parts.+write.Goals as goal
 
 pub returns-in-Some-get_mut-clause-ok : goal.returns-in-Some-get_mut-clause-ok
@@ -25,24 +25,3 @@ pub returns-in-Some-get_mut-clause-err : goal.returns-in-Some-get_mut-clause-err
 returns-in-Some-get_mut-clause-err t c = on_err c.write.result c.write.ensures.err (λ same.
     ap held (put_many_is c.args.cell.now c.in-Many.places _ c.in-Many.is)
     ∙ place_same c.args.cell.now c.in-Many.places c.in-Some.step.now c.in-Some-get_mut.place.now c.write.new.cell _ c.in-Many.is (ap (λ (v : Vec Place). slice_get v.items c.in-Some.step.now) (sym c.in-Many.places-is) ∙ got _ c.in-Some.step.now c.in-Some-get_mut.place.now c.in-Some-get_mut.ensures.item.3.0 c.in-Some-get_mut.ensures.item.1) same (ap (λ (v : Vec Place). slice_set v.items c.in-Some.step.now (record { cell = c.write.new.cell; blank = c.in-Some-get_mut.place.now.blank })) c.in-Many.places-is))
-
-pub returns-in-Some-whole_int-clause-ok : goal.returns-in-Some-whole_int-clause-ok
-returns-in-Some-whole_int-clause-ok t c =
-    let plain : to_z w128 (of_z w128 c.in-Some-whole_int.number) ≡ c.in-Some-whole_int.number = grind (arith, ints, to_z-of_z) in
-    on_ok c.write_number.result c.write_number.ensures.ok (λ same.
-    ap held (put_ints_is c.args.cell.now c.in-Ints.ints _ c.in-Ints.is)
-    ∙ ints_written (λ _. held c.args.new.now) c.args.cell.now c.args.steps.now c.in-Ints.ints _ c.in-Some.step.now c.in-Some.rest.now c.write_number.new.ints c.in-Ints.ints-is c.in-Ints.is c.in-Some.ensures.cases.0 (c.write_number.auto.ints ∙ c.as_mut_slice.ensures.len)
-    (same
-    ∙ ap (λ (it : Val). written_at it (packed c.as_mut_slice.result.now) (c.in-Some.step.now ∷ c.in-Some.rest.now)) (ap vals.number plain ∙ some_number c.whole_int.result c.in-Some-whole_int.number (held c.args.new.now) c.whole_int.ensures c.in-Some-whole_int.is)
-    ∙ ap (λ xs. written_at (held c.args.new.now) (packed xs) (c.in-Some.step.now ∷ c.in-Some.rest.now)) (c.as_mut_slice.ensures.value ∙ ap (λ (v : Vec ℤ). v.items) c.in-Ints.ints-is)))
-
-pub returns-in-Some-whole_int-clause-there : goal.returns-in-Some-whole_int-clause-there
-returns-in-Some-whole_int-clause-there t c =
-    subst (λ o. OnOk c.write_number.result (IsSome o))
-    (ap (λ xs. read_at (packed xs) (c.in-Some.step.now ∷ c.in-Some.rest.now)) (c.as_mut_slice.ensures.value ∙ ap (λ (v : Vec ℤ). v.items) c.in-Ints.ints-is) ∙ sym (read_ints c.args.cell.now c.args.steps.now c.in-Ints.ints c.in-Some.step.now c.in-Some.rest.now c.in-Ints.is c.in-Some.ensures.cases.0))
-    c.write_number.ensures.there
-
-pub returns-in-Some-whole_int-clause-err : goal.returns-in-Some-whole_int-clause-err
-returns-in-Some-whole_int-clause-err t c = on_err c.write_number.result c.write_number.ensures.err (λ same.
-    ap held (put_ints_is c.args.cell.now c.in-Ints.ints _ c.in-Ints.is)
-    ∙ ints_same c.args.cell.now c.in-Ints.ints _ c.write_number.new.ints c.in-Ints.ints-is c.in-Ints.is (c.write_number.auto.ints ∙ c.as_mut_slice.ensures.len) (same ∙ c.as_mut_slice.ensures.value ∙ ap (λ (v : Vec ℤ). v.items) c.in-Ints.ints-is))

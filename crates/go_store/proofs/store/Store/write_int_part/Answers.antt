@@ -2,21 +2,24 @@ use Rattle.std.proofs.Common.{rules, ◌≡◌, ◌∷◌, ◌∙◌, ap, sym, s
 use Rattle.std.specs.Global.{Vec}
 use Rattle.std.specs.Int.{w128}
 use Rattle.std.proofs.lemmas.Int.{to_z-of_z}
-use Rattle.go_value.specs.Kinds.{renumbered}
+use Rattle.go_value.specs.Values as vals
 use Rattle.go_value.specs.Values.{Val}
-use Rattle.go_store.specs.Cells.{held, updated}
+use Rattle.go_store.specs.Cells.{held, written_at}
 use Rattle.go_store.specs.Stores.{stored}
-use Rattle.go_store.proofs.Reached.{got, past_get}
-use Rattle.go_store.proofs.Changed.{cell_changed, cell_past}
+use Rattle.go_store.proofs.Reached.{got, on_ok, on_err}
+use Rattle.go_store.proofs.Changed.{cell_changed, item_same, part_at}
 use Rattle.go_store.proofs.store.Store.write_int_part.Goals as goal
 
-pub returns-in-Some : goal.returns-in-Some
-returns-in-Some c =
+pub returns-in-Some-clause-ok : goal.returns-in-Some-clause-ok
+returns-in-Some-clause-ok c = on_ok c.write_int.result c.write_int.ensures.ok (λ same.
     ap (λ (vs : List Val). record (stored c.args.self.now) { cells = vs })
-    (cell_changed (λ it. updated (renumbered c.args.value) it c.args.steps.now) c.args.self.now.cells.items c.args.cell.number c.in-Some.cell.now c.write_int.new.cell (got c.args.self.now.cells.items c.args.cell.number c.in-Some.cell.now c.in-Some.ensures.item.3.0 c.in-Some.ensures.item.1)
-    (c.write_int.ensures ∙ ap (λ n. updated (renumbered n) (held c.in-Some.cell.now) c.args.steps.now) (to_z-of_z w128 c.args.value c.ranges.value)))
+    (cell_changed (λ it. written_at (vals.number c.args.number) it c.args.steps.now) c.args.self.now.cells.items c.args.cell.number c.in-Some.cell.now c.write_int.new.cell (got c.args.self.now.cells.items c.args.cell.number c.in-Some.cell.now c.in-Some.ensures.item.3.0 c.in-Some.ensures.item.1) (same ∙ ap (λ n. written_at (vals.number n) (held c.in-Some.cell.now) c.args.steps.now) (to_z-of_z w128 c.args.number c.ranges.number))))
 
-pub returns-in_default : goal.returns-in_default
-returns-in_default c =
+pub returns-in-Some-clause-there : goal.returns-in-Some-clause-there
+returns-in-Some-clause-there c =
+    subst (λ o. OnOk c.write_int.result (IsSome o)) (sym (part_at c.args.self.now.cells.items c.args.cell.number c.in-Some.cell.now c.args.steps.now (got c.args.self.now.cells.items c.args.cell.number c.in-Some.cell.now c.in-Some.ensures.item.3.0 c.in-Some.ensures.item.1))) c.write_int.ensures.there
+
+pub returns-in-Some-clause-err : goal.returns-in-Some-clause-err
+returns-in-Some-clause-err c = on_err c.write_int.result c.write_int.ensures.err (λ same.
     ap (λ (vs : List Val). record (stored c.args.self.now) { cells = vs })
-    (sym (cell_past (λ it. updated (renumbered c.args.value) it c.args.steps.now) c.args.self.now.cells.items c.args.cell.number (past_get _ _ c.args.cell.number refl c.in_default.ensures.item.3)))
+    (item_same c.args.self.now.cells.items c.args.cell.number c.in-Some.cell.now c.write_int.new.cell (got c.args.self.now.cells.items c.args.cell.number c.in-Some.cell.now c.in-Some.ensures.item.3.0 c.in-Some.ensures.item.1) same))

@@ -1,0 +1,29 @@
+use Rattle.std.proofs.Common.{rules, ◌≡◌, ◌∷◌, [], ◌++◌, ◌∙◌, ap, sym, subst, refl, Some, None, IsSome, IfSome, IfOk, OnOk, OnErr, Option, List, ℕ, ℤ, pos, ◌+◌, ◌≤◌, arith, map, take, drop, unwrap_or, length}
+use Rattle.go_value.specs.Values.{Val}
+use Rattle.go_store.specs.Arrays.{run_of, with_elements}
+use Rattle.go_store.specs.Cells.{held, packed, packed_bytes}
+use Rattle.std.proofs.lemmas.List.{map-append}
+use Rattle.go_store.proofs.Overwritten.{bytes_run, ints_run, numbers_pushed, on_ok_with}
+use Rattle.go_store.proofs.Reached.{on_ok}
+use Rattle.go_store.proofs.runs.push_run_of_bytes.Goals as goal
+
+pub returns-in-Bytes-clause-ok : goal.returns-in-Bytes-clause-ok
+returns-in-Bytes-clause-ok c = on_ok_with c.push_bytes.result c.push_bytes.ensures.within c.push_bytes.ensures.ok (λ within same.
+    ap packed_bytes same
+    ∙ ap packed (map-append pos c.args.all.now.items _)
+    ∙ numbers_pushed (map pos c.args.all.now.items) _
+    ∙ sym (ap (λ (o : Option (List Val)). with_elements (unwrap_or o []) (packed_bytes c.args.all.now.items)) (bytes_run c.args.from.now c.in-Bytes.bytes c.as_slice.result.now c.args.first c.args.len c.in-Bytes.is c.as_slice.ensures.value within)))
+
+pub returns-in-Bytes-clause-there : goal.returns-in-Bytes-clause-there
+returns-in-Bytes-clause-there c = on_ok c.push_bytes.result c.push_bytes.ensures.within (λ within.
+    subst (λ o. IsSome o) (sym (bytes_run c.args.from.now c.in-Bytes.bytes c.as_slice.result.now c.args.first c.args.len c.in-Bytes.is c.as_slice.ensures.value within)) refl)
+
+pub returns-in-Ints-clause-ok : goal.returns-in-Ints-clause-ok
+returns-in-Ints-clause-ok c = on_ok_with c.push_narrow_run.result c.push_narrow_run.ensures.within c.push_narrow_run.ensures.ok (λ within same.
+    ap packed same
+    ∙ numbers_pushed (map pos c.args.all.now.items) _
+    ∙ sym (ap (λ (o : Option (List Val)). with_elements (unwrap_or o []) (packed_bytes c.args.all.now.items)) (ints_run c.args.from.now c.in-Ints.ints c.as_slice-in-Ints.result.now c.args.first c.args.len c.in-Ints.is c.as_slice-in-Ints.ensures.value within)))
+
+pub returns-in-Ints-clause-there : goal.returns-in-Ints-clause-there
+returns-in-Ints-clause-there c = on_ok c.push_narrow_run.result c.push_narrow_run.ensures.within (λ within.
+    subst (λ o. IsSome o) (sym (ints_run c.args.from.now c.in-Ints.ints c.as_slice-in-Ints.result.now c.args.first c.args.len c.in-Ints.is c.as_slice-in-Ints.ensures.value within)) refl)
