@@ -7,7 +7,6 @@ ghost use Rattle.go_value.specs.declared.values.Part.{Part as PartType};
 ghost use Rattle.go_store.specs.Cells.{held, packed, packed_bytes, place_of, plain_number, IsPlain};
 
 use crate::leaves::{Leaf, integer};
-use crate::memory::lost;
 use go_base::NoMemory;
 use go_value::{Part, Value};
 use std::alloc::Global;
@@ -64,8 +63,8 @@ pub(crate) fn cell_of_copy(alloc: Global, value: &Value) -> Result<Cell, NoMemor
 fn cell_of_parts(alloc: Global, parts: &[Part]) -> Result<Cell, NoMemory>
     ensures { IfOk result (λ cell. held cell ≡ vals.parts (parts_of (map part_of parts.now))) }
 {
-    if are_ints(parts) {
-        return cell_of_ints(alloc, parts);
+    if let Some(packed) = packed_cell(alloc, parts)? {
+        return Ok(packed);
     }
     let mut places = Vec::with_capacity(alloc, parts.len())?;
     for part in parts {
@@ -76,6 +75,22 @@ fn cell_of_parts(alloc: Global, parts: &[Part]) -> Result<Cell, NoMemory>
         })?;
     }
     Ok(Cell::Many(places))
+}
+
+/// The cell of parts that are integers, and none a field named `_`. None where they are not.
+#[tactic(auto, using(crate::proofs::Held::bytes_are))]
+fn packed_cell(alloc: Global, parts: &[Part]) -> Result<Option<Cell>, NoMemory>
+    ensures { IfOk result (λ found. IfSome found (λ cell. held cell ≡ vals.parts (parts_of (map part_of parts.now)))) }
+{
+    if parts.len() >= LEAST_BYTES {
+        if let Some(bytes) = bytes_of_parts(alloc, parts)? {
+            return Ok(Some(Cell::Bytes(bytes)));
+        }
+    }
+    if are_ints(parts) {
+        return Ok(Some(cell_of_ints(alloc, parts)?));
+    }
+    Ok(None)
 }
 
 /// Whether parts are integers, and none is a field named `_`.
@@ -90,19 +105,8 @@ fn are_ints(parts: &[Part]) -> bool
     !parts.is_empty()
 }
 
-#[tactic(auto, using(crate::proofs::Held::bytes_are))]
-fn cell_of_ints(alloc: Global, parts: &[Part]) -> Result<Cell, NoMemory>
-    requires { (k : ℕ) (d : PartType) → k < length parts.now → IsPlain (part_of (slice_index_or parts.now k d)) }
-    ensures { IfOk result (λ cell. held cell ≡ vals.parts (parts_of (map part_of parts.now))) }
-{
-    if parts.len() >= LEAST_BYTES && are_bytes(parts) {
-        return cell_of_bytes(alloc, parts);
-    }
-    cell_of_wide_ints(alloc, parts)
-}
-
 #[tactic(auto, using(crate::proofs::Held::ints_are))]
-fn cell_of_wide_ints(alloc: Global, parts: &[Part]) -> Result<Cell, NoMemory>
+fn cell_of_ints(alloc: Global, parts: &[Part]) -> Result<Cell, NoMemory>
     requires { (k : ℕ) (d : PartType) → k < length parts.now → IsPlain (part_of (slice_index_or parts.now k d)) }
     ensures { IfOk result (λ cell. held cell ≡ vals.parts (parts_of (map part_of parts.now))) }
 {
@@ -114,16 +118,6 @@ fn cell_of_wide_ints(alloc: Global, parts: &[Part]) -> Result<Cell, NoMemory>
         }
     }
     Ok(Cell::Ints(ints))
-}
-
-/// Whether parts are integers below 256.
-fn are_bytes(parts: &[Part]) -> bool {
-    for part in parts {
-        if byte_of_part(part).is_none() {
-            return false;
-        }
-    }
-    true
 }
 
 /// The integer below 256 that a part is. None where it is none, or a field named `_`.
@@ -140,18 +134,18 @@ fn byte_of_part(part: &Part) -> Option<u8>
     }
 }
 
-#[tactic(auto, using(crate::proofs::Held::bytes_are))]
-fn cell_of_bytes(alloc: Global, parts: &[Part]) -> Result<Cell, NoMemory>
-    ensures { IfOk result (λ cell. held cell ≡ vals.parts (parts_of (map part_of parts.now))) }
+/// The integers below 256 that parts are. None where one is none, or a field named `_`.
+fn bytes_of_parts(alloc: Global, parts: &[Part]) -> Result<Option<Vec<u8>>, NoMemory>
+    ensures { IfOk result (λ found. IfSome found (λ bytes. packed_bytes bytes.items ≡ vals.parts (parts_of (map part_of parts.now)))) }
 {
     let mut bytes = Vec::with_capacity(alloc, parts.len())?;
     for part in parts {
         match byte_of_part(part) {
             Some(byte) => bytes.push(byte)?,
-            None => return Err(lost()),
+            None => return Ok(None),
         }
     }
-    Ok(Cell::Bytes(bytes))
+    Ok(Some(bytes))
 }
 
 /// The value that a cell holds.

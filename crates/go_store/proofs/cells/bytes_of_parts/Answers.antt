@@ -2,9 +2,9 @@ use Rattle.std.proofs.Common.{rules, ◌≡◌, ◌∷◌, [], ◌++◌, ◌∙�
 use Rattle.std.proofs.lemmas.List.{take_all}
 use Rattle.go_value.specs.Values as vals
 use Rattle.go_value.specs.Values.{Field, part_of, parts_of}
-use Rattle.go_store.proofs.Held.{bytes_are, bytes_parts, plain_byte}
+use Rattle.go_store.proofs.Held.{bytes_parts, plain_byte}
 use Rattle.go_store.proofs.Mapped.{mapped_push}
-use Rattle.go_store.proofs.cells.cell_of_bytes.Goals as goal
+use Rattle.go_store.proofs.cells.bytes_of_parts.Goals as goal
 
 pub loop-part-preserved : goal.loop-part-preserved
 loop-part-preserved c =
@@ -14,4 +14,4 @@ loop-part-preserved c =
 
 pub returns : goal.returns
 returns c =
-    bytes_are c.loop-part.bytes ∙ bytes_parts c.loop-part.bytes.items ∙ ap (λ (fields : List Field). vals.parts (parts_of fields)) (c.loop-part.invariant ∙ ap (map part_of) (take_all c.loop-part.part-index c.args.parts.now c.loop-part-test.false))
+    bytes_parts c.loop-part.bytes.items ∙ ap (λ (fields : List Field). vals.parts (parts_of fields)) (c.loop-part.invariant ∙ ap (map part_of) (take_all c.loop-part.part-index c.args.parts.now c.loop-part-test.false))

@@ -9,8 +9,8 @@ use Rattle.go_value.specs.declared.values.Part.{Part}
 use Rattle.go_store.proofs.Held.{ints_are}
 use Rattle.go_store.proofs.Integers.{plain_integer}
 use Rattle.go_store.proofs.Mapped.{mapped_push}
-use Rattle.go_store.proofs.cells.cell_of_wide_ints.Goals as goal
-use Rattle.go_store.proofs.cells.cell_of_wide_ints.Goals.{in-Some+in_ok-push-in-Some, in-None}
+use Rattle.go_store.proofs.cells.cell_of_ints.Goals as goal
+use Rattle.go_store.proofs.cells.cell_of_ints.Goals.{in-Some+in_ok-push-in-Some, in-None}
 
 number_push : (xs : List ℤ) (ys : List Part) (i : ℕ) (x n : ℤ) (it : Part) → map plain_number xs ≡ map part_of (take i ys) → x ≡ n → plain_number n ≡ part_of it → i < length ys → it ≡ get_or ys i it → map plain_number (xs ++ (x ∷ [])) ≡ map part_of (take (i + 1) ys)
 number_push xs ys i x n it before e same below is = mapped_push plain_number part_of xs ys i x it it before (ap plain_number e ∙ same) below is
