@@ -1,11 +1,14 @@
 -- The variables of a run. Go specification, "Variables", "Address operators" and "Assignment statements".
-use Rattle.std.specs.Prelude.{ℕ, zero, suc, List, [], ◌∷◌, ◌++◌, map, Option, slice_get}
+use Rattle.std.specs.Prelude.{ℕ, zero, suc, ℤ, List, [], ◌∷◌, ◌++◌, map, pos, Option, is_none, unwrap_or}
+use Rattle.std.specs.Prelude.{Result, Ok, Err, slice_get, if◌then◌else◌}
 use Rattle.std.specs.Option.{option_and_then, option_map_or}
 use Rattle.go_base.specs.declared.ids.CellId.{CellId}
 use Rattle.go_value.specs.Values.{Val}
 use Rattle.go_value.specs.declared.address.Pointer.{Pointer}
+use Rattle.go_value.specs.declared.faults.Fault.{Fault}
+use Rattle.go_value.specs.declared.faults.Fault.TheVariants as fault
 use Rattle.go_maps.specs.Maps.{Map, maps_of}
-use Rattle.go_store.specs.Cells.{held, read_at, updated}
+use Rattle.go_store.specs.Cells.{held, read_at, updated, integer_in}
 use Rattle.go_store.specs.declared.store.Store.{Store}
 
 -- what the cells hold, and the maps, by their numbers
@@ -28,6 +31,11 @@ part_in store cell steps = option_and_then (λ it. read_at it steps) (slice_get 
 -- the value of the part that a pointer points to. None where it is nil, or names no part that is held
 abbrev pub loaded : Stored → Pointer → Option Val
 loaded store at = option_and_then (λ cell. part_in store cell at.path) at.cell
+
+-- the integer that is there, or 0
+abbrev pub loaded_int : Stored → Pointer → Result ℤ Fault
+loaded_int store at =
+    if is_none at.cell then Err fault.NilPointer else Ok (unwrap_or (integer_in (loaded store at)) (pos 0))
 
 -- ---- what an assignment to it changes: that part of that cell alone
 

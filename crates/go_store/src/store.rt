@@ -4,9 +4,10 @@ ghost use Rattle.std.specs.Prelude.{◌≡◌, ◌↔◌, [], Some, None, IsSome
 ghost use Rattle.go_value.specs.Address.{part_of};
 ghost use Rattle.go_value.specs.Gives.{FaultsIff};
 ghost use Rattle.go_store.specs.Cells.{held, integer_in};
-ghost use Rattle.go_store.specs.Stores.{stored, made, part_in, loaded, with_part_in, put_in};
+ghost use Rattle.go_store.specs.Stores.{stored, made, part_in, loaded, loaded_int, with_part_in, put_in};
 ghost use Rattle.go_value.specs.Values as vals;
 ghost use Rattle.go_value.specs.Values.{value_of};
+ghost use Rattle.go_value.specs.declared.values.Value.TheVariants as values;
 
 use crate::cells::{Cell, cell_of};
 use crate::leaves::integer;
@@ -175,6 +176,48 @@ impl Store {
             Some(cell) => write(cell, steps, new),
             None => Err(lost()),
         }
+    }
+
+    /// The integer that the part holds that a pointer points to, 0 where it holds none. `NilPointer` exactly where it is
+    /// nil. It takes no memory.
+    pub fn load_int(&self, at: &Pointer) -> Result<i128, Fault>
+        ensures { result ≡ loaded_int (stored self.now) at.now }
+    {
+        match at.cell {
+            Some(cell) => Ok(self.read_int_part(cell, at.path.as_slice()).unwrap_or(0)),
+            None => Err(Fault::NilPointer),
+        }
+    }
+
+    /// The integer that the part holds that an address leads to, as `load_int`.
+    pub fn load_int_at(&self, at: &Address) -> Result<i128, Fault>
+        ensures { result ≡ loaded_int (stored self.now) at.now }
+    {
+        match cell_and_steps(at) {
+            Some((cell, steps)) => Ok(self.read_int_part(cell, steps).unwrap_or(0)),
+            None => Err(Fault::NilPointer),
+        }
+    }
+
+    /// Puts an integer in the part of what a pointer points to, as `put`. It takes memory only where an array that is kept
+    /// in bytes gets an integer that is no byte.
+    pub fn put_int(&mut self, at: &Pointer, value: i128) -> Result<(), ValueError>
+        ensures ok { OnOk result (stored self.new ≡ put_in (value_of (values.Int value)) (stored self.old) at.now) }
+        ensures there { OnOk result (IsSome (loaded (stored self.old) at.now)) }
+        ensures nil { FaultsIff result Fault.NilPointer (at.now.cell ≡ None) }
+        ensures err { OnErr result (stored self.new ≡ stored self.old) }
+    {
+        self.put(at, Value::Int(value))
+    }
+
+    /// Puts an integer in the part that an address leads to, as `put_int`.
+    pub fn put_int_at(&mut self, at: &Address, value: i128) -> Result<(), ValueError>
+        ensures ok { OnOk result (stored self.new ≡ put_in (value_of (values.Int value)) (stored self.old) at.now) }
+        ensures there { OnOk result (IsSome (loaded (stored self.old) at.now)) }
+        ensures nil { FaultsIff result Fault.NilPointer (at.now.cell ≡ None) }
+        ensures err { OnErr result (stored self.new ≡ stored self.old) }
+    {
+        self.put_at(at, Value::Int(value))
     }
 
     /// The integer that the part holds that an address leads to. None where the address is nil, or that is no integer.
