@@ -272,7 +272,7 @@ fn without_names(alloc: Global, variadic: bool, list: Vec<Entry>) -> Result<Vec<
     ensures { Gives (λ x. each view_param x.items) result (types_of variadic (entries list.items)) }
 {
     let mut front = list;
-    let mut params = Vec::new(alloc);
+    let mut params = Vec::with_capacity(alloc, front.len())?;
     let Some(last) = front.pop() else {
         return Ok(params);
     };

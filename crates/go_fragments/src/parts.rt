@@ -25,7 +25,7 @@ pub fn alone<T: Drop>(alloc: Global, item: T) -> Result<Vec<T>, Stop>
     ensures listed { IfOk result (λ x. x.items ≡ item ∷ []) }
     ensures memory { IfErr result (λ stop. stop ≡ stops.Memory) }
 {
-    let mut items = Vec::new(alloc);
+    let mut items = Vec::with_capacity(alloc, 1)?;
     items.push(item)?;
     Ok(items)
 }

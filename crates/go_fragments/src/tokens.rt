@@ -154,7 +154,7 @@ pub fn list_goes_on(tokens: &[Token]) -> bool
 pub fn names(alloc: Global, tokens: &[Token]) -> Result<(Vec<ListedName>, &[Token]), Stop>
     ensures { Gives (λ x. (each view_listed_name x.0.items, x.1.now)) result (names_in tokens.now) }
 {
-    let mut names = Vec::new(alloc);
+    let mut names = Vec::with_capacity(alloc, 1)?;
     let (mut name, mut rest) = skip(tokens, Kind::Name)?;
     for _ in 0..rest.len() {
         if !begins_with(rest, Kind::Comma) {

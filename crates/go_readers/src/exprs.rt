@@ -552,7 +552,7 @@ pub(crate) fn expr_list(
 ) -> Result<(Vec<ListedExpr>, &[Token]), Stop>
     ensures { Gives (λ x. (each view_listed_expr x.0.items, x.1.now)) result (list_in (parsers depth) (view_context context) tokens.now) }
 {
-    let mut list = Vec::new(alloc);
+    let mut list = Vec::with_capacity(alloc, 1)?;
     let (mut expr, mut rest) = expr(alloc, depth, context, LOOSE, tokens)?;
     for _ in 0..rest.len() {
         if !list_goes_on(rest) {

@@ -16,6 +16,7 @@ use crate::exprs::{LOOSE, expr, expr_list};
 use go_ast::{Kind, Token};
 use go_fragments::boxes::boxed;
 use go_fragments::operands::{Context, begins_with_braces, single};
+use go_fragments::parts::alone;
 use go_fragments::simples::{
     HeaderParts, Init, Simple, SwitchBody, begins_with_branch, begins_with_decl, branch,
     condition_of, ends_statements, guard_of, guard_suffix, is_comm, is_post, labels,
@@ -78,7 +79,7 @@ fn statement_lines(
 ) -> Result<(Vec<StmtLine>, &[Token]), Stop>
     ensures { Gives (λ x. (each view_stmt_line x.0.items, x.1.now)) result (lines_in (parsers depth) tokens.now) }
 {
-    let mut lines = Vec::new(alloc);
+    let mut lines = Vec::with_capacity(alloc, 1)?;
     let mut rest = tokens;
     for _ in 0..tokens.len() {
         if ends_statements(rest) {
@@ -389,9 +390,8 @@ fn if_stmt(alloc: Global, depth: usize, tokens: &[Token]) -> Result<(Box<Stmt>, 
 fn if_arms(alloc: Global, depth: usize, tokens: &[Token]) -> Result<(Vec<IfArm>, &[Token]), Stop>
     ensures { Gives (λ x. (each view_if_arm x.0.items, x.1.now)) result (arms_in (parsers depth) tokens.now) }
 {
-    let mut arms = Vec::new(alloc);
     let (first, mut rest) = if_arm(alloc, depth, None, tokens)?;
-    arms.push(first)?;
+    let mut arms = alone(alloc, first)?;
     for _ in 0..rest.len() {
         if !begins_with_both(rest, Kind::ElseWord, Kind::IfWord) {
             return Ok((arms, rest));

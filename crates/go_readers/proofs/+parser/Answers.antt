@@ -18,7 +18,7 @@ use Rattle.go_readers.proofs.OperandChoices.{operand_function, operand_int, oper
 use Rattle.go_readers.proofs.ParamEntries.{entries_done, entries_fail, entries_on, entries_over, entries_push, entries_start}
 use Rattle.go_readers.proofs.SimpleStmts.{assigned, assigns_nothing, defined, defines_nothing, split_assign, split_define}
 use Rattle.go_readers.proofs.StatementChoices.{compound_block, compound_for, compound_if, compound_select, compound_simple, compound_switch, for_empty, for_ever, for_no_targets, for_no_word, for_range, for_targets, if_without, labels_alone, labels_before, labels_none, labels_wrong, line_empty, line_read, line_seen, memory_alone, rest_clauses, rest_no_condition, rest_no_stmt, rest_range, rest_while, seen_labeled, statement_unlabeled}
-use Rattle.go_fragments.proofs.Statements.{first_push, first_start}
+use Rattle.go_fragments.proofs.Statements.{first_start}
 use Rattle.go_readers.proofs.Statements.{arm_made, branch_first, compound_last, decl_first, defer_first, exprs_list, for_made, go_first, items_listed, range_made, return_first}
 use Rattle.go_readers.proofs.Turns.{binary_done, binary_on, binary_start, binary_stops, primary_start, suffix_done, suffix_on, suffix_stops}
 use Rattle.go_readers.proofs.TypeChoices.{long_bare, long_chan, long_function, long_name, long_star, type_long, type_paren}
@@ -400,12 +400,12 @@ pub stmts::for_stmt-returns : goal.stmts::for_stmt-returns
 stmts::for_stmt-returns t c = rw (for_targets (parsers c.args.depth) c.args.tokens.now c.in_ok-word.rest.now (one c.in_ok-word.word) c.in_ok-word.ensures (sym c.begins_with-is_range.ensures ∙ c.if-is_range.false) (sym c.begins_with_semicolon.ensures ∙ c.if-begins_with_semicolon.false) (sym c.begins_with_braces.ensures ∙ c.if-begins_with_braces.false) (each view_listed_expr c.in_ok-targets.targets.items) c.in_ok-targets.rest.now c.in_ok-targets.ensures) c.for_rest.ensures
 
 pub stmts::if_arms-loop-init : goal.stmts::if_arms-loop-init
-stmts::if_arms-loop-init t c = first_start (begins_both ElseWord IfWord) (arm_in (parsers c.args.depth) empty) (else_arm_in (parsers c.args.depth)) (each view_if_arm c.push.new.self.items) (view_if_arm c.in_ok-first.first) c.args.tokens.now c.in_ok-first.rest.now (length c.in_ok-first.rest.now) 0 c.in_ok-first.ensures (first_push view_if_arm c.new-arms.result.items c.push.new.self.items c.in_ok-first.first c.in_ok-push.ensures.items c.new-arms.ensures.items) refl refl
+stmts::if_arms-loop-init t c = first_start (begins_both ElseWord IfWord) (arm_in (parsers c.args.depth) empty) (else_arm_in (parsers c.args.depth)) (each view_if_arm c.in_ok-arms.arms.items) (view_if_arm c.in_ok-first.first) c.args.tokens.now c.in_ok-first.rest.now (length c.in_ok-first.rest.now) 0 c.in_ok-first.ensures (ap (each view_if_arm) c.in_ok-arms.ensures.listed ∙ append-empty (view_if_arm c.in_ok-first.first)) refl refl
 
 pub stmts::if_arms-loop-preserved : goal.stmts::if_arms-loop-preserved
 stmts::if_arms-loop-preserved t c =
-    many_on (begins_both ElseWord IfWord) (else_arm_in (parsers c.args.depth)) (length c.in_ok-first.rest.now) c.loop.counter (each view_if_arm c.loop.arms.items) (each view_if_arm c.push-in-loop.new.self.items) (view_if_arm c.in_ok-arm.arm) c.loop.rest.now c.in_ok-arm.after.now (arms_in (parsers c.args.depth) c.args.tokens.now)
-    c.loop-test.true (sym c.begins_with_both.ensures ∙ c.if-not-begins_with_both.false) c.in_ok-arm.ensures (ap (each view_if_arm) c.in_ok-push-2.ensures.items ∙ each_push view_if_arm c.loop.arms.items c.in_ok-arm.arm) c.loop.invariant
+    many_on (begins_both ElseWord IfWord) (else_arm_in (parsers c.args.depth)) (length c.in_ok-first.rest.now) c.loop.counter (each view_if_arm c.loop.arms.items) (each view_if_arm c.push.new.self.items) (view_if_arm c.in_ok-arm.arm) c.loop.rest.now c.in_ok-arm.after.now (arms_in (parsers c.args.depth) c.args.tokens.now)
+    c.loop-test.true (sym c.begins_with_both.ensures ∙ c.if-not-begins_with_both.false) c.in_ok-arm.ensures (ap (each view_if_arm) c.in_ok-push.ensures.items ∙ each_push view_if_arm c.loop.arms.items c.in_ok-arm.arm) c.loop.invariant
 
 pub stmts::if_arms-returns-then-not-begins_with_both : goal.stmts::if_arms-returns-then-not-begins_with_both
 stmts::if_arms-returns-then-not-begins_with_both t c = many_done (begins_both ElseWord IfWord) (else_arm_in (parsers c.args.depth)) (length c.in_ok-first.rest.now - c.loop.counter) (each view_if_arm c.loop.arms.items) c.loop.rest.now (arms_in (parsers c.args.depth) c.args.tokens.now) (sym c.begins_with_both.ensures ∙ c.if-not-begins_with_both.true) c.loop.invariant
@@ -484,7 +484,7 @@ stmts::statement_line-returns t c =
     ∙ ap (λ (tree : Forest). Some (tree, c.in_ok-semicolon-2.rest.now)) (line_seen (Some c.in_ok-stmt.stmt) c.in_ok-semicolon-2.semicolon)
 
 pub stmts::statement_lines-loop-init : goal.stmts::statement_lines-loop-init
-stmts::statement_lines-loop-init t c = many_start (λ tokens. not (ends_statements tokens)) (line_in (parsers c.args.depth)) (length c.args.tokens.now) 0 (each view_stmt_line c.new-lines.result.items) c.args.tokens.now refl (ap (each view_stmt_line) c.new-lines.ensures.items)
+stmts::statement_lines-loop-init t c = many_start (λ tokens. not (ends_statements tokens)) (line_in (parsers c.args.depth)) (length c.args.tokens.now) 0 (each view_stmt_line c.in_ok-lines.lines.items) c.args.tokens.now refl (ap (each view_stmt_line) c.in_ok-lines.ensures.items)
 
 pub stmts::statement_lines-loop-preserved : goal.stmts::statement_lines-loop-preserved
 stmts::statement_lines-loop-preserved t c =
