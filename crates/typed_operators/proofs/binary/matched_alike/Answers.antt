@@ -1,4 +1,4 @@
-use Rattle.std.proofs.Common.{◌∙◌, sym, ap, Some, rules}
+use Rattle.std.proofs.Common.{◌∙◌, refl, sym, ap, Some, rules}
 use Rattle.typed_operators.specs.Binary.{IsMatchedAlike}
 use Rattle.typed_operators.proofs.Paired.{alike_becomes, alike_mismatch}
 use Rattle.typed_operators.proofs.binary.matched_alike.Goals as goal
@@ -17,4 +17,4 @@ returns-else-identical c =
 
 pub returns-in_default : goal.returns-in_default
 returns-in_default c =
-    alike_becomes c.args.types.now c.args.first c.args.second c.match_types.result c.in_ok-how.how c.in_default.how c.match_types.ensures c.in_ok-how.was c.in_default.not-Typed c.in_default.how-is
+    alike_becomes c.args.types.now c.args.first c.args.second c.match_types.result c.in_ok-how.how c.in_ok-how.how c.match_types.ensures c.in_ok-how.was c.in_default.not-Typed refl

@@ -1,4 +1,4 @@
-use Rattle.std.proofs.Common.{◌∙◌, sym, ap, Some, rules}
+use Rattle.std.proofs.Common.{◌∙◌, refl, sym, ap, Some, rules}
 use Rattle.typed_operators.specs.Comparing.{IsMatchedFor}
 use Rattle.typed_operators.proofs.Compared.{for_becomes, for_mismatch}
 use Rattle.typed_operators.proofs.comparing.matched_for.Goals as goal
@@ -25,4 +25,4 @@ returns-else-may_pass_either c =
 
 pub returns-in_default : goal.returns-in_default
 returns-in_default c =
-    for_becomes c.args.types.now c.args.op c.args.first c.args.second c.match_compared-2.result c.in_ok-how.how c.in_default.how (sym c.with_nil.ensures ∙ c.if-with_nil.false) c.match_compared-2.ensures c.in_ok-how.was c.in_default.not-Typed c.in_default.how-is
+    for_becomes c.args.types.now c.args.op c.args.first c.args.second c.match_compared-2.result c.in_ok-how.how c.in_ok-how.how (sym c.with_nil.ensures ∙ c.if-with_nil.false) c.match_compared-2.ensures c.in_ok-how.was c.in_default.not-Typed refl
