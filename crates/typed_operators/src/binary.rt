@@ -1,6 +1,16 @@
 //! Operators of arithmetic and logic on two operands. Go specification, "Operators", "Arithmetic operators", "String
 //! concatenation" and "Logical operators".
 
+ghost use Rattle.std.specs.Prelude.{◌≡◌};
+ghost use Rattle.std.specs.Option.{option_map};
+ghost use Rattle.go_base.specs.declared.rule.Rule.TheVariants.{BadOperand, DivisionByZero};
+ghost use Rattle.go_rules.specs.Folding.{arithmetic_folded, logic_folded};
+ghost use Rattle.typed_operators.specs.Binary.{IsAlike, IsArithmetic, IsCombined, IsJoined, IsJunction, IsLogical, IsMatchedAlike, IsOperated, arithmetic_operands, binary_op, broken_of, divisor_given, folded_node, holds_of, is_zero, logic_operands, operands_of, operands_break, operands_hold, takes_given, truth_given, truths, truths_break, truths_hold};
+ghost use Rattle.typed_operators.specs.Pairs.{constants};
+ghost use Rattle.typed_operators.specs.Shifting.{IsBinary, is_left};
+ghost use Rattle.typed_parts.specs.Judged.{Comes, Exactly, reported};
+ghost use Rattle.typed_parts.specs.Numbers.{integer_of};
+
 use crate::pairs::{Pair, paired};
 use crate::shifting::shift;
 use go_base::{NoMemory, Pos, Rule, TypeId};
@@ -10,7 +20,9 @@ use go_rules::{
 };
 use go_tree::{ExprKind, TypedExpr};
 use go_type::{BinaryOp, Const, ConstOp, Types, identical};
-use typed_parts::{Given, Ground, Seen, and_also, binary_of, node, one_value, only, or_else};
+use typed_parts::{
+    Given, Ground, Seen, and_also, binary_of, integer_of, node, one_value, only, or_else,
+};
 
 /// An operator whose result has the type of the left operand: `arithmetic`, or `shift`.
 pub fn binary_expression(
@@ -18,15 +30,25 @@ pub fn binary_expression(
     op: BinaryOp,
     x: Seen,
     y: Seen,
-) -> Result<Option<TypedExpr>, NoMemory> {
+) -> Result<Option<TypedExpr>, NoMemory>
+    ensures { Comes ground.old ground.new result (IsBinary ground.old.types op x y) }
+{
     match op.int_op() {
         Some(int_op) => arithmetic(ground, int_op, x, y),
-        None => shift(ground, op == BinaryOp::ShiftLeft, x, y),
+        None => shift(ground, is_left(op), x, y),
     }
 }
 
+const fn is_left(op: BinaryOp) -> bool
+    ensures { result ≡ is_left op }
+{
+    matches!(op, BinaryOp::ShiftLeft)
+}
+
 /// What two operands become, where that is one type or kind.
-fn matched_alike(types: &Types, first: TypeId, second: TypeId) -> Option<Matched> {
+fn matched_alike(types: &Types, first: TypeId, second: TypeId) -> Option<Matched>
+    ensures { IsMatchedAlike types.now first second result }
+{
     match match_types(types, first, second)? {
         Matched::Typed => {
             if identical(types, first, second) {
@@ -40,7 +62,9 @@ fn matched_alike(types: &Types, first: TypeId, second: TypeId) -> Option<Matched
 }
 
 /// Two operands of one type or kind. `BadOperand` at the first where there is none.
-fn alike(ground: &mut Ground, x: Given, y: Given) -> Result<Option<Pair>, NoMemory> {
+fn alike(ground: &mut Ground, x: Given, y: Given) -> Result<Option<Pair>, NoMemory>
+    ensures { Comes ground.old ground.new result (IsAlike ground.old.types x y) }
+{
     match matched_alike(&ground.types, x.expr.of, y.expr.of) {
         Some(how) => paired(ground, how, x.expr, y.expr),
         None => {
@@ -50,6 +74,15 @@ fn alike(ground: &mut Ground, x: Given, y: Given) -> Result<Option<Pair>, NoMemo
             Ok(None)
         }
     }
+}
+
+/// Two operands, each of which is one value.
+#[derive(Drop)]
+struct Operands {
+    x: Given,
+    y: Given,
+    /// Whether the operator takes them.
+    taken: bool,
 }
 
 /// The places of an operation of arithmetic.
@@ -68,26 +101,61 @@ pub fn arithmetic(
     op: ConstOp,
     x: Seen,
     y: Seen,
-) -> Result<Option<TypedExpr>, NoMemory> {
+) -> Result<Option<TypedExpr>, NoMemory>
+    ensures { Comes ground.old ground.new result (IsArithmetic ground.old.types op x y) }
+{
+    match arithmetic_operands(ground, op, x, y) {
+        Some(operands) => operated(ground, op, operands),
+        None => Ok(None),
+    }
+}
+
+/// The operands of arithmetic, where they are sound.
+#[tactic(auto, using(typed_parts::proofs::Reports::reported_after))]
+fn arithmetic_operands(ground: &mut Ground, op: ConstOp, x: Seen, y: Seen) -> Option<Operands>
+    ensures answer { result ≡ (arithmetic_operands ground.old.types op x y).sound }
+    ensures broken { ground.new ≡ reported ground.old (arithmetic_operands ground.old.types op x y).broken }
+{
     let x = one_value(ground, x);
     let y = one_value(ground, y);
-    let takes = ask_operands(ground, op, &x, &y);
-    let Some((x, y)) = x.zip(y) else {
-        return Ok(None);
-    };
+    let taken = ask_operands(ground, op, &x, &y);
+    operands_of(x, y, taken)
+}
+
+fn operands_of(x: Option<Given>, y: Option<Given>, taken: bool) -> Option<Operands>
+    ensures { result ≡ operands_of x y taken }
+{
+    match x.zip(y) {
+        Some((x, y)) => Some(Operands { x, y, taken }),
+        None => None,
+    }
+}
+
+fn operated(
+    ground: &mut Ground,
+    op: ConstOp,
+    operands: Operands,
+) -> Result<Option<TypedExpr>, NoMemory>
+    ensures { Comes ground.old ground.new result (IsOperated ground.old.types op operands) }
+{
+    let Operands { x, y, taken } = operands;
     let places = Places {
         whole: x.at,
         second: y.at,
     };
     let pair = alike(ground, x, y)?;
-    match only(pair, takes) {
+    match only(pair, taken) {
         Some(pair) => combined(ground, op, places, pair),
         None => Ok(None),
     }
 }
 
 /// Whether each operand that is sound is one that the operator takes.
-fn ask_operands(ground: &mut Ground, op: ConstOp, x: &Option<Given>, y: &Option<Given>) -> bool {
+#[tactic(auto, using(typed_parts::proofs::Reports::reported_after))]
+fn ask_operands(ground: &mut Ground, op: ConstOp, x: &Option<Given>, y: &Option<Given>) -> bool
+    ensures holds { result ≡ operands_hold ground.old.types op x.now y.now }
+    ensures broken { ground.new ≡ reported ground.old (operands_break ground.old.types op x.now y.now) }
+{
     let first = ask_arithmetic(ground, op, x);
     let second = ask_arithmetic(ground, op, y);
     let divisor = ask_divisor(ground, op, y);
@@ -95,7 +163,10 @@ fn ask_operands(ground: &mut Ground, op: ConstOp, x: &Option<Given>, y: &Option<
 }
 
 /// Whether an operand, where it is sound, is one that the operator takes. `BadOperand` at it where not.
-fn ask_arithmetic(ground: &mut Ground, op: ConstOp, x: &Option<Given>) -> bool {
+fn ask_arithmetic(ground: &mut Ground, op: ConstOp, x: &Option<Given>) -> bool
+    ensures holds { result ≡ holds_of (takes_given ground.old.types op) x.now }
+    ensures broken { ground.new ≡ reported ground.old (broken_of (takes_given ground.old.types op) BadOperand x.now) }
+{
     let Some(x) = x else {
         return true;
     };
@@ -107,7 +178,10 @@ fn ask_arithmetic(ground: &mut Ground, op: ConstOp, x: &Option<Given>) -> bool {
 }
 
 /// Whether an operand is no constant 0 by which is divided. `DivisionByZero` at it where it is.
-fn ask_divisor(ground: &mut Ground, op: ConstOp, y: &Option<Given>) -> bool {
+fn ask_divisor(ground: &mut Ground, op: ConstOp, y: &Option<Given>) -> bool
+    ensures holds { result ≡ holds_of (divisor_given op) y.now }
+    ensures broken { ground.new ≡ reported ground.old (broken_of (divisor_given op) DivisionByZero y.now) }
+{
     let Some(y) = y else {
         return true;
     };
@@ -118,11 +192,13 @@ fn ask_divisor(ground: &mut Ground, op: ConstOp, y: &Option<Given>) -> bool {
     false
 }
 
-fn is_zero(expr: &TypedExpr) -> bool {
-    matches!(
-        &expr.kind,
-        ExprKind::ConstOf(Const::Int(0) | Const::Rune(0))
-    )
+fn is_zero(expr: &TypedExpr) -> bool
+    ensures { result ≡ is_zero (integer_of expr.now) }
+{
+    match integer_of(expr) {
+        Some(number) => number == 0,
+        None => false,
+    }
 }
 
 /// An operation on two operands of one type: a constant where both are.
@@ -131,7 +207,9 @@ fn combined(
     op: ConstOp,
     places: Places,
     pair: Pair,
-) -> Result<Option<TypedExpr>, NoMemory> {
+) -> Result<Option<TypedExpr>, NoMemory>
+    ensures { Comes ground.old ground.new result (IsCombined ground.old.types op places pair) }
+{
     let of = pair.left.of;
     if let Some((a, b)) = pair.constants() {
         let value = fold(ground, op, places, a, b, of);
@@ -156,7 +234,9 @@ fn fold(
     a: &Const,
     b: &Const,
     of: TypeId,
-) -> Result<Option<TypedExpr>, NoMemory> {
+) -> Result<Option<TypedExpr>, NoMemory>
+    ensures { Comes ground.old ground.new result (Exactly (folded_node places of (arithmetic_folded ground.old.types op a.now b.now of))) }
+{
     match fold_arithmetic(ground.alloc, &ground.types, op, a, b, of) {
         Ok(value) => Ok(Some(node(places.whole, of, ExprKind::ConstOf(value)))),
         Err(FoldError::Broken(breach)) => {
@@ -171,7 +251,9 @@ fn fold(
     }
 }
 
-const fn binary_op(op: ConstOp) -> BinaryOp {
+const fn binary_op(op: ConstOp) -> BinaryOp
+    ensures { result ≡ binary_op op }
+{
     match op {
         ConstOp::Add => BinaryOp::Add,
         ConstOp::Sub => BinaryOp::Sub,
@@ -191,28 +273,57 @@ pub fn logical(
     op: LogicOp,
     x: Seen,
     y: Seen,
-) -> Result<Option<TypedExpr>, NoMemory> {
+) -> Result<Option<TypedExpr>, NoMemory>
+    ensures { Comes ground.old ground.new result (IsLogical ground.old.types op x y) }
+{
+    match logic_operands(ground, x, y) {
+        Some(operands) => joined(ground, op, operands),
+        None => Ok(None),
+    }
+}
+
+/// The operands of logic, where they are sound.
+#[tactic(auto, using(typed_parts::proofs::Reports::reported_after))]
+fn logic_operands(ground: &mut Ground, x: Seen, y: Seen) -> Option<Operands>
+    ensures answer { result ≡ (logic_operands ground.old.types x y).sound }
+    ensures broken { ground.new ≡ reported ground.old (logic_operands ground.old.types x y).broken }
+{
     let x = one_value(ground, x);
     let y = one_value(ground, y);
-    let takes = ask_truths(ground, &x, &y);
-    let Some((x, y)) = x.zip(y) else {
-        return Ok(None);
-    };
+    let taken = ask_truths(ground, &x, &y);
+    operands_of(x, y, taken)
+}
+
+fn joined(
+    ground: &mut Ground,
+    op: LogicOp,
+    operands: Operands,
+) -> Result<Option<TypedExpr>, NoMemory>
+    ensures { Comes ground.old ground.new result (IsJoined ground.old.types op operands) }
+{
+    let Operands { x, y, taken } = operands;
     let at = x.at;
     let pair = alike(ground, x, y)?;
-    match only(pair, takes) {
+    match only(pair, taken) {
         Some(pair) => joined_truths(ground, op, at, pair),
         None => Ok(None),
     }
 }
 
-fn ask_truths(ground: &mut Ground, x: &Option<Given>, y: &Option<Given>) -> bool {
+#[tactic(auto, using(typed_parts::proofs::Reports::reported_after))]
+fn ask_truths(ground: &mut Ground, x: &Option<Given>, y: &Option<Given>) -> bool
+    ensures holds { result ≡ truths_hold ground.old.types x.now y.now }
+    ensures broken { ground.new ≡ reported ground.old (truths_break ground.old.types x.now y.now) }
+{
     let first = ask_logic(ground, x);
     let second = ask_logic(ground, y);
     first && second
 }
 
-fn ask_logic(ground: &mut Ground, x: &Option<Given>) -> bool {
+fn ask_logic(ground: &mut Ground, x: &Option<Given>) -> bool
+    ensures holds { result ≡ holds_of (truth_given ground.old.types) x.now }
+    ensures broken { ground.new ≡ reported ground.old (broken_of (truth_given ground.old.types) BadOperand x.now) }
+{
     let Some(x) = x else {
         return true;
     };
@@ -228,7 +339,9 @@ fn joined_truths(
     op: LogicOp,
     at: Pos,
     pair: Pair,
-) -> Result<Option<TypedExpr>, NoMemory> {
+) -> Result<Option<TypedExpr>, NoMemory>
+    ensures { Comes ground.now ground.now result (IsJunction op at pair) }
+{
     let of = pair.left.of;
     if let Some(truth) = folded_truth(op, &pair) {
         drop(pair);
@@ -241,7 +354,9 @@ fn joined_truths(
     }
 }
 
-fn folded_truth(op: LogicOp, pair: &Pair) -> Option<bool> {
+fn folded_truth(op: LogicOp, pair: &Pair) -> Option<bool>
+    ensures { result ≡ option_map (λ both. logic_folded op both.0 both.1) (truths (constants pair.now)) }
+{
     match pair.constants()? {
         (Const::Truth(a), Const::Truth(b)) => Some(fold_logic(op, *a, *b)),
         _ => None,

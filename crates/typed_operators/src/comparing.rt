@@ -1,5 +1,13 @@
 //! Comparisons. Go specification, "Comparison operators" and "Expression switches".
 
+ghost use Rattle.std.specs.Prelude.{◌≡◌, ◌↔◌, ◌⊎◌, IfOk, IsTrue};
+ghost use Rattle.go_type.specs.Assignable.{Assignable};
+ghost use Rattle.go_rules.specs.Operands.{TakesComparison};
+ghost use Rattle.go_type.specs.declared.operators.CompareOp.TheVariants as compare_op;
+ghost use Rattle.typed_operators.specs.Comparing.{AreCompared, AreComparedNodes, AreDefaulted, IsAsked, IsAskedCase, IsCase, IsCaseMatched, IsCaseOf, IsCaseOperand, IsCased, IsCaseValue, IsComparablePair, IsCompared, IsComparison, IsComparisonOf, IsLevelled, IsMatchedFor, IsPairMatched, IsTruth, IsTruthCase, IsTruthCaseOf, IsTruthOf, tests_equality, with_nil};
+ghost use Rattle.typed_operators.specs.Pairs.{two_values};
+ghost use Rattle.typed_parts.specs.Judged.{Comes, Outcome, reported};
+
 use crate::pairs::{Pair, pair_of, paired};
 use go_base::{NoMemory, Pos, Rule, TypeId};
 use go_rules::{Matched, Untyped, fold_compare, match_compared, takes_comparison};
@@ -17,12 +25,34 @@ pub fn comparison(
     op: CompareOp,
     x: Seen,
     y: Seen,
-) -> Result<Option<TypedExpr>, NoMemory> {
+) -> Result<Option<TypedExpr>, NoMemory>
+    ensures { Comes ground.old ground.new result (IsComparison ground.old.types op x y) }
+{
+    match two_values(ground, x, y) {
+        Some((x, y)) => comparison_of(ground, op, x, y),
+        None => Ok(None),
+    }
+}
+
+/// Two operands, each of which is one value.
+#[tactic(auto, using(typed_parts::proofs::Reports::reported_after))]
+fn two_values(ground: &mut Ground, x: Seen, y: Seen) -> Option<(Given, Given)>
+    ensures answer { result ≡ (two_values ground.old.types x y).sound }
+    ensures broken { ground.new ≡ reported ground.old (two_values ground.old.types x y).broken }
+{
     let x = one_value(ground, x);
     let y = one_value(ground, y);
-    let Some((x, y)) = x.zip(y) else {
-        return Ok(None);
-    };
+    x.zip(y)
+}
+
+fn comparison_of(
+    ground: &mut Ground,
+    op: CompareOp,
+    x: Given,
+    y: Given,
+) -> Result<Option<TypedExpr>, NoMemory>
+    ensures { Comes ground.old ground.new result (IsComparisonOf ground.old.types op x y) }
+{
     let at = x.at;
     match comparable_pair(ground, op, x, y)? {
         Some(pair) => compared(ground, op, at, pair),
@@ -36,15 +66,13 @@ fn comparable_pair(
     op: CompareOp,
     x: Given,
     y: Given,
-) -> Result<Option<Pair>, NoMemory> {
+) -> Result<Option<Pair>, NoMemory>
+    ensures { Comes ground.old ground.new result (IsComparablePair ground.old.types op x y) }
+{
     let (first, second) = (x.expr.of, y.expr.of);
     let at = x.at;
     match matched_for(&ground.types, op, first, second) {
-        Some(how) => {
-            let with_nil = is_nil(&ground.types, first) || is_nil(&ground.types, second);
-            let pair = paired(ground, how, x.expr, y.expr);
-            asked_pair(ground, op, at, pair, with_nil)
-        }
+        Some(how) => pair_matched(ground, op, how, x, y),
         None => {
             drop(x);
             drop(y);
@@ -54,43 +82,69 @@ fn comparable_pair(
     }
 }
 
-/// Two operands that came, where both have types of which values are compared, or one is `nil`. `NotComparable` at the
-/// place.
+fn pair_matched(
+    ground: &mut Ground,
+    op: CompareOp,
+    how: Matched,
+    x: Given,
+    y: Given,
+) -> Result<Option<Pair>, NoMemory>
+    ensures { Comes ground.old ground.new result (IsPairMatched ground.old.types op how x y) }
+{
+    let at = x.at;
+    let with_nil = with_nil(&ground.types, x.expr.of, y.expr.of);
+    match paired(ground, how, x.expr, y.expr)? {
+        Some(pair) => Ok(asked_pair(ground, op, at, pair, with_nil)),
+        None => Ok(None),
+    }
+}
+
+fn with_nil(types: &Types, first: TypeId, second: TypeId) -> bool
+    ensures { result ≡ with_nil types.now first second }
+{
+    is_nil(types, first) || is_nil(types, second)
+}
+
+/// Two operands, where both have types of which values are compared, or one is `nil`. `NotComparable` at the place.
 fn asked_pair(
     ground: &mut Ground,
     op: CompareOp,
     at: Pos,
-    pair: Result<Option<Pair>, NoMemory>,
+    pair: Pair,
     with_nil: bool,
-) -> Result<Option<Pair>, NoMemory> {
-    let pair = pair?;
-    let holds = with_nil || takes_pair(&ground.types, op, &pair);
-    if !holds {
-        ground.report(at, Rule::NotComparable);
+) -> Option<Pair>
+    ensures { Outcome ground.old ground.new result (IsAsked ground.old.types op at with_nil pair) }
+{
+    if with_nil {
+        return Some(pair);
     }
-    Ok(only(pair, holds))
+    if take_comparison(&ground.types, op, pair.left.of, pair.right.of) {
+        return Some(pair);
+    }
+    drop(pair);
+    ground.report(at, Rule::NotComparable);
+    None
 }
 
-fn takes_pair(types: &Types, op: CompareOp, pair: &Option<Pair>) -> bool {
-    match pair {
-        Some(pair) => {
-            takes_comparison(types, op, pair.left.of) && takes_comparison(types, op, pair.right.of)
-        }
-        None => true,
-    }
+fn take_comparison(types: &Types, op: CompareOp, first: TypeId, second: TypeId) -> bool
+    ensures { IsTrue result ↔ (TakesComparison types.now op first × TakesComparison types.now op second) }
+{
+    takes_comparison(types, op, first) && takes_comparison(types, op, second)
 }
 
 /// What two operands of a comparison become by their types. None where they cannot be compared.
-fn matched_for(types: &Types, op: CompareOp, first: TypeId, second: TypeId) -> Option<Matched> {
-    if is_nil(types, first) || is_nil(types, second) {
-        if !tests_equality(op) {
-            return None;
+fn matched_for(types: &Types, op: CompareOp, first: TypeId, second: TypeId) -> Option<Matched>
+    ensures { IsMatchedFor types.now op first second result }
+{
+    if with_nil(types, first, second) {
+        if tests_equality(op) {
+            return match_compared(types, first, second);
         }
-        return match_compared(types, first, second);
+        return None;
     }
     match match_compared(types, first, second)? {
         Matched::Typed => {
-            if may_pass(types, first, second) || may_pass(types, second, first) {
+            if may_pass_either(types, first, second) {
                 Some(Matched::Typed)
             } else {
                 None
@@ -100,7 +154,16 @@ fn matched_for(types: &Types, op: CompareOp, first: TypeId, second: TypeId) -> O
     }
 }
 
-const fn tests_equality(op: CompareOp) -> bool {
+/// Whether values of one of two types may be assigned to the other.
+fn may_pass_either(types: &Types, first: TypeId, second: TypeId) -> bool
+    ensures { IsTrue result ↔ (Assignable types.now first second ⊎ Assignable types.now second first) }
+{
+    may_pass(types, first, second) || may_pass(types, second, first)
+}
+
+const fn tests_equality(op: CompareOp) -> bool
+    ensures { result ≡ tests_equality op }
+{
     matches!(op, CompareOp::Equal | CompareOp::NotEqual)
 }
 
@@ -110,18 +173,38 @@ fn compared(
     op: CompareOp,
     at: Pos,
     pair: Pair,
-) -> Result<Option<TypedExpr>, NoMemory> {
+) -> Result<Option<TypedExpr>, NoMemory>
+    ensures { Comes ground.old ground.new result (IsCompared ground.old.types op at pair) }
+{
     if let Some((a, b)) = pair.constants() {
         let value = Const::Truth(fold_compare(op, a, b));
         drop(pair);
         return Ok(Some(node(at, Untyped::Bool.type_id(), ExprKind::ConstOf(value))));
     }
-    let left = defaulted(ground, pair.left);
-    let right = defaulted(ground, pair.right);
-    match pair_of(left, right)? {
+    compared_nodes(ground, op, at, pair)
+}
+
+fn compared_nodes(
+    ground: &mut Ground,
+    op: CompareOp,
+    at: Pos,
+    pair: Pair,
+) -> Result<Option<TypedExpr>, NoMemory>
+    ensures { Comes ground.old ground.new result (AreComparedNodes ground.old.types op at pair) }
+{
+    match defaulted_pair(ground, pair)? {
         Some(pair) => sound(compared_values(ground, op, at, pair)),
         None => Ok(None),
     }
+}
+
+/// Two operands that are not both constants, where untyped ones take their default types.
+fn defaulted_pair(ground: &mut Ground, pair: Pair) -> Result<Option<Pair>, NoMemory>
+    ensures { Comes ground.old ground.new result (AreDefaulted ground.old.types pair) }
+{
+    let left = defaulted(ground, pair.left);
+    let right = defaulted(ground, pair.right);
+    pair_of(left, right)
 }
 
 /// The comparison of two typed operands, of which one may be assigned to the type of the other.
@@ -130,9 +213,11 @@ fn compared_values(
     op: CompareOp,
     at: Pos,
     pair: Pair,
-) -> Result<TypedExpr, NoMemory> {
-    let Pair { left, right } = levelled(ground, pair)?;
-    let (left, right) = boxes(ground, left, right)?;
+) -> Result<TypedExpr, NoMemory>
+    ensures { IfOk result (AreCompared ground.now.types op at pair) }
+{
+    let pair = levelled(ground, pair)?;
+    let (left, right) = boxes(ground, pair.left, pair.right)?;
     Ok(node(
         at,
         Untyped::Bool.type_id(),
@@ -142,7 +227,9 @@ fn compared_values(
 
 /// Two typed operands as ones of one type: the left one takes that of the right one if it may, and else the right one that
 /// of the left.
-fn levelled(ground: &Ground, pair: Pair) -> Result<Pair, NoMemory> {
+fn levelled(ground: &Ground, pair: Pair) -> Result<Pair, NoMemory>
+    ensures { IfOk result (IsLevelled ground.now.types pair.left pair.right) }
+{
     let Pair { left, right } = pair;
     let (first, second) = (left.of, right.of);
     if may_pass(&ground.types, first, second) {
@@ -159,15 +246,36 @@ pub fn case_value(
     ground: &mut Ground,
     tag: TypeId,
     value: Seen,
-) -> Result<Option<TypedCase>, NoMemory> {
-    let Some(x) = one_value(ground, value) else {
-        return Ok(None);
-    };
-    let how = matched_for(&ground.types, CompareOp::Equal, x.expr.of, tag);
-    let x = asked(ground, x, how.is_some(), Rule::NotComparable);
-    let Some((how, x)) = how.zip(x) else {
-        return Ok(None);
-    };
+) -> Result<Option<TypedCase>, NoMemory>
+    ensures { Comes ground.old ground.new result (IsCaseValue ground.old.types tag value) }
+{
+    match one_value(ground, value) {
+        Some(x) => case_given(ground, tag, x),
+        None => Ok(None),
+    }
+}
+
+fn case_given(ground: &mut Ground, tag: TypeId, x: Given) -> Result<Option<TypedCase>, NoMemory>
+    ensures { Comes ground.old ground.new result (IsCaseOf ground.old.types tag x) }
+{
+    match matched_for(&ground.types, CompareOp::Equal, x.expr.of, tag) {
+        Some(how) => case_matched(ground, how, x, tag),
+        None => {
+            ground.report(x.at, Rule::NotComparable);
+            drop(x);
+            Ok(None)
+        }
+    }
+}
+
+fn case_matched(
+    ground: &mut Ground,
+    how: Matched,
+    x: Given,
+    tag: TypeId,
+) -> Result<Option<TypedCase>, NoMemory>
+    ensures { Comes ground.old ground.new result (IsCaseMatched ground.old.types how x tag) }
+{
     let at = x.at;
     match cased(ground, how, x, tag)? {
         Some(value) => sound(case_of(ground, at, tag, value)),
@@ -181,15 +289,36 @@ fn cased(
     how: Matched,
     x: Given,
     tag: TypeId,
-) -> Result<Option<TypedExpr>, NoMemory> {
+) -> Result<Option<TypedExpr>, NoMemory>
+    ensures { Comes ground.old ground.new result (IsCased ground.old.types how x tag) }
+{
     let Given { at, expr } = x;
     let is_nil = is_nil(&ground.types, expr.of);
-    let value = case_operand(ground, how, expr, tag)?;
-    let holds = is_nil || is_comparable_case(&ground.types, &value, tag);
-    if !holds {
-        ground.report(at, Rule::NotComparable);
+    match case_operand(ground, how, expr, tag)? {
+        Some(value) => Ok(asked_case(ground, at, tag, value, is_nil)),
+        None => Ok(None),
     }
-    Ok(only(value, holds))
+}
+
+/// A case's value, where values of its type and the tag's are compared, or it is `nil`.
+fn asked_case(
+    ground: &mut Ground,
+    at: Pos,
+    tag: TypeId,
+    value: TypedExpr,
+    is_nil: bool,
+) -> Option<TypedExpr>
+    ensures { Outcome ground.old ground.new result (IsAskedCase ground.old.types at is_nil tag value) }
+{
+    if is_nil {
+        return Some(value);
+    }
+    if take_comparison(&ground.types, CompareOp::Equal, value.of, tag) {
+        return Some(value);
+    }
+    drop(value);
+    ground.report(at, Rule::NotComparable);
+    None
 }
 
 fn case_operand(
@@ -197,7 +326,9 @@ fn case_operand(
     how: Matched,
     expr: TypedExpr,
     tag: TypeId,
-) -> Result<Option<TypedExpr>, NoMemory> {
+) -> Result<Option<TypedExpr>, NoMemory>
+    ensures { Comes ground.old ground.new result (IsCaseOperand ground.old.types how expr tag) }
+{
     match how {
         Matched::Typed => Ok(Some(expr)),
         Matched::FirstConverted => retyped(ground, expr, tag),
@@ -209,18 +340,10 @@ fn case_operand(
     }
 }
 
-fn is_comparable_case(types: &Types, value: &Option<TypedExpr>, tag: TypeId) -> bool {
-    match value {
-        Some(value) => {
-            takes_comparison(types, CompareOp::Equal, value.of)
-                && takes_comparison(types, CompareOp::Equal, tag)
-        }
-        None => true,
-    }
-}
-
 /// A case: its value takes the tag's type if it may, and else the tag that of the value.
-fn case_of(ground: &Ground, at: Pos, tag: TypeId, value: TypedExpr) -> Result<TypedCase, NoMemory> {
+fn case_of(ground: &Ground, at: Pos, tag: TypeId, value: TypedExpr) -> Result<TypedCase, NoMemory>
+    ensures { IfOk result (IsCase ground.now.types at tag value) }
+{
     if may_pass(&ground.types, value.of, tag) {
         let value = made(ground, value, tag)?;
         Ok(TypedCase {
@@ -238,7 +361,9 @@ fn case_of(ground: &Ground, at: Pos, tag: TypeId, value: TypedExpr) -> Result<Ty
 }
 
 /// A case of a switch without a tag: the value is compared with `true` of type `bool`.
-pub fn truth_case(ground: &mut Ground, value: Seen) -> Result<Option<TypedCase>, NoMemory> {
+pub fn truth_case(ground: &mut Ground, value: Seen) -> Result<Option<TypedCase>, NoMemory>
+    ensures { Comes ground.old ground.new result (IsTruthCase ground.old.types value) }
+{
     match case_value(ground, basic(Basic::Bool), value)? {
         Some(case) => sound(with_truth(ground, case)),
         None => Ok(None),
@@ -246,21 +371,36 @@ pub fn truth_case(ground: &mut Ground, value: Seen) -> Result<Option<TypedCase>,
 }
 
 /// A case that is compared with `true` as one that is true or false.
-fn with_truth(ground: &Ground, case: TypedCase) -> Result<TypedCase, NoMemory> {
+fn with_truth(ground: &Ground, case: TypedCase) -> Result<TypedCase, NoMemory>
+    ensures { IfOk result (IsTruthCaseOf ground.now.types case) }
+{
     let (at, tag_to, value) = case.into_parts();
-    let value = match tag_to {
-        None => Ok(value),
-        Some(to) => is_truth(ground, at, to, value),
-    };
+    let value = truth_of(ground, at, tag_to, value)?;
     Ok(TypedCase {
         at,
         tag_to: None,
-        value: value?,
+        value,
     })
 }
 
+fn truth_of(
+    ground: &Ground,
+    at: Pos,
+    tag_to: Option<TypeId>,
+    value: TypedExpr,
+) -> Result<TypedExpr, NoMemory>
+    ensures { IfOk result (IsTruthOf ground.now.types at value tag_to) }
+{
+    match tag_to {
+        None => Ok(value),
+        Some(to) => is_truth(ground, at, to, value),
+    }
+}
+
 /// Whether a value of another type is `true`.
-fn is_truth(ground: &Ground, at: Pos, to: TypeId, value: TypedExpr) -> Result<TypedExpr, NoMemory> {
+fn is_truth(ground: &Ground, at: Pos, to: TypeId, value: TypedExpr) -> Result<TypedExpr, NoMemory>
+    ensures { IfOk result (IsTruth ground.now.types at to value) }
+{
     let of = basic(Basic::Bool);
     let truth = node(at, of, ExprKind::ConstOf(Const::Truth(true)));
     let (truth, value) = beside(made(ground, truth, to), value)?;

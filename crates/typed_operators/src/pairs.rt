@@ -1,5 +1,12 @@
 //! Two operands that become ones of one type or kind. Go specification, "Operators" and "Constants".
 
+ghost use Rattle.std.specs.Prelude.{◌≡◌, Some, Ok, option_copied};
+ghost use Rattle.std.specs.Option.{option_map};
+ghost use Rattle.typed_operators.specs.Pairs.{IsPaired, constants, joined};
+ghost use Rattle.typed_parts.specs.Joining.{paired};
+ghost use Rattle.typed_parts.specs.Judged.{Comes};
+ghost use Rattle.typed_parts.specs.Numbers.{constant_in};
+
 use go_base::NoMemory;
 use go_rules::Matched;
 use go_tree::{ExprKind, TypedExpr};
@@ -19,7 +26,9 @@ pub fn paired(
     how: Matched,
     left: TypedExpr,
     right: TypedExpr,
-) -> Result<Option<Pair>, NoMemory> {
+) -> Result<Option<Pair>, NoMemory>
+    ensures { Comes ground.old ground.new result (IsPaired ground.old.types how left right) }
+{
     let (first, second) = (left.of, right.of);
     match how {
         Matched::Typed => Ok(Some(Pair { left, right })),
@@ -38,14 +47,18 @@ pub fn paired(
 fn with_right(
     left: Result<Option<TypedExpr>, NoMemory>,
     right: TypedExpr,
-) -> Result<Option<Pair>, NoMemory> {
+) -> Result<Option<Pair>, NoMemory>
+    ensures { result ≡ paired joined left (Ok (Some right)) }
+{
     pair_of(left, Ok(Some(right)))
 }
 
 fn with_left(
     left: TypedExpr,
     right: Result<Option<TypedExpr>, NoMemory>,
-) -> Result<Option<Pair>, NoMemory> {
+) -> Result<Option<Pair>, NoMemory>
+    ensures { result ≡ paired joined (Ok (Some left)) right }
+{
     pair_of(Ok(Some(left)), right)
 }
 
@@ -53,7 +66,9 @@ fn with_left(
 pub fn pair_of(
     left: Result<Option<TypedExpr>, NoMemory>,
     right: Result<Option<TypedExpr>, NoMemory>,
-) -> Result<Option<Pair>, NoMemory> {
+) -> Result<Option<Pair>, NoMemory>
+    ensures { result ≡ paired joined left right }
+{
     match both(left, right)? {
         Some((left, right)) => Ok(Some(Pair { left, right })),
         None => Ok(None),
@@ -62,14 +77,18 @@ pub fn pair_of(
 
 impl Pair {
     /// The values of the two, where both are constants.
-    pub fn constants(&self) -> Option<(&Const, &Const)> {
+    pub fn constants(&self) -> Option<(&Const, &Const)>
+        ensures { option_map (λ pair. (pair.0.now, pair.1.now)) result ≡ constants self.now }
+    {
         let left = constant_of(&self.left)?;
         let right = constant_of(&self.right)?;
         Some((left, right))
     }
 }
 
-fn constant_of(expr: &TypedExpr) -> Option<&Const> {
+fn constant_of(expr: &TypedExpr) -> Option<&Const>
+    ensures { option_copied result ≡ constant_in expr.now.kind }
+{
     match &expr.kind {
         ExprKind::ConstOf(value) => Some(value),
         _ => None,

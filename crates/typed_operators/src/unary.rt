@@ -1,10 +1,19 @@
 //! Operators on one operand. Go specification, "Arithmetic operators", "Logical operators", "Address operators" and "Receive
 //! operator".
 
+ghost use Rattle.std.specs.Prelude.{◌≡◌, IfOk};
+ghost use Rattle.go_type.specs.Assignable.{underlying_term_of};
+ghost use Rattle.go_tree.specs.declared.exprs.ExprKind.TheVariants as kinds;
+ghost use Rattle.typed_operators.specs.Made.{IsOnOne};
+ghost use Rattle.typed_operators.specs.Unary.{IsDereference, IsIndirect, IsNegation, IsOperation, IsPlus, IsReceipt, IsReceive, IsSign, IsSignedAs, boolean, folded, is_plain, receipt, received, signed};
+ghost use Rattle.typed_parts.specs.Judged.{Comes, judged, reported};
+ghost use Rattle.typed_parts.specs.Nodes.{node};
+ghost use Rattle.typed_parts.specs.Numbers.{constant_in};
+
 use go_base::{NoMemory, Pos, Rule, TypeId};
 use go_rules::{fold_unary, takes_logic, takes_sign, untyped_kind};
 use go_tree::{ExprKind, TypedExpr};
-use go_type::{Dir, TypeTerm, UnaryOp};
+use go_type::{Dir, TypeTerm, Types, UnaryOp};
 use typed_parts::{
     Given, Ground, Seen, asked, both, boxed, is_constant, is_place, node, one_value, pointed,
     seen_type, sound,
@@ -28,31 +37,72 @@ pub fn sign(
     at: Pos,
     op: SignOp,
     x: Seen,
-) -> Result<Option<TypedExpr>, NoMemory> {
-    let Some(x) = signed(ground, x) else {
-        return Ok(None);
-    };
-    match op {
-        SignOp::Plus => sound(plus(ground, at, x)),
-        SignOp::Minus => operation(ground, at, UnaryOp::Negate, x),
-        SignOp::Complement => operation(ground, at, UnaryOp::Complement, x),
+) -> Result<Option<TypedExpr>, NoMemory>
+    ensures { Comes ground.old ground.new result (IsSign ground.old.types at op x) }
+{
+    match signed(ground, x) {
+        Some(x) => signed_as(ground, at, op, x),
+        None => Ok(None),
     }
 }
 
 /// An operand of a sign. `BadOperand` at one that is no integer.
-fn signed(ground: &mut Ground, x: Seen) -> Option<Given> {
+#[tactic(auto, using(typed_parts::proofs::Reports::reported_after))]
+pub(crate) fn signed(ground: &mut Ground, x: Seen) -> Option<Given>
+    ensures answer { result ≡ (signed ground.old.types x).sound }
+    ensures broken { ground.new ≡ reported ground.old (signed ground.old.types x).broken }
+{
     let x = one_value(ground, x)?;
     let takes = takes_sign(&ground.types, x.expr.of);
     asked(ground, x, takes, Rule::BadOperand)
 }
 
-/// `+x`, which is no place.
-fn plus(ground: &Ground, at: Pos, x: Given) -> Result<TypedExpr, NoMemory> {
-    let (below, of, kind) = x.expr.into_parts();
-    if matches!(&kind, ExprKind::ConstOf(_)) || untyped_kind(&ground.types, of).is_some() {
-        return Ok(node(at, of, kind));
+/// A sign at an operand that is an integer.
+fn signed_as(
+    ground: &mut Ground,
+    at: Pos,
+    op: SignOp,
+    x: Given,
+) -> Result<Option<TypedExpr>, NoMemory>
+    ensures { Comes ground.old ground.new result (IsSignedAs ground.old.types at op x) }
+{
+    match op {
+        SignOp::Plus => sound(plus(ground, at, x.expr)),
+        SignOp::Minus => operation(ground, at, UnaryOp::Negate, x.expr),
+        SignOp::Complement => operation(ground, at, UnaryOp::Complement, x.expr),
     }
-    let operand = boxed(ground, node(below, of, kind))?;
+}
+
+/// `+x`, which is no place.
+fn plus(ground: &Ground, at: Pos, x: TypedExpr) -> Result<TypedExpr, NoMemory>
+    ensures { IfOk result (IsPlus ground.now.types at x) }
+{
+    if is_plain(&ground.types, &x) {
+        Ok(placed(at, x))
+    } else {
+        converted(ground, at, x)
+    }
+}
+
+/// Whether an operand is a constant, or has no type.
+fn is_plain(types: &Types, x: &TypedExpr) -> bool
+    ensures { result ≡ is_plain types.now x.now }
+{
+    is_constant(x) || untyped_kind(types, x.of).is_some()
+}
+
+fn placed(at: Pos, x: TypedExpr) -> TypedExpr
+    ensures { result ≡ node at x.of x.kind }
+{
+    let (_at, of, kind) = x.into_parts();
+    node(at, of, kind)
+}
+
+fn converted(ground: &Ground, at: Pos, x: TypedExpr) -> Result<TypedExpr, NoMemory>
+    ensures { IfOk result (IsOnOne at x.of kinds.ConvertTo x) }
+{
+    let of = x.of;
+    let operand = boxed(ground, x)?;
     Ok(node(at, of, ExprKind::ConvertTo(operand)))
 }
 
@@ -61,21 +111,32 @@ fn operation(
     ground: &mut Ground,
     at: Pos,
     op: UnaryOp,
-    x: Given,
-) -> Result<Option<TypedExpr>, NoMemory> {
-    let Given { at: _, expr } = x;
-    let of = expr.of;
-    if is_constant(&expr) {
-        let value = folded(ground, at, op, &expr);
-        drop(expr);
-        return Ok(value);
+    x: TypedExpr,
+) -> Result<Option<TypedExpr>, NoMemory>
+    ensures { Comes ground.old ground.new result (IsOperation ground.old.types at op x) }
+{
+    if is_constant(&x) {
+        let value = folded(ground, at, op, &x);
+        drop(x);
+        Ok(value)
+    } else {
+        sound(operated(ground, at, op, x))
     }
-    let operand = boxed(ground, expr)?;
-    Ok(Some(node(at, of, ExprKind::UnaryOf { op, operand })))
+}
+
+fn operated(ground: &Ground, at: Pos, op: UnaryOp, x: TypedExpr) -> Result<TypedExpr, NoMemory>
+    ensures { IfOk result (IsOnOne at x.of (kinds.UnaryOf op) x) }
+{
+    let of = x.of;
+    let operand = boxed(ground, x)?;
+    Ok(node(at, of, ExprKind::UnaryOf { op, operand }))
 }
 
 /// An operator on a constant. `ConstantOutOfRange` at the operator where it has no value of its type.
-fn folded(ground: &mut Ground, at: Pos, op: UnaryOp, x: &TypedExpr) -> Option<TypedExpr> {
+fn folded(ground: &mut Ground, at: Pos, op: UnaryOp, x: &TypedExpr) -> Option<TypedExpr>
+    ensures answer { result ≡ (judged (constant_in x.now.kind) (folded ground.old.types at op x.now.of)).sound }
+    ensures broken { ground.new ≡ reported ground.old (judged (constant_in x.now.kind) (folded ground.old.types at op x.now.of)).broken }
+{
     let ExprKind::ConstOf(value) = &x.kind else {
         return None;
     };
@@ -89,15 +150,24 @@ fn folded(ground: &mut Ground, at: Pos, op: UnaryOp, x: &TypedExpr) -> Option<Ty
 }
 
 /// `!x`. `BadOperand` at an operand that is no boolean.
-pub fn negation(ground: &mut Ground, at: Pos, x: Seen) -> Result<Option<TypedExpr>, NoMemory> {
-    let Some(x) = one_value(ground, x) else {
-        return Ok(None);
-    };
-    let takes = takes_logic(&ground.types, x.expr.of);
-    match asked(ground, x, takes, Rule::BadOperand) {
-        Some(x) => operation(ground, at, UnaryOp::Not, x),
+pub fn negation(ground: &mut Ground, at: Pos, x: Seen) -> Result<Option<TypedExpr>, NoMemory>
+    ensures { Comes ground.old ground.new result (IsNegation ground.old.types at x) }
+{
+    match boolean(ground, x) {
+        Some(x) => operation(ground, at, UnaryOp::Not, x.expr),
         None => Ok(None),
     }
+}
+
+/// An operand of `!`. `BadOperand` at one that is no boolean.
+#[tactic(auto, using(typed_parts::proofs::Reports::reported_after))]
+fn boolean(ground: &mut Ground, x: Seen) -> Option<Given>
+    ensures answer { result ≡ (boolean ground.old.types x).sound }
+    ensures broken { ground.new ≡ reported ground.old (boolean ground.old.types x).broken }
+{
+    let x = one_value(ground, x)?;
+    let takes = takes_logic(&ground.types, x.expr.of);
+    asked(ground, x, takes, Rule::BadOperand)
 }
 
 /// `*x`: a pointer type where `x` is a type, with `TypeTooLarge` at the `*`, and else what the pointer points to, with
@@ -119,17 +189,39 @@ fn pointer_type(ground: &mut Ground, at: Pos, of: TypeId) -> Result<Option<TypeI
     Ok(fits.then_some(pointer))
 }
 
-fn dereference(ground: &mut Ground, at: Pos, x: Seen) -> Result<Option<TypedExpr>, NoMemory> {
-    let Some(x) = one_value(ground, x) else {
-        return Ok(None);
-    };
-    let base = pointed(ground, x.expr.of);
-    let x = asked(ground, x, base.is_some(), Rule::BadOperand);
-    let Some((base, x)) = base.zip(x) else {
-        return Ok(None);
-    };
-    let operand = boxed(ground, x.expr)?;
-    Ok(Some(node(at, base, ExprKind::Deref(operand))))
+fn dereference(ground: &mut Ground, at: Pos, x: Seen) -> Result<Option<TypedExpr>, NoMemory>
+    ensures { Comes ground.old ground.new result (IsDereference ground.old.types at x) }
+{
+    match one_value(ground, x) {
+        Some(x) => indirect(ground, at, x),
+        None => Ok(None),
+    }
+}
+
+/// What a value points to. `BadOperand` at what is no pointer.
+fn indirect(ground: &mut Ground, at: Pos, x: Given) -> Result<Option<TypedExpr>, NoMemory>
+    ensures { Comes ground.old ground.new result (IsIndirect ground.old.types at x) }
+{
+    match pointed(ground, x.expr.of) {
+        Some(base) => sound(indirection_of(ground, at, base, x.expr)),
+        None => {
+            ground.report(x.at, Rule::BadOperand);
+            drop(x);
+            Ok(None)
+        }
+    }
+}
+
+fn indirection_of(
+    ground: &Ground,
+    at: Pos,
+    base: TypeId,
+    x: TypedExpr,
+) -> Result<TypedExpr, NoMemory>
+    ensures { IfOk result (IsOnOne at base kinds.Deref x) }
+{
+    let operand = boxed(ground, x)?;
+    Ok(node(at, base, ExprKind::Deref(operand)))
 }
 
 /// `&x`. `CannotTakeAddress` at an operand that is neither a place nor a composite literal, and `TypeTooLarge` at the `&`.
@@ -158,28 +250,46 @@ fn address(ground: &mut Ground, at: Pos, expr: TypedExpr) -> Result<Option<Typed
 }
 
 /// `<-x`. `BadChannelOperation` at an operand that is no channel, or only one for sending.
-pub fn receive(ground: &mut Ground, at: Pos, x: Seen) -> Result<Option<TypedExpr>, NoMemory> {
-    let Some(x) = one_value(ground, x) else {
-        return Ok(None);
-    };
-    let elem = received(ground, x.expr.of);
-    let x = asked(ground, x, elem.is_some(), Rule::BadChannelOperation);
-    let Some((elem, x)) = elem.zip(x) else {
-        return Ok(None);
-    };
-    let channel = boxed(ground, x.expr)?;
-    Ok(Some(node(
+pub fn receive(ground: &mut Ground, at: Pos, x: Seen) -> Result<Option<TypedExpr>, NoMemory>
+    ensures { Comes ground.old ground.new result (IsReceive ground.old.types at x) }
+{
+    match one_value(ground, x) {
+        Some(x) => received_from(ground, at, x),
+        None => Ok(None),
+    }
+}
+
+fn received_from(ground: &mut Ground, at: Pos, x: Given) -> Result<Option<TypedExpr>, NoMemory>
+    ensures { Comes ground.old ground.new result (IsReceipt ground.old.types at x) }
+{
+    match received(ground, x.expr.of) {
+        Some(elem) => sound(receipt(ground, at, elem, x.expr)),
+        None => {
+            ground.report(x.at, Rule::BadChannelOperation);
+            drop(x);
+            Ok(None)
+        }
+    }
+}
+
+fn receipt(ground: &Ground, at: Pos, elem: TypeId, x: TypedExpr) -> Result<TypedExpr, NoMemory>
+    ensures { IfOk result (IsOnOne at elem receipt x) }
+{
+    let channel = boxed(ground, x)?;
+    Ok(node(
         at,
         elem,
         ExprKind::Receive {
             channel,
             comma_ok: false,
         },
-    )))
+    ))
 }
 
 /// What is received from a channel type that is not only for sending.
-fn received(ground: &Ground, of: TypeId) -> Option<TypeId> {
+fn received(ground: &Ground, of: TypeId) -> Option<TypeId>
+    ensures { result ≡ received (underlying_term_of ground.now.types of) }
+{
     match ground.types.underlying_term(of) {
         Some(
             TypeTerm::Chan {

@@ -1,0 +1,3 @@
+pub mod Operating
+pub mod Paired
+pub mod Compared

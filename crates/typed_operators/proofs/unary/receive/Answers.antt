@@ -1,0 +1,15 @@
+use Rattle.typed_parts.specs.Meanings.{one_value}
+use Rattle.typed_operators.specs.Unary.{IsReceipt}
+use Rattle.go_type.specs.Table.{Table}
+use Rattle.typed_operators.proofs.Operating.{exact_nothing, exact_then}
+use Rattle.typed_operators.proofs.unary.receive.Goals as goal
+
+pub returns-in-Some : goal.returns-in-Some
+returns-in-Some c =
+    exact_then c.args.ground.now c.one_value.new.ground c.received_from.new.ground (one_value c.args.ground.now.types c.args.x) (λ (types : Table). IsReceipt types c.args.at) c.one_value.result c.in-Some.x
+    c.received_from.result c.one_value.ensures.answer c.one_value.ensures.broken c.in-Some.is c.received_from.ensures
+
+pub returns-in-None : goal.returns-in-None
+returns-in-None c =
+    exact_nothing c.args.ground.now c.one_value.new.ground (one_value c.args.ground.now.types c.args.x) (λ (types : Table). IsReceipt types c.args.at) c.one_value.result c.one_value.ensures.answer
+    c.one_value.ensures.broken c.in-None.is
