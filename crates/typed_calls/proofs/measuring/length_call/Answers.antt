@@ -1,0 +1,22 @@
+use Rattle.std.proofs.Common.{◌≡◌, ap, sym, ◌∙◌, Some, None, [], ◌∷◌, false}
+use Rattle.go_base.specs.declared.ids.TypeId.{TypeId}
+use Rattle.go_type.specs.declared.term.Basic.TheVariants as basic
+use Rattle.go_type.specs.Table.{basic_id}
+use Rattle.typed_calls.specs.BuiltIns.{built_in_node}
+use Rattle.typed_calls.specs.Measuring.{constant_length}
+use Rattle.typed_calls.proofs.Asks.{vec_items}
+use Rattle.typed_calls.proofs.Moves.{length_called, length_known}
+use Rattle.typed_calls.proofs.measuring.length_call.Goals as goal
+
+pub returns-in-Some : goal.returns-in-Some
+returns-in-Some c =
+    length_known c.args.ground.now c.args.call c.args.expr (constant_length c.args.shape c.args.expr) c.in-Some.len c.length_node.result
+    (sym c.constant_length.ensures ∙ c.in-Some.is) c.length_node.ensures
+
+pub returns-in-Some-2 : goal.returns-in-Some-2
+returns-in-Some-2 c =
+    let v = c.in-Some-2.arguments in
+    let m : c.node.result ≡ built_in_node c.args.call (basic_id basic.Int) None v false =
+        c.node.ensures ∙ ap (λ (o : TypeId). built_in_node c.args.call o None v false) c.basic.ensures in
+    length_called c.args.ground.now c.args.call c.args.expr (constant_length c.args.shape c.args.expr) v c.node.result
+    (sym c.constant_length.ensures ∙ c.in_default.is) (vec_items c.in_ok-arguments.field-0 v (c.args.expr ∷ []) c.in-Some-2.is c.in_ok-arguments.ensures) m
