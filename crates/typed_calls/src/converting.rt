@@ -387,7 +387,10 @@ fn may_convert(ground: &mut Ground, from: TypeId, to: TypeId) -> Result<bool, No
     ensures definitions { KeepsDefinitions ground.old.types ground.new.types }
     ensures keeps { ground.new ≡ record ground.old { types = ground.new.types } }
 {
-    if may_pass(&ground.types, from, to) || converts_plainly(&ground.types, from, to) {
+    if may_pass(&ground.types, from, to) {
+        return Ok(true);
+    }
+    if converts_plainly(&ground.types, from, to) {
         return Ok(true);
     }
     is_same_but_tags(ground, from, to)
