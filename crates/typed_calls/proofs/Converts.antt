@@ -2,7 +2,6 @@
 use Rattle.std.proofs.Common.{◌≡◌, ℤ, refl, sym, ap, ◌∙◌, subst, List, [], ◌∷◌, ◌++◌, Bool, true, false}
 use Rattle.std.proofs.Common.{Option, Some, None, Result, Ok, Err, inl, inr}
 use Rattle.std.specs.Global.{Vec}
-use Rattle.std.proofs.lemmas.Bool.{false≢true}
 use Rattle.std.specs.Option.{option_map}
 use Rattle.std.specs.Prelude.{IfOk, IsTrue, ◌↔◌, ◌⊎◌}
 use Rattle.go_base.specs.declared.ids.TypeId.{TypeId}
@@ -13,8 +12,7 @@ use Rattle.go_rules.specs.declared.untyped.Untyped.{Untyped}
 use Rattle.go_rules.specs.Untyped.{kind_at}
 use Rattle.go_tree.specs.declared.exprs.TypedExpr.{TypedExpr}
 use Rattle.go_type.specs.Grows.{Grows}
-use Rattle.go_type.specs.Table.{Table, underlying_of}
-use Rattle.type_bare.specs.Same.{SameButTags}
+use Rattle.go_type.specs.Table.{Table}
 use Rattle.type_bare.specs.Stripped.{KeepsDefinitions}
 use Rattle.typed_parts.specs.declared.ground.Ground.{Ground}
 use Rattle.typed_parts.specs.declared.meaning.Given.{Given}
@@ -23,9 +21,9 @@ use Rattle.typed_parts.specs.Judged.{Broken, Comes, Judged, Outcome, breaks, fin
 use Rattle.typed_parts.specs.Retyping.{IsGiven}
 use Rattle.typed_calls.specs.declared.converting.ConstantConversion.{ConstantConversion}
 use Rattle.typed_calls.specs.declared.converting.UntypedConversion.{UntypedConversion}
-use Rattle.typed_calls.specs.Converting.{AreLike, IsConverted, IsConvertedAs, IsExplicit, IsExplicitNode, IsTypedAs, IsTypedConverted}
+use Rattle.typed_calls.specs.Converting.{IsConverted, IsConvertedAs, IsExplicit, IsExplicitNode, IsTypedAs, IsTypedConverted}
 use Rattle.typed_calls.specs.Converting.{IsRetypedAt, IsUntypedAs, IsUntypedConverted, IsValueOfKind, MayConvert, constant_conversion}
-use Rattle.typed_calls.specs.Converting.{have_one_form, moved, moved_result, placed, untyped_conversion}
+use Rattle.typed_calls.specs.Converting.{moved, moved_result, placed, untyped_conversion}
 use Rattle.typed_calls.specs.Turning.{Asks, IsThenSoundly, Keeps, Soundly, Turned, Turns}
 use Rattle.typed_calls.proofs.Turns.{asks, came, followed, kept_reports, weaker}
 
@@ -106,13 +104,13 @@ pub typed_refused : (old mid new : Ground) (at : Pos) (to : TypeId) (expr : Type
     → (MayConvert old.types mid.types expr.of to → ⊥)
     → answer ≡ None → new ≡ reported mid (record { at = at; rule = BadConversion } ∷ [])
     → Turns old new (came answer) (IsTypedConverted at expr to)
-typed_refused old mid new at to expr answer grows definitions same no a r =
+typed_refused old mid new at to expr answer grows definitions same never a r =
     let whole : new ≡ reported (record old { types = mid.types }) (record { at = at; rule = BadConversion } ∷ []) = r ∙ ap (λ (g : Ground). reported g (record { at = at; rule = BadConversion } ∷ [])) same in
     let types : new.types ≡ mid.types = ap (λ (g : Ground). g.types) r in
     record {
       judged = breaks at BadConversion;
       is = subst (λ (t : Table). IsTypedConverted at expr to old.types t (breaks at BadConversion)) (sym types)
-          (record { grows = grows; definitions = definitions; is = IsTypedAs.refused no });
+          (record { grows = grows; definitions = definitions; is = IsTypedAs.refused never });
       answers = a;
       reports = subst (λ (t : Table). new ≡ reported (record old { types = t }) (record { at = at; rule = BadConversion } ∷ [])) (sym types) whole;
     }
@@ -151,25 +149,7 @@ left_out no_one no_other (inl a) = absurd (no_one a)
 left_out no_one no_other (inr (inl p)) = absurd (no_other p)
 left_out no_one no_other (inr (inr l)) = l
 
-pub converts_if_like : {A P L : Type 0} (like : Result Bool NoMemory) → (A → ⊥) → (P → ⊥)
+pub converts_if_like : (A P L : Type 0) (like : Result Bool NoMemory) → (A → ⊥) → (P → ⊥)
     → IfOk like (λ (l : Bool). IsTrue l ↔ L) → IfOk like (λ (m : Bool). IsTrue m ↔ (A ⊎ (P ⊎ L)))
-converts_if_like (Err error) no_one no_other h = tt
-converts_if_like (Ok l) no_one no_other h = (λ t. inr (inr (h.0 t)), λ s. h.1 (left_out no_one no_other s))
-
-pub like_not : (types after : Table) (from to first second : TypeId) (b : Bool)
-    → first ≡ underlying_of types from → second ≡ underlying_of types to → b ≡ have_one_form types first second → b ≡ false
-    → (IsTrue false ↔ AreLike types after from to)
-like_not types after from to first second b e f h no =
-    let here : have_one_form types (underlying_of types from) (underlying_of types to) ≡ false =
-        ap (λ (x : TypeId). have_one_form types x (underlying_of types to)) (sym e) ∙ (ap (λ (y : TypeId). have_one_form types first y) (sym f) ∙ (sym h ∙ no)) in
-    (λ t. absurd (false≢true t), λ l. absurd (false≢true (sym here ∙ l.0)))
-
-pub like_by : (types after : Table) (from to first second : TypeId) (b same : Bool)
-    → first ≡ underlying_of types from → second ≡ underlying_of types to → b ≡ have_one_form types first second → b ≡ true
-    → (IsTrue same ↔ SameButTags after first second) → (IsTrue same ↔ AreLike types after from to)
-like_by types after from to first second b same e f h yes d =
-    let here : have_one_form types (underlying_of types from) (underlying_of types to) ≡ true =
-        ap (λ (x : TypeId). have_one_form types x (underlying_of types to)) (sym e) ∙ (ap (λ (y : TypeId). have_one_form types first y) (sym f) ∙ (sym h ∙ yes)) in
-    let decides = subst (λ (x : TypeId). IsTrue same ↔ SameButTags after x (underlying_of types to)) e
-        (subst (λ (y : TypeId). IsTrue same ↔ SameButTags after first y) f d) in
-    (λ t. (here, decides.0 t), λ l. decides.1 l.1)
+converts_if_like A P L (Err error) no_one no_other h = tt
+converts_if_like A P L (Ok l) no_one no_other h = (λ t. inr (inr (h.0 t)), λ s. h.1 (left_out no_one no_other s))

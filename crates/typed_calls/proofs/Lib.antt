@@ -4,3 +4,4 @@ pub mod Moves
 pub mod Makes
 pub mod Grows
 pub mod Converts
+pub mod Dispatches

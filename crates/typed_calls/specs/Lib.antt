@@ -6,3 +6,4 @@ pub mod Making
 pub mod Growing
 pub mod Converting
 pub mod Passing
+pub mod Dispatch

@@ -4,6 +4,7 @@ ghost use Rattle.std.specs.Prelude.{◌≡◌, ℕ, IfOk, OnOk, Some, []};
 ghost use Rattle.typed_parts.specs.Joining.{items_of, listed, with_last};
 ghost use Rattle.typed_parts.specs.Judged.{reported};
 ghost use Rattle.typed_calls.specs.BuiltIns.{IsAction, IsPanic, IsPrint, IsPrintable, IsRecover, broken_in, built_in_node, is_printed, number_broken, print_asked, takes_call, takes_number, values_in};
+ghost use Rattle.typed_calls.specs.Dispatch.{IsOfOne};
 ghost use Rattle.typed_calls.specs.Turning.{IsEach, Soundly, Turns};
 
 use crate::extremes::extreme_of;
@@ -199,7 +200,9 @@ fn of_value(
     ground: &mut Ground,
     call: BuiltInCall,
     x: Given,
-) -> Result<Option<TypedExpr>, NoMemory> {
+) -> Result<Option<TypedExpr>, NoMemory>
+    ensures { Turns ground.old ground.new result (IsOfOne call.builtin call x) }
+{
     match call.builtin {
         Builtin::Clear => cleared(ground, call, x),
         Builtin::Close => closed(ground, call, x),
