@@ -9,8 +9,6 @@ use Rattle.go_base.specs.declared.place.Pos.{Pos}
 use Rattle.go_base.specs.declared.rule.Rule.TheVariants.{BadUseOfDots, WrongNumberOfValues}
 use Rattle.go_tree.specs.declared.exprs.Callee.{Callee}
 use Rattle.go_tree.specs.declared.exprs.Callee.TheVariants as callee
-use Rattle.go_tree.specs.declared.exprs.ExprKind.{ExprKind}
-use Rattle.go_tree.specs.declared.exprs.ExprKind.TheVariants.{FunctionOf, LiteralOf, MethodValue}
 use Rattle.go_tree.specs.declared.exprs.Method.{Method}
 use Rattle.go_tree.specs.declared.exprs.Method.TheVariants as method
 use Rattle.go_tree.specs.declared.exprs.TypedExpr.{TypedExpr}
@@ -20,7 +18,6 @@ use Rattle.go_type.specs.declared.term.TypeTerm.TheVariants.{Func, Slice, Tuple}
 use Rattle.go_type.specs.Assignable.{underlying_term_of}
 use Rattle.go_type.specs.Table.{Table, term_at, with_term}
 use Rattle.typed_parts.specs.Judged.{Broken}
-use Rattle.typed_parts.specs.Nodes.{node}
 use Rattle.typed_parts.specs.Several.{place_of}
 use Rattle.typed_calls.specs.declared.calling.Arguments.{Arguments}
 use Rattle.typed_calls.specs.declared.calling.Arguments.TheVariants.{Each, Spread}
@@ -108,21 +105,11 @@ abbrev pub target : Plan → Signature → ℕ → Option TypeId
 target plan signature number =
     if nat_lt number plan.fixed then slice_get signature.params number else option_map elem_of_pair plan.packs
 
--- ---- what is called
+-- ---- what is called: a method with its receiver, or a value of a function type
 
 abbrev pub method_callee : Box TypedExpr → Method → Callee
 method_callee receiver (method.Concrete function) = callee.Method receiver function
 method_callee receiver (method.Interface name package_number) = callee.Interface receiver name package_number
-
-abbrev pub IsCalleeOf : Pos → TypeId → ExprKind → Callee → Type 0
-IsCalleeOf at of (FunctionOf function) made = made ≡ callee.Function function
-IsCalleeOf at of (LiteralOf function) made = made ≡ callee.Literal function
-IsCalleeOf at of (MethodValue receiver method) made = made ≡ method_callee receiver method
-IsCalleeOf at of kind made = (b : Box TypedExpr) × ((b.value ≡ node at of kind) × (made ≡ callee.Value b))
-
--- a function, a function literal, a method with its receiver, or else a value
-abbrev pub IsCallee : TypedExpr → Callee → Type 0
-IsCallee expr made = IsCalleeOf expr.at expr.of expr.kind made
 
 abbrev pub function_term : Option TypeTerm → Option Signature
 function_term (Some (Func signature)) = Some signature

@@ -1,11 +1,8 @@
 //! Calls. Go specification, "Calls" and "Passing arguments to ... parameters".
 
 ghost use Rattle.std.specs.Prelude.{◌≡◌, IfOk, OnOk};
-ghost use Rattle.std.specs.Global.{Box as TheBox};
-ghost use Rattle.go_tree.specs.declared.exprs.Callee.TheVariants as callees;
-ghost use Rattle.go_tree.specs.declared.exprs.TypedExpr.{TypedExpr as TheExpr};
 ghost use Rattle.typed_parts.specs.Judged.{reported};
-ghost use Rattle.typed_calls.specs.Passing.{IsCallee, IsResultOf, breach_broken, count, is_spread, method_callee, number_breach, place, signature_of};
+ghost use Rattle.typed_calls.specs.Passing.{IsResultOf, breach_broken, count, is_spread, method_callee, number_breach, place, signature_of};
 
 use crate::built_ins::built_in;
 use crate::converting::conversion;
@@ -144,9 +141,7 @@ fn result_of(ground: &mut Ground, results: &[TypeId]) -> Result<TypeId, NoMemory
 }
 
 /// What is called, by the value that is.
-fn callee_of(ground: &Ground, expr: TypedExpr) -> Result<Callee, NoMemory>
-    ensures { IfOk result (IsCallee expr) }
-{
+fn callee_of(ground: &Ground, expr: TypedExpr) -> Result<Callee, NoMemory> {
     let (at, of, kind) = expr.into_parts();
     match kind {
         ExprKind::FunctionOf(function) => Ok(Callee::Function(function)),
@@ -156,9 +151,7 @@ fn callee_of(ground: &Ground, expr: TypedExpr) -> Result<Callee, NoMemory>
     }
 }
 
-fn value_callee(ground: &Ground, expr: TypedExpr) -> Result<Callee, NoMemory>
-    ensures { IfOk result (λ made. (b : TheBox TheExpr) × ((b.value ≡ expr) × (made ≡ callees.Value b))) }
-{
+fn value_callee(ground: &Ground, expr: TypedExpr) -> Result<Callee, NoMemory> {
     let expr = boxed(ground, expr)?;
     Ok(Callee::Value(expr))
 }
