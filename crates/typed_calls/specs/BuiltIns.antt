@@ -1,6 +1,6 @@
 -- What calls of built-in functions have in common. Go specification, "Built-in functions".
-use Rattle.std.specs.Prelude.{◌≡◌, ℕ, ◌||◌, nat_le, nat_eq, Bool, true, false, if◌then◌else◌, List, [], ◌∷◌, map, length}
-use Rattle.std.specs.Prelude.{Option, Some, None, slice_get}
+use Rattle.std.specs.Prelude.{◌≡◌, ℕ, ◌||◌, nat_le, nat_eq, Bool, true, false, if◌then◌else◌, List, [], ◌∷◌, map}
+use Rattle.std.specs.Prelude.{length, Option, Some, None, slice_get}
 use Rattle.std.specs.List.{flat_map}
 use Rattle.std.specs.Option.{option_flatten}
 use Rattle.std.specs.Global.{Vec}
@@ -113,7 +113,8 @@ number_broken call values =
 
 -- there is no `...` where none may be, and the number of arguments is one that the function takes
 abbrev pub number_asked : BuiltInCall → List (Option Given) → Judged (List (Option Given))
-number_asked call values = record { sound = only (Some values) (takes_call call values); broken = number_broken call values }
+number_asked call values =
+    record { sound = only (Some values) (takes_call call values); broken = number_broken call values }
 
 -- ---- "Handling panics" and "Bootstrapping"
 

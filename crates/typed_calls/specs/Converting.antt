@@ -1,6 +1,6 @@
 -- Conversions. Go specification, "Conversions" and "Conversions to and from a string type".
-use Rattle.std.specs.Prelude.{◌≡◌, ℕ, ℤ, pos, negsuc, ◌&&◌, ◌||◌, Bool, true, false, is_some, if◌then◌else◌, IsTrue, ◌⊎◌}
-use Rattle.std.specs.Prelude.{List, [], ◌∷◌, Option, Some, None, Result, Ok, Err}
+use Rattle.std.specs.Prelude.{◌≡◌, ℕ, ℤ, pos, negsuc, ◌&&◌, ◌||◌, Bool, true, false, is_some, if◌then◌else◌, IsTrue}
+use Rattle.std.specs.Prelude.{◌⊎◌, List, [], ◌∷◌, Option, Some, None, Result, Ok, Err}
 use Rattle.std.specs.Option.{option_map}
 use lib.Utf8.{scalar}
 use Rattle.std.specs.Char.{encode_utf8}
@@ -8,7 +8,8 @@ use Rattle.std.specs.Global.{Box}
 use Rattle.go_base.specs.declared.ids.TypeId.{TypeId}
 use Rattle.go_base.specs.declared.place.Pos.{Pos}
 use Rattle.go_base.specs.declared.rule.Rule.{Rule}
-use Rattle.go_base.specs.declared.rule.Rule.TheVariants.{BadConversion, BadUseOfDots, ConstantOutOfRange, WrongNumberOfValues}
+use Rattle.go_base.specs.declared.rule.Rule.TheVariants.{BadConversion, BadUseOfDots, ConstantOutOfRange}
+use Rattle.go_base.specs.declared.rule.Rule.TheVariants.{WrongNumberOfValues}
 use Rattle.go_rules.specs.declared.untyped.Untyped.{Untyped}
 use Rattle.go_rules.specs.declared.untyped.Untyped.TheVariants as kind
 use Rattle.go_rules.specs.Matching.{is_empty_interface}
@@ -22,8 +23,8 @@ use Rattle.go_type.specs.declared.constants.Const.TheVariants as constant
 use Rattle.go_type.specs.declared.term.Basic.{Basic}
 use Rattle.go_type.specs.declared.term.Basic.TheVariants as basic
 use Rattle.go_type.specs.declared.term.TypeTerm.{TypeTerm}
-use Rattle.go_type.specs.declared.term.TypeTerm.TheVariants.{Basic as Plain, Pointer, Func, Slice, Array, Struct, Map, Chan}
-use Rattle.go_type.specs.declared.term.TypeTerm.TheVariants.{Interface}
+use Rattle.go_type.specs.declared.term.TypeTerm.TheVariants.{Basic as Plain, Pointer, Func, Slice, Array, Struct}
+use Rattle.go_type.specs.declared.term.TypeTerm.TheVariants.{Map, Chan, Interface}
 use Rattle.go_type.specs.Assignable.{Assignable, underlying_term_of}
 use Rattle.go_type.specs.Conditions.{is_held}
 use Rattle.go_type.specs.Grows.{Grows}
@@ -83,8 +84,10 @@ text_conversion false = becomes.Other
 
 -- "Converting a constant to a type yields a typed constant", where it is one of an integer, string or boolean type
 abbrev pub value_conversion : Table → Const → TypeId → ConstantConversion
-value_conversion types (constant.Int number) to = number_conversion (is_some (kind_of types to)) (is_text_type types to)
-value_conversion types (constant.Rune number) to = number_conversion (is_some (kind_of types to)) (is_text_type types to)
+value_conversion types (constant.Int number) to =
+    number_conversion (is_some (kind_of types to)) (is_text_type types to)
+value_conversion types (constant.Rune number) to =
+    number_conversion (is_some (kind_of types to)) (is_text_type types to)
 value_conversion types (constant.Text bytes) to = text_conversion (representable types (constant.Text bytes) to)
 value_conversion types (constant.Truth truth) to = text_conversion (representable types (constant.Truth truth) to)
 
@@ -183,10 +186,12 @@ abbrev pub placed : Pos → Judged TypedExpr → Judged TypedExpr
 placed at of = record { sound = option_map (moved at) of.sound; broken = of.broken }
 
 abbrev pub IsRetypedAt : Table → Pos → TypedExpr → TypeId → Judged TypedExpr → Type 0
-IsRetypedAt types at expr to result = (given : Judged TypedExpr) × (IsGiven types to expr given × (result ≡ placed at given))
+IsRetypedAt types at expr to result =
+    (given : Judged TypedExpr) × (IsGiven types to expr given × (result ≡ placed at given))
 
 abbrev pub IsExplicitNode : Pos → TypeId → TypedExpr → Table → Table → Judged TypedExpr → Type 0
-IsExplicitNode at to expr before after result = Keeps (λ types. IsFine (IsExplicit types at expr to)) before after result
+IsExplicitNode at to expr before after result =
+    Keeps (λ types. IsFine (IsExplicit types at expr to)) before after result
 
 abbrev pub IsThrough : TypeId → Pos → TypeId → TypedExpr → Table → Table → Judged TypedExpr → Type 0
 IsThrough of at to expr before after result =
@@ -204,8 +209,8 @@ IsUntypedConverted at expr kind to before after result =
 
 -- ---- typed values
 
--- "x's type and T have identical underlying types", "x's type and T are both integer types", "x is an integer .. and T is
--- a string type", "x is a string and T is a slice of bytes or runes" and the other way round
+-- "x's type and T have identical underlying types", "x's type and T are both integer types", "x is an integer .. and T
+-- is a string type", "x is a string and T is a slice of bytes or runes" and the other way round
 abbrev pub converts_integer : Table → TypeId → TypeId → Bool → Bool
 converts_integer types from to true = is_some (kind_of types to) || is_text_type types to
 converts_integer types from to false =
@@ -247,7 +252,8 @@ pub data IsTypedAs (at : Pos) (expr : TypedExpr) (to : TypeId) (before after : T
       → IsTypedAs at expr to before after (fine made)
   refused : (MayConvert before after expr.of to → ⊥) → IsTypedAs at expr to before after (breaks at BadConversion)
 
-pub record IsTypedConverted (at : Pos) (expr : TypedExpr) (to : TypeId) (before after : Table) (result : Judged TypedExpr) : Type 0 where
+pub record IsTypedConverted (at : Pos) (expr : TypedExpr) (to : TypeId) (before after : Table)
+    (result : Judged TypedExpr) : Type 0 where
   pub grows : Grows before after
   pub definitions : KeepsDefinitions before after
   pub is : IsTypedAs at expr to before after result
@@ -275,5 +281,5 @@ IsOneValue number part before after result = Asks (λ types. one_value types par
 abbrev pub IsConversion : Pos → TypeId → List Seen → Option Pos → Table → Table → Judged TypedExpr → Type 0
 IsConversion at to arguments dots before after result =
     IsThenSoundly (IsEach IsOneValue arguments)
-    (λ (values : List Given). IsThenSoundly (Asks (λ types. sole_asked at dots values)) (IsConverted at to)) before after
-    result
+    (λ (values : List Given). IsThenSoundly (Asks (λ types. sole_asked at dots values)) (IsConverted at to)) before
+    after result

@@ -87,7 +87,8 @@ pub data IsSpreadAs (types : Table) (x : Given) (slice : TypeId) : Judged TypedE
 
 abbrev pub IsSpread : Given × TypeId → Table → Table → Judged TypedExpr → Type 0
 IsSpread (x, elem) before after result =
-    IsThenSoundly (IsHeld (Slice elem)) (λ (slice : TypeId). Keeps (λ types. IsSpreadAs types x slice)) before after result
+    IsThenSoundly (IsHeld (Slice elem)) (λ (slice : TypeId). Keeps (λ types. IsSpreadAs types x slice)) before after
+    result
 
 abbrev pub IsBehind : Bool → Option TypeId → Option Given → Table → Table → Judged TypedExpr → Type 0
 IsBehind true elem x before after result = Soundly IsSpread (option_zip x elem) before after result

@@ -54,8 +54,8 @@ IsLengthOf call expr None result = IsFine (IsNode call (basic_id basic.Int) None
 abbrev pub IsMeasured : BuiltInCall → Given → Table → Table → Judged TypedExpr → Type 0
 IsMeasured call x before after result =
     IsThenSoundly (Asks (λ types. asked x (has_length call.builtin (shape_of types x.expr.of)) BadBuiltInCall))
-    (λ (y : Given). Keeps (λ types. IsLengthOf call y.expr (constant_length (shape_of types y.expr.of) y.expr))) before after
-    result
+    (λ (y : Given). Keeps (λ types. IsLengthOf call y.expr (constant_length (shape_of types y.expr.of) y.expr))) before
+    after result
 
 -- an untyped string is one of type `string` first
 abbrev pub IsLength : BuiltInCall → Given → Table → Table → Judged TypedExpr → Type 0

@@ -46,8 +46,8 @@ closed_term _ = false
 -- a call of one argument that has to be one that the function takes
 abbrev pub IsTaken : BuiltInCall → Given → (Table → Bool) → Table → Table → Judged TypedExpr → Type 0
 IsTaken call x takes before after result =
-    IsThenSoundly (Asks (λ types. asked x (takes types) BadBuiltInCall)) (λ (y : Given). IsAction call (y.expr ∷ [])) before
-    after result
+    IsThenSoundly (Asks (λ types. asked x (takes types) BadBuiltInCall)) (λ (y : Given). IsAction call (y.expr ∷ []))
+    before after result
 
 abbrev pub IsClear : BuiltInCall → Given → Table → Table → Judged TypedExpr → Type 0
 IsClear call x before after result =

@@ -1,5 +1,5 @@
--- How many arguments a call has, to which parameters they go, and what is called. Go specification, "Calls" and "Passing
--- arguments to ... parameters".
+-- How many arguments a call has, to which parameters they go, and what is called. Go specification, "Calls" and
+-- "Passing arguments to ... parameters".
 use Rattle.std.specs.Prelude.{◌≡◌, ℕ, ◌-◌, ◌||◌, not, is_some, nat_le, nat_lt, nat_eq, Bool, true, false, if◌then◌else◌}
 use Rattle.std.specs.Prelude.{List, [], ◌∷◌, length, Option, Some, None, slice_get}
 use Rattle.std.specs.Global.{Box}
@@ -122,4 +122,5 @@ signature_of types of = function_term (underlying_term_of types of)
 -- a call is of its one result, or of none or several values, whose type is held
 abbrev pub IsResultOf : Table → Table → List TypeId → TypeId → Type 0
 IsResultOf before after (only ∷ []) of = (after ≡ before) × (of ≡ only)
-IsResultOf before after results of = (term_at after of ≡ Some (Tuple results)) × (after ≡ with_term (Tuple results) before)
+IsResultOf before after results of =
+    (term_at after of ≡ Some (Tuple results)) × (after ≡ with_term (Tuple results) before)

@@ -8,7 +8,8 @@ use Rattle.typed_parts.specs.Judged.{Exactly, Judged, fine, reported, unsound}
 
 -- the answer is what a rule makes, with the types before and after; what it breaks was reported, and of the ground only
 -- the types became others
-pub record Turned {A : Type 0} (old new : Ground) (answer : Option A) (Is : Table → Table → Judged A → Type 0) : Type 0 where
+pub record Turned {A : Type 0} (old new : Ground) (answer : Option A) (Is : Table → Table → Judged A → Type 0)
+    : Type 0 where
   pub judged : Judged A
   pub is : Is old.types new.types judged
   pub answers : answer ≡ judged.sound

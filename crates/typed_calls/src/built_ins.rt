@@ -108,10 +108,7 @@ pub fn built_in(
 }
 
 /// Arguments, each asked to be one value.
-pub fn each_value(
-    ground: &mut Ground,
-    arguments: Vec<Seen>,
-) -> Result<Vec<Option<Given>>, NoMemory>
+pub fn each_value(ground: &mut Ground, arguments: Vec<Seen>) -> Result<Vec<Option<Given>>, NoMemory>
     ensures values { IfOk result (λ values. values.items ≡ values_in ground.old.types arguments.items) }
     ensures broken { OnOk result (ground.new ≡ reported ground.old (broken_in ground.old.types arguments.items)) }
 {
@@ -196,11 +193,7 @@ fn of_one(
     }
 }
 
-fn of_value(
-    ground: &mut Ground,
-    call: BuiltInCall,
-    x: Given,
-) -> Result<Option<TypedExpr>, NoMemory>
+fn of_value(ground: &mut Ground, call: BuiltInCall, x: Given) -> Result<Option<TypedExpr>, NoMemory>
     ensures { Turns ground.old ground.new result (IsOfOne call.builtin call x) }
 {
     match call.builtin {
@@ -226,11 +219,7 @@ fn of_two(
 }
 
 /// `panic(v)`, whose argument becomes an `interface{}`.
-fn panicked(
-    ground: &mut Ground,
-    call: BuiltInCall,
-    x: Given,
-) -> Result<Option<TypedExpr>, NoMemory>
+fn panicked(ground: &mut Ground, call: BuiltInCall, x: Given) -> Result<Option<TypedExpr>, NoMemory>
     ensures { Turns ground.old ground.new result (IsPanic call x) }
 {
     let (any, x) = beside(ground.any_type(), x)?;
@@ -240,10 +229,7 @@ fn panicked(
 }
 
 /// A list of one, where that is sound.
-pub fn one_of(
-    ground: &Ground,
-    value: Option<TypedExpr>,
-) -> Result<Option<Vec<TypedExpr>>, NoMemory>
+pub fn one_of(ground: &Ground, value: Option<TypedExpr>) -> Result<Option<Vec<TypedExpr>>, NoMemory>
     ensures { IfOk result (λ made. items_of made ≡ with_last (Some []) value) }
 {
     with_last(Some(Vec::new(ground.alloc)), value)

@@ -44,10 +44,7 @@ pub fn conversion(
 }
 
 /// Arguments that are one value each. None where one is not, or is unsound.
-fn single_values(
-    ground: &mut Ground,
-    arguments: Vec<Seen>,
-) -> Result<Option<Vec<Given>>, NoMemory>
+fn single_values(ground: &mut Ground, arguments: Vec<Seen>) -> Result<Option<Vec<Given>>, NoMemory>
     ensures { Turns ground.old ground.new (listed result) (IsEach IsOneValue arguments.items) }
 {
     let mut values = Some(Vec::new(ground.alloc));
@@ -308,10 +305,7 @@ fn converted_through(
     }
 }
 
-fn placed(
-    expr: Result<Option<TypedExpr>, NoMemory>,
-    at: Pos,
-) -> Result<Option<TypedExpr>, NoMemory>
+fn placed(expr: Result<Option<TypedExpr>, NoMemory>, at: Pos) -> Result<Option<TypedExpr>, NoMemory>
     ensures { result ≡ moved_result at expr }
 {
     match expr {

@@ -185,11 +185,7 @@ fn appended_slice(
     }
 }
 
-fn spread_slice(
-    ground: &mut Ground,
-    x: Given,
-    elem: TypeId,
-) -> Result<Option<TypedExpr>, NoMemory>
+fn spread_slice(ground: &mut Ground, x: Given, elem: TypeId) -> Result<Option<TypedExpr>, NoMemory>
     ensures { Turns ground.old ground.new result (IsSpread (x, elem)) }
 {
     let (slice, x) = beside(ground.hold(TypeTerm::Slice(elem)), x)?;
@@ -197,11 +193,7 @@ fn spread_slice(
 }
 
 /// What is appended to elements of a slice type.
-fn spread_as(
-    ground: &mut Ground,
-    x: Given,
-    slice: TypeId,
-) -> Result<Option<TypedExpr>, NoMemory>
+fn spread_as(ground: &mut Ground, x: Given, slice: TypeId) -> Result<Option<TypedExpr>, NoMemory>
     ensures { Comes ground.old ground.new result (IsSpreadAs ground.old.types x slice) }
 {
     if !is_bytes(&ground.types, slice) {

@@ -16,8 +16,8 @@ loop-argument-preserved c =
     let steps : into_iter_items at.argument-iterator ≡ x ∷ into_iter_items c.next.new.self = c.in-Some.ensures.steps.0 in
     let same = same_types old at.ground (form_broken types at.yielded) at.invariant.broken in
     let added_here = c.in_ok-add.ensures.broken
-        ∙ (ap (λ (t : Table). reported at.ground (added_broken t at.formed.has_form x)) same
-        ∙ ap (λ (f : Form). reported at.ground (added_broken types f.is_written x)) at.invariant.form) in
+    ∙ (ap (λ (t : Table). reported at.ground (added_broken t at.formed.has_form x)) same
+    ∙ ap (λ (f : Form). reported at.ground (added_broken types f.is_written x)) at.invariant.form) in
     record {
       rest = append_assoc at.yielded (x ∷ []) _ ∙ rw (← steps) at.invariant.rest;
       form = c.in_ok-add.ensures.formed

@@ -25,6 +25,6 @@ pub returns-in-Some-2 : goal.returns-in-Some-2
 returns-in-Some-2 c =
     let v = c.in-Some-2.arguments in
     let m : c.node.result ≡ built_in_node c.args.call (basic_id basic.Int) None v false =
-        c.node.ensures ∙ ap (λ (o : TypeId). built_in_node c.args.call o None v false) c.basic.ensures in
+    c.node.ensures ∙ ap (λ (o : TypeId). built_in_node c.args.call o None v false) c.basic.ensures in
     length_called c.args.ground.now c.args.call c.args.expr (constant_length c.args.shape c.args.expr) v c.node.result
     (sym c.constant_length.ensures ∙ c.in_default.is) (vec_items c.in_ok-arguments.field-0 v (c.args.expr ∷ []) c.in-Some-2.is c.in_ok-arguments.ensures) m

@@ -43,7 +43,7 @@ returns-in-Some-2 c =
     let whole : beside c.with_text_type.result c.args.to ≡ Ok (source, to) = sym c.beside.ensures ∙ c.in_ok-from.was in
     let same : c.args.to ≡ to = second_stays source to c.with_text_type.result c.args.to whole in
     let m : c.node.result ≡ built_in_node c.args.call (basic_id basic.Int) None v false =
-        c.node.ensures ∙ ap (λ (o : TypeId). built_in_node c.args.call o None v false) c.basic.ensures in
+    c.node.ensures ∙ ap (λ (o : TypeId). built_in_node c.args.call o None v false) c.basic.ensures in
     subst (λ (t : Option Given). Turns old new (came (Some c.node.result)) (IsCopy c.args.call t c.args.from)) (sym same)
     (copies old mid last new c.args.call to c.args.from source c.copied_to-to.result c.copied_from-from.result (came (Some c.node.result))
     (outcome_of old mid (IsTextTyped old.types c.args.from) c.with_text_type.result source (first_came source to c.with_text_type.result c.args.to whole) c.with_text_type.ensures)
