@@ -1,5 +1,12 @@
 //! Calls of built-in functions. Go specification, "Built-in functions".
 
+ghost use Rattle.std.specs.Prelude.{◌≡◌, ℕ, IfOk, OnOk, Some, []};
+ghost use Rattle.typed_parts.specs.Joining.{items_of, listed, with_last};
+ghost use Rattle.typed_parts.specs.Judged.{reported};
+ghost use Rattle.typed_calls.specs.BuiltIns.{IsAction, IsPanic, IsPrint, IsPrintable, IsRecover, broken_in, built_in_node, is_printed, number_broken, print_asked, takes_call, takes_number, values_in};
+ghost use Rattle.typed_calls.specs.Dispatch.{IsOfOne};
+ghost use Rattle.typed_calls.specs.Turning.{IsEach, Soundly, Turns};
+
 use crate::extremes::extreme_of;
 use crate::growing::append_of;
 use crate::making::formed;
@@ -32,7 +39,9 @@ impl BuiltInCall {
         form: Option<TypeId>,
         arguments: Vec<TypedExpr>,
         spread: bool,
-    ) -> TypedExpr {
+    ) -> TypedExpr
+        ensures { result ≡ built_in_node self of form arguments spread }
+    {
         node(
             self.parenthesis,
             of,
@@ -50,7 +59,9 @@ impl BuiltInCall {
         self,
         ground: &mut Ground,
         arguments: Option<Vec<TypedExpr>>,
-    ) -> Result<Option<TypedExpr>, NoMemory> {
+    ) -> Result<Option<TypedExpr>, NoMemory>
+        ensures { Turns ground.old ground.new result (Soundly (IsAction self) (items_of arguments)) }
+    {
         match arguments {
             Some(arguments) => self.without_value(ground, arguments),
             None => Ok(None),
@@ -61,7 +72,9 @@ impl BuiltInCall {
         self,
         ground: &mut Ground,
         arguments: Vec<TypedExpr>,
-    ) -> Result<Option<TypedExpr>, NoMemory> {
+    ) -> Result<Option<TypedExpr>, NoMemory>
+        ensures { Turns ground.old ground.new result (IsAction self arguments.items) }
+    {
         let (nothing, arguments) = beside(ground.tuple(&[]), arguments)?;
         Ok(Some(self.node(nothing, None, arguments, false)))
     }
@@ -95,10 +108,10 @@ pub fn built_in(
 }
 
 /// Arguments, each asked to be one value.
-pub fn each_value(
-    ground: &mut Ground,
-    arguments: Vec<Seen>,
-) -> Result<Vec<Option<Given>>, NoMemory> {
+pub fn each_value(ground: &mut Ground, arguments: Vec<Seen>) -> Result<Vec<Option<Given>>, NoMemory>
+    ensures values { IfOk result (λ values. values.items ≡ values_in ground.old.types arguments.items) }
+    ensures broken { OnOk result (ground.new ≡ reported ground.old (broken_in ground.old.types arguments.items)) }
+{
     let mut values = Vec::new(ground.alloc);
     for argument in arguments {
         values.push(one_value(ground, argument))?;
@@ -107,7 +120,10 @@ pub fn each_value(
 }
 
 /// Whether there is no `...` where none may be, and the number of arguments is one that the function takes.
-fn ask_number(ground: &mut Ground, call: BuiltInCall, arguments: &[Option<Given>]) -> bool {
+fn ask_number(ground: &mut Ground, call: BuiltInCall, arguments: &[Option<Given>]) -> bool
+    ensures takes { result ≡ takes_call call arguments.now }
+    ensures broken { ground.new ≡ reported ground.old (number_broken call arguments.now) }
+{
     let place = place_of(arguments, call.at);
     if let (Some(dots), false) = (call.dots, call.builtin == Builtin::Append) {
         if place.is_some() {
@@ -124,7 +140,9 @@ fn ask_number(ground: &mut Ground, call: BuiltInCall, arguments: &[Option<Given>
     false
 }
 
-fn takes_number(builtin: Builtin, number: usize) -> bool {
+fn takes_number(builtin: Builtin, number: usize) -> bool
+    ensures { result ≡ takes_number builtin number }
+{
     match builtin {
         Builtin::Append | Builtin::Max | Builtin::Min | Builtin::Make => number >= 1,
         Builtin::Cap
@@ -175,11 +193,9 @@ fn of_one(
     }
 }
 
-fn of_value(
-    ground: &mut Ground,
-    call: BuiltInCall,
-    x: Given,
-) -> Result<Option<TypedExpr>, NoMemory> {
+fn of_value(ground: &mut Ground, call: BuiltInCall, x: Given) -> Result<Option<TypedExpr>, NoMemory>
+    ensures { Turns ground.old ground.new result (IsOfOne call.builtin call x) }
+{
     match call.builtin {
         Builtin::Clear => cleared(ground, call, x),
         Builtin::Close => closed(ground, call, x),
@@ -203,11 +219,9 @@ fn of_two(
 }
 
 /// `panic(v)`, whose argument becomes an `interface{}`.
-fn panicked(
-    ground: &mut Ground,
-    call: BuiltInCall,
-    x: Given,
-) -> Result<Option<TypedExpr>, NoMemory> {
+fn panicked(ground: &mut Ground, call: BuiltInCall, x: Given) -> Result<Option<TypedExpr>, NoMemory>
+    ensures { Turns ground.old ground.new result (IsPanic call x) }
+{
     let (any, x) = beside(ground.any_type(), x)?;
     let value = assigned(ground, Some(x), Some(any))?;
     let arguments = one_of(ground, value)?;
@@ -215,14 +229,15 @@ fn panicked(
 }
 
 /// A list of one, where that is sound.
-pub fn one_of(
-    ground: &Ground,
-    value: Option<TypedExpr>,
-) -> Result<Option<Vec<TypedExpr>>, NoMemory> {
+pub fn one_of(ground: &Ground, value: Option<TypedExpr>) -> Result<Option<Vec<TypedExpr>>, NoMemory>
+    ensures { IfOk result (λ made. items_of made ≡ with_last (Some []) value) }
+{
     with_last(Some(Vec::new(ground.alloc)), value)
 }
 
-fn recovered(ground: &mut Ground, call: BuiltInCall) -> Result<Option<TypedExpr>, NoMemory> {
+fn recovered(ground: &mut Ground, call: BuiltInCall) -> Result<Option<TypedExpr>, NoMemory>
+    ensures { Turns ground.old ground.new result (IsRecover call) }
+{
     let any = ground.any_type()?;
     Ok(Some(call.node(any, None, Vec::new(ground.alloc), false)))
 }
@@ -232,32 +247,54 @@ fn printed(
     ground: &mut Ground,
     call: BuiltInCall,
     arguments: Vec<Option<Given>>,
-) -> Result<Option<TypedExpr>, NoMemory> {
+) -> Result<Option<TypedExpr>, NoMemory>
+    ensures { Turns ground.old ground.new result (IsPrint call arguments.items) }
+{
+    let values = printables(ground, arguments)?;
+    call.action(ground, values)
+}
+
+fn printables(
+    ground: &mut Ground,
+    arguments: Vec<Option<Given>>,
+) -> Result<Option<Vec<TypedExpr>>, NoMemory>
+    ensures { Turns ground.old ground.new (listed result) (IsEach IsPrintable arguments.items) }
+{
     let mut values = Some(Vec::new(ground.alloc));
     for argument in arguments {
         let value = printable(ground, argument)?;
         values = with_last(values, value)?;
     }
-    call.action(ground, values)
+    Ok(values)
 }
 
-fn printable(ground: &mut Ground, x: Option<Given>) -> Result<Option<TypedExpr>, NoMemory> {
+fn printable(ground: &mut Ground, x: Option<Given>) -> Result<Option<TypedExpr>, NoMemory>
+    ensures { (number : ℕ) → Turns ground.old ground.new result (IsPrintable number x) }
+{
     let Some(x) = x else {
         return Ok(None);
     };
     let at = x.at;
-    let value = by_default(ground, Some(x))?;
-    let prints = is_printed(&ground.types, &value);
+    match by_default(ground, Some(x))? {
+        Some(value) => Ok(ask_printed(ground, at, value)),
+        None => Ok(None),
+    }
+}
+
+/// A value that is printed. `BadBuiltInCall` at one that is not.
+fn ask_printed(ground: &mut Ground, at: Pos, value: TypedExpr) -> Option<TypedExpr>
+    ensures answer { result ≡ (print_asked ground.old.types at value).sound }
+    ensures broken { ground.new ≡ reported ground.old (print_asked ground.old.types at value).broken }
+{
+    let prints = is_printed(&ground.types, value.of);
     if !prints {
         ground.report(at, Rule::BadBuiltInCall);
     }
-    Ok(only(value, prints))
+    prints.then_some(value)
 }
 
-/// Whether a value that is sound is one that is printed.
-fn is_printed(types: &Types, value: &Option<TypedExpr>) -> bool {
-    match value {
-        Some(value) => is_ordered(types, value.of) || takes_logic(types, value.of),
-        None => true,
-    }
+fn is_printed(types: &Types, of: TypeId) -> bool
+    ensures { result ≡ is_printed types.now of }
+{
+    is_ordered(types, of) || takes_logic(types, of)
 }

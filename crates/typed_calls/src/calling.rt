@@ -1,5 +1,9 @@
 //! Calls. Go specification, "Calls" and "Passing arguments to ... parameters".
 
+ghost use Rattle.std.specs.Prelude.{◌≡◌, IfOk, OnOk};
+ghost use Rattle.typed_parts.specs.Judged.{reported};
+ghost use Rattle.typed_calls.specs.Passing.{IsResultOf, breach_broken, count, is_spread, method_callee, number_breach, place, signature_of};
+
 use crate::built_ins::built_in;
 use crate::converting::conversion;
 use crate::packing::{Plan, packed_values, passed_each, spread};
@@ -113,7 +117,9 @@ fn call_node(
 }
 
 /// The function type that a type's underlying type is.
-fn signature_of(ground: &Ground, of: TypeId) -> Result<Option<Signature>, NoMemory> {
+fn signature_of(ground: &Ground, of: TypeId) -> Result<Option<Signature>, NoMemory>
+    ensures { IfOk result (λ found. found ≡ signature_of ground.now.types of) }
+{
     match ground.types.underlying_term(of) {
         Some(TypeTerm::Func(signature)) => {
             let copy = signature.copy(ground.alloc)?;
@@ -124,7 +130,10 @@ fn signature_of(ground: &Ground, of: TypeId) -> Result<Option<Signature>, NoMemo
 }
 
 /// The type of a call: of the one result, or of none or several values.
-fn result_of(ground: &mut Ground, results: &[TypeId]) -> Result<TypeId, NoMemory> {
+fn result_of(ground: &mut Ground, results: &[TypeId]) -> Result<TypeId, NoMemory>
+    ensures result_is { IfOk result (IsResultOf ground.old.types ground.new.types results.now) }
+    ensures keeps { OnOk result (ground.new ≡ record ground.old { types = ground.new.types }) }
+{
     match results {
         [only] => Ok(*only),
         _ => ground.tuple(results),
@@ -147,7 +156,9 @@ fn value_callee(ground: &Ground, expr: TypedExpr) -> Result<Callee, NoMemory> {
     Ok(Callee::Value(expr))
 }
 
-fn method_callee(receiver: Box<TypedExpr>, method: Method) -> Callee {
+fn method_callee(receiver: Box<TypedExpr>, method: Method) -> Callee
+    ensures { result ≡ method_callee receiver method }
+{
     match method {
         Method::Concrete(function) => Callee::Method { receiver, function },
         Method::Interface { name, package } => Callee::Interface {
@@ -219,19 +230,25 @@ fn one_argument(ground: &Ground, value: Option<Given>) -> Result<Arguments, NoMe
 }
 
 impl Arguments {
-    fn count(&self) -> usize {
+    fn count(&self) -> usize
+        ensures { result ≡ count self.now }
+    {
         match self {
             Arguments::Each(values) => values.len(),
             Arguments::Spread(_, parts) => parts.len(),
         }
     }
 
-    fn is_spread(&self) -> bool {
+    fn is_spread(&self) -> bool
+        ensures { result ≡ is_spread self.now }
+    {
         matches!(self, Arguments::Spread(_, _))
     }
 
     /// The place of the first argument; None where one is unsound.
-    fn place(&self, otherwise: Pos) -> Option<Pos> {
+    fn place(&self, otherwise: Pos) -> Option<Pos>
+        ensures { result ≡ place self.now otherwise }
+    {
         match self {
             Arguments::Each(values) => place_of(values.as_slice(), otherwise),
             Arguments::Spread(value, _) => Some(value.at),
@@ -244,7 +261,9 @@ fn number_breach(
     call: CallSite,
     signature: &Signature,
     arguments: &Arguments,
-) -> Option<NumberBreach> {
+) -> Option<NumberBreach>
+    ensures { result ≡ number_breach call signature.now arguments.now }
+{
     let written = arguments.count();
     let wanted = signature.params.as_slice().len();
     if call.dots.is_some() {
@@ -274,7 +293,9 @@ enum NumberBreach {
     Count,
 }
 
-fn report_number(ground: &mut Ground, call: CallSite, breach: NumberBreach, arguments: &Arguments) {
+fn report_number(ground: &mut Ground, call: CallSite, breach: NumberBreach, arguments: &Arguments)
+    ensures { ground.new ≡ reported ground.old (breach_broken breach call.dots (place arguments.now call.at)) }
+{
     let Some(place) = arguments.place(call.at) else {
         return;
     };

@@ -1,7 +1,17 @@
 //! The built-in functions `len` and `cap`. Go specification, "Length and capacity".
 
+ghost use Rattle.std.specs.Prelude.{◌≡◌};
+ghost use Rattle.go_tree.specs.declared.exprs.ExprKind.TheVariants as kinds;
+ghost use Rattle.go_type.specs.declared.constants.Const.TheVariants as constant;
+ghost use Rattle.go_type.specs.declared.term.Basic.TheVariants as basic_kind;
+ghost use Rattle.go_type.specs.Table.{basic_id};
+ghost use Rattle.typed_parts.specs.Judged.{Comes};
+ghost use Rattle.typed_parts.specs.Nodes.{node};
+ghost use Rattle.typed_calls.specs.Measuring.{IsLength, IsLengthOf, array_length, constant_length, has_length};
+ghost use Rattle.typed_calls.specs.Turning.{Turns};
+
 use crate::built_ins::{BuiltInCall, one_of};
-use go_base::{NoMemory, Rule};
+use go_base::{NoMemory, Pos, Rule};
 use go_tree::{ExprKind, TypedExpr};
 use go_type::{Basic, Builtin, Const, basic};
 use typed_parts::{
@@ -14,7 +24,9 @@ pub fn length_of(
     ground: &mut Ground,
     call: BuiltInCall,
     x: Given,
-) -> Result<Option<TypedExpr>, NoMemory> {
+) -> Result<Option<TypedExpr>, NoMemory>
+    ensures { Turns ground.old ground.new result (IsLength call x) }
+{
     let Some(x) = with_text_type(ground, Some(x))? else {
         return Ok(None);
     };
@@ -35,19 +47,29 @@ fn length_call(
     call: BuiltInCall,
     shape: Option<Shape>,
     expr: TypedExpr,
-) -> Result<Option<TypedExpr>, NoMemory> {
-    let of = basic(Basic::Int);
+) -> Result<Option<TypedExpr>, NoMemory>
+    ensures { Comes ground.now ground.now result (IsLengthOf call expr (constant_length shape expr)) }
+{
     if let Some(len) = constant_length(shape, &expr) {
         drop(expr);
-        return Ok(Some(node(call.at, of, ExprKind::ConstOf(Const::Int(len)))));
+        return Ok(Some(length_node(call.at, len)));
     }
     match one_of(ground, Some(expr))? {
-        Some(arguments) => Ok(Some(call.node(of, None, arguments, false))),
+        Some(arguments) => Ok(Some(call.node(basic(Basic::Int), None, arguments, false))),
         None => Ok(None),
     }
 }
 
-fn has_length(builtin: Builtin, shape: Option<Shape>) -> bool {
+/// A length that is constant.
+fn length_node(at: Pos, len: i128) -> TypedExpr
+    ensures { result ≡ node at (basic_id basic_kind.Int) (kinds.ConstOf (constant.Int len)) }
+{
+    node(at, basic(Basic::Int), ExprKind::ConstOf(Const::Int(len)))
+}
+
+fn has_length(builtin: Builtin, shape: Option<Shape>) -> bool
+    ensures { result ≡ has_length builtin shape }
+{
     match shape {
         Some(
             Shape::Array { .. }
@@ -61,16 +83,22 @@ fn has_length(builtin: Builtin, shape: Option<Shape>) -> bool {
 }
 
 /// The length of a value that is known by its expression.
-fn constant_length(shape: Option<Shape>, expr: &TypedExpr) -> Option<i128> {
+fn constant_length(shape: Option<Shape>, expr: &TypedExpr) -> Option<i128>
+    ensures { result ≡ constant_length shape expr.now }
+{
     match shape? {
         Shape::Text => text_length(expr),
-        Shape::Array { len, .. } | Shape::ArrayPointer { len, .. } => {
-            if holds_call(expr) {
-                None
-            } else {
-                Some(i128::from(len))
-            }
-        }
+        Shape::Array { len, .. } | Shape::ArrayPointer { len, .. } => array_length(expr, len),
         _ => None,
+    }
+}
+
+fn array_length(expr: &TypedExpr, len: u64) -> Option<i128>
+    ensures { result ≡ array_length expr.now len }
+{
+    if holds_call(expr) {
+        None
+    } else {
+        Some(i128::from(len))
     }
 }

@@ -1,6 +1,9 @@
 //! Arguments as values of parameters, packed in slices where these are variadic. Go specification, "Passing arguments to ...
 //! parameters".
 
+ghost use Rattle.std.specs.Prelude.{◌≡◌};
+ghost use Rattle.typed_calls.specs.Passing.{plan, slice_of, target};
+
 use crate::calling::CallSite;
 use go_base::{NoMemory, Pos, TypeId};
 use go_tree::{Elements, ExprKind, ItemInit, TypedExpr, Values};
@@ -21,7 +24,9 @@ pub struct Plan {
 
 impl Plan {
     /// Arguments of a variadic function are packed where there is no `...`.
-    pub fn new(ground: &Ground, call: CallSite, signature: &Signature) -> Plan {
+    pub fn new(ground: &Ground, call: CallSite, signature: &Signature) -> Plan
+        ensures { result ≡ plan ground.now.types call signature.now }
+    {
         let packs = signature.variadic && call.dots.is_none();
         let params = signature.params.as_slice();
         match params.last() {
@@ -39,7 +44,9 @@ impl Plan {
     }
 
     /// The type that an argument goes to.
-    fn target(&self, signature: &Signature, number: usize) -> Option<TypeId> {
+    fn target(&self, signature: &Signature, number: usize) -> Option<TypeId>
+        ensures { result ≡ target self.now signature.now number }
+    {
         if number < self.fixed {
             return signature.params.as_slice().get(number).copied();
         }
@@ -49,7 +56,9 @@ impl Plan {
 }
 
 /// A slice type and the type of its elements.
-fn slice_of(types: &Types, of: TypeId) -> Option<(TypeId, TypeId)> {
+fn slice_of(types: &Types, of: TypeId) -> Option<(TypeId, TypeId)>
+    ensures { result ≡ slice_of types.now of }
+{
     match types.underlying_term(of) {
         Some(TypeTerm::Slice(elem)) => Some((of, *elem)),
         _ => None,

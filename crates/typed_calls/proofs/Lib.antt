@@ -1,0 +1,7 @@
+pub mod Turns
+pub mod Asks
+pub mod Moves
+pub mod Makes
+pub mod Grows
+pub mod Converts
+pub mod Dispatches

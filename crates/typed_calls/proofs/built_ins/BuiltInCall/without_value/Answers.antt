@@ -1,0 +1,20 @@
+use Rattle.std.proofs.Common.{◌≡◌, sym, ◌∙◌, refl, ap, [], None, false, Some, Ok}
+use Rattle.go_base.specs.declared.ids.TypeId.{TypeId}
+use Rattle.go_type.specs.declared.term.TypeTerm.TheVariants.{Tuple}
+use Rattle.typed_parts.specs.Joining.{beside}
+use Rattle.typed_calls.specs.BuiltIns.{IsCallNode, IsHeld, built_in_node}
+use Rattle.typed_calls.proofs.Asks.{first_came, held, node_made, second_stays}
+use Rattle.typed_calls.proofs.Turns.{came, then_soundly}
+use Rattle.typed_calls.proofs.built_ins.BuiltInCall.without_value.Goals as goal
+
+pub returns : goal.returns
+returns c =
+    let old = c.args.ground.now in
+    let mid = c.tuple.new.self in
+    let nothing = c.in_ok-nothing.nothing in
+    let v = c.in_ok-nothing.arguments in
+    let whole : beside c.tuple.result c.args.arguments ≡ Ok (nothing, v) = sym c.beside.ensures ∙ c.in_ok-nothing.was in
+    then_soundly old mid mid (IsHeld (Tuple [])) (λ (of : TypeId). IsCallNode c.args.self of None c.args.arguments.items false) (Some nothing) nothing
+    (came (Some c.node.result)) refl
+    (held old mid (Tuple []) c.tuple.result nothing (first_came nothing v c.tuple.result c.args.arguments whole) c.tuple.ensures.named c.tuple.ensures.held)
+    (node_made mid c.args.self nothing None c.args.arguments.items false v c.node.result (sym (ap (λ u. u.items) (second_stays nothing v c.tuple.result c.args.arguments whole))) c.node.ensures)
