@@ -9,7 +9,7 @@ use go_syntax::{Decl, Expr, IfArm, Label, ListedExpr, Stmt, TypeSwitchStmt};
 use go_tree::{Comm, TypeCase, TypeClause, TypedArm, TypedCase, TypedClause, TypedExpr, TypedStmt};
 use stmt_rules::{First, Gathered, Steps, WalkedArm, WalkedBlock, Walker};
 use typed_operators::condition;
-use typed_parts::{only, with_last};
+use typed_parts::{beside, only, with_last};
 
 /// Labels whose statement begins.
 #[derive(Drop)]
@@ -136,10 +136,11 @@ pub fn finish_arm(
     body: WalkedBlock,
 ) -> WalkedArm {
     let ends = body.ends;
-    let arm = match only(condition.zip(body.block), init.is_sound) {
-        Some((condition, body)) => Some(TypedArm {
+    let parts = only(condition.zip(body.block), init.is_sound);
+    let arm = match parts.zip(Some(init.stmt)) {
+        Some(((condition, body), init)) => Some(TypedArm {
             at: walker.at(word),
-            init: init.stmt,
+            init,
             condition,
             body,
         }),
@@ -193,8 +194,8 @@ pub fn see_cases(
 ) -> Result<Option<Vec<TypedCase>>, NoMemory> {
     let mut typed = Some(Vec::new(walker.alloc));
     for item in items {
-        let case = see_case(walker, &item.expr, tag, cases)?;
-        typed = with_last(typed, case)?;
+        let (case, before) = beside(see_case(walker, &item.expr, tag, cases), typed)?;
+        typed = with_last(before, case)?;
     }
     Ok(typed)
 }
@@ -209,10 +210,11 @@ pub fn finish_switch(
     close: Token,
 ) -> Option<TypedStmt> {
     let is_sound = init.is_sound && tag.is_sound();
-    let (clauses, tag) = only(clauses, is_sound).zip(Some(tag.expr))?;
+    let head = Some((tag.expr, init.stmt));
+    let (clauses, (tag, init)) = only(clauses, is_sound).zip(head)?;
     Some(TypedStmt::Switch {
         at: walker.at(word),
-        init: init.stmt,
+        init,
         tag,
         clauses,
         end: walker.at(close),
@@ -247,25 +249,28 @@ pub fn finish_type_clause(
     variable: Option<VarId>,
     body: WalkedBlock,
 ) -> Result<Option<TypeClause>, NoMemory> {
-    let Some(body) = body.block else {
-        return Ok(None);
-    };
-    if !seen.is_sound {
-        return Ok(None);
+    let (cases, body) = beside(sound_cases(walker, &seen), body.block)?;
+    match only(body, seen.is_sound).zip(Some(cases)) {
+        Some((body, cases)) => Ok(Some(TypeClause {
+            at,
+            is_default,
+            cases,
+            variable,
+            body,
+        })),
+        None => Ok(None),
     }
+}
+
+/// The cases whose types are sound.
+fn sound_cases(walker: &Walker<'_>, seen: &SeenCases) -> Result<Vec<TypeCase>, NoMemory> {
     let mut cases = Vec::new(walker.alloc);
-    for case in seen.cases {
+    for case in &seen.cases {
         if let Some(case) = case {
-            cases.push(case)?;
+            cases.push(*case)?;
         }
     }
-    Ok(Some(TypeClause {
-        at,
-        is_default,
-        cases,
-        variable,
-        body,
-    }))
+    Ok(cases)
 }
 
 /// A type switch from its parts.
@@ -278,10 +283,11 @@ pub fn finish_type_switch(
     clauses: Option<Vec<TypeClause>>,
 ) -> Option<TypedStmt> {
     let is_bound = switch.binding.is_some() == matched.binding.is_some();
-    let (operand, clauses) = only(operand.zip(clauses), init.is_sound && is_bound)?;
+    let parts = only(operand.zip(clauses), init.is_sound && is_bound);
+    let ((operand, clauses), init) = parts.zip(Some(init.stmt))?;
     Some(TypedStmt::TypeSwitch {
         at: walker.at(switch.word),
-        init: init.stmt,
+        init,
         operand,
         clauses,
         end: walker.at(switch.close),
@@ -312,13 +318,14 @@ pub fn finish_for(
     body: WalkedBlock,
 ) -> Option<TypedStmt> {
     let is_sound = init.is_sound && condition.is_sound && post.is_sound;
-    let (body, condition) = only(body.block, is_sound).zip(Some(condition.condition))?;
+    let head = Some((condition.condition, (init.stmt, post.stmt)));
+    let (body, (condition, (init, post))) = only(body.block, is_sound).zip(head)?;
     Some(TypedStmt::For {
         at: walker.at(word),
         fresh: walker.fresh,
-        init: init.stmt,
+        init,
         condition,
-        post: post.stmt,
+        post,
         body,
     })
 }

@@ -5,9 +5,9 @@ use go_base::{NoMemory, Pos, Rule, TypeId, VarId};
 use go_places::expr_start;
 use go_syntax::{Expr, ListedExpr};
 use go_tree::{DefineTarget, RangeOver, RangeTargets, Target, TypedExpr};
-use stmt_rules::{Left, Lefts, Side, Walker};
+use stmt_rules::{Left, Lefts, Side, Walker, target_of};
 use typed_operators::{Ranged, range_operand};
-use typed_parts::{assigned_part, beside, only, with_last};
+use typed_parts::{assigned_part, beside, only, sound, with_last};
 
 /// The targets of a range that were seen; names among them are not declared yet.
 #[derive(Drop)]
@@ -84,7 +84,8 @@ fn range_targets(
         });
     }
     let sides = walker.sides(targets)?;
-    let parts = range_parts(walker, targets, &sides, ranged)?;
+    let parts = range_parts(walker, targets, &sides, ranged);
+    let (parts, sides) = beside(parts, sides)?;
     Ok(AskedTargets {
         targets: SeenTargets::Assign { sides, parts },
         is_sound: has_room,
@@ -141,8 +142,8 @@ fn range_parts(
             Some(target) => walker.pos(expr_start(&target.expr)),
             None => walker.pos(0),
         };
-        let part = range_part(walker, at, index, of, side)?;
-        parts = with_last(parts, part)?;
+        let (part, before) = beside(range_part(walker, at, index, of, side), parts)?;
+        parts = with_last(before, part)?;
     }
     Ok(parts)
 }
@@ -195,14 +196,21 @@ fn finish_targets(
     match targets {
         SeenTargets::None => Ok(Some(RangeTargets::None)),
         SeenTargets::Assign { sides, parts } => Ok(assigned_targets(sides, parts)),
-        SeenTargets::Define(lefts) => {
-            let targets = walker.declare_lefts(lefts.names.as_slice(), types)?;
-            Ok(Some(RangeTargets::Define {
-                key: new_variable(targets.first()),
-                value: new_variable(targets.get(1)),
-            }))
-        }
+        SeenTargets::Define(lefts) => sound(define_targets(walker, &lefts, types)),
     }
+}
+
+/// The variables of a range that declares them.
+fn define_targets(
+    walker: &mut Walker<'_>,
+    lefts: &Lefts,
+    types: &[Option<TypeId>],
+) -> Result<RangeTargets, NoMemory> {
+    let targets = walker.declare_lefts(lefts.names.as_slice(), types)?;
+    Ok(RangeTargets::Define {
+        key: new_variable(targets.first()),
+        value: new_variable(targets.get(1)),
+    })
 }
 
 /// Whether a range declares its targets.
@@ -226,6 +234,7 @@ fn assigned_targets(sides: Vec<Side>, parts: Option<Vec<TypedExpr>>) -> Option<R
     let mut sides = sides.into_iter();
     let key = next_target(sides.next());
     let value = next_target(sides.next());
+    drop(sides);
     let ((key, value), parts) = key.zip(value).zip(parts)?;
     Some(RangeTargets::Assign { key, value, parts })
 }
@@ -233,16 +242,8 @@ fn assigned_targets(sides: Vec<Side>, parts: Option<Vec<TypedExpr>>) -> Option<R
 /// The target that a side is, where there is one. None where it is unsound.
 fn next_target(side: Option<Side>) -> Option<Option<Target>> {
     match side {
-        Some(side) => Some(Some(target_of(side)?)),
+        Some(side) => target_of(side).map(Some),
         None => Some(None),
-    }
-}
-
-fn target_of(side: Side) -> Option<Target> {
-    match side {
-        Side::Blank => Some(Target::Blank),
-        Side::Place(Some(place)) => Some(Target::Place(place)),
-        Side::Place(None) => None,
     }
 }
 

@@ -108,7 +108,8 @@ fn comm_assign(
     values: &[ListedExpr],
 ) -> Result<SeenComm, NoMemory> {
     let sides = walker.sides(targets)?;
-    let Some(given) = comm_value(walker, values)? else {
+    let (given, sides) = beside(comm_value(walker, values), sides)?;
+    let Some((given, sides)) = given.zip(Some(sides)) else {
         return Ok(SeenComm::Unsound);
     };
     if sides.len() > 2 {
@@ -119,8 +120,8 @@ fn comm_assign(
         walker.report(at, Rule::BadChannelOperation);
     }
     let (value_at, of) = (given.at, given.expr.of);
-    match receive_of(given.expr) {
-        Some(received) => assigned_comm(walker, value_at, of, received, sides),
+    match receive_of(given.expr).zip(Some(sides)) {
+        Some((received, sides)) => assigned_comm(walker, value_at, of, received, sides),
         None => Ok(SeenComm::Unsound),
     }
 }
@@ -155,21 +156,32 @@ fn parts_of(
 ) -> Result<Option<Vec<TypedExpr>>, NoMemory> {
     let mut parts = Some(Vec::new(walker.alloc));
     for (index, side) in sides.iter().enumerate() {
-        let part = match (index, side) {
-            (_, Side::Place(None)) => None,
-            (0, side) => {
-                let to = type_of_side(side).unwrap_or(of);
-                assigned_part(walker.scope.ground(), at, 0, of, to)?
-            }
-            (1, side) => {
-                let to = type_of_side(side).unwrap_or(basic(Basic::Bool));
-                assigned_ok(walker.scope.ground(), at, to)?
-            }
-            _ => None,
-        };
-        parts = with_last(parts, part)?;
+        let (part, before) = beside(part_of(walker, at, of, index, side), parts)?;
+        parts = with_last(before, part)?;
     }
     Ok(parts)
+}
+
+/// What is received, as the value of the side of an index.
+fn part_of(
+    walker: &mut Walker<'_>,
+    at: Pos,
+    of: TypeId,
+    index: usize,
+    side: &Side,
+) -> Result<Option<TypedExpr>, NoMemory> {
+    match (index, side) {
+        (_, Side::Place(None)) => Ok(None),
+        (0, side) => {
+            let to = type_of_side(side).unwrap_or(of);
+            assigned_part(walker.scope.ground(), at, 0, of, to)
+        }
+        (1, side) => {
+            let to = type_of_side(side).unwrap_or(basic(Basic::Bool));
+            assigned_ok(walker.scope.ground(), at, to)
+        }
+        _ => Ok(None),
+    }
 }
 
 fn comm_define(
@@ -218,19 +230,27 @@ pub fn finish_comm(walker: &mut Walker<'_>, seen: SeenComm) -> Result<Option<Com
     match seen {
         SeenComm::Unsound => Ok(None),
         SeenComm::Whole(comm) => Ok(Some(comm)),
-        SeenComm::Define { channel, of, lefts } => {
-            let truth = of.map(|_| basic(Basic::Bool));
-            let types = [of, truth];
-            let targets = walker.declare_lefts(lefts.names.as_slice(), &types);
-            let (targets, channel) = beside(targets, channel)?;
-            match only(channel, lefts.is_sound) {
-                Some(channel) => Ok(Some(Comm::Receive {
-                    channel,
-                    into: ReceiveInto::Define { targets },
-                })),
-                None => Ok(None),
-            }
-        }
+        SeenComm::Define { channel, of, lefts } => define_comm(walker, channel, of, &lefts),
+    }
+}
+
+/// A receiving case that declares variables.
+fn define_comm(
+    walker: &mut Walker<'_>,
+    channel: Option<TypedExpr>,
+    of: Option<TypeId>,
+    lefts: &Lefts,
+) -> Result<Option<Comm>, NoMemory> {
+    let truth = of.map(|_| basic(Basic::Bool));
+    let types = [of, truth];
+    let targets = walker.declare_lefts(lefts.names.as_slice(), &types);
+    let (targets, channel) = beside(targets, channel)?;
+    match only(channel, lefts.is_sound).zip(Some(targets)) {
+        Some((channel, targets)) => Ok(Some(Comm::Receive {
+            channel,
+            into: ReceiveInto::Define { targets },
+        })),
+        None => Ok(None),
     }
 }
 

@@ -4,7 +4,7 @@
 //! reported in the scope.
 #![tactic(auto)]
 
-mod keeping;
+mod clauses;
 mod literals;
 mod statements;
 

@@ -34,6 +34,15 @@ pub fn bodies_of_simple(walker: &mut Walker<'_>, stmt: &Stmt) -> Result<(), NoMe
     }
 }
 
+/// The literals in what a clause of a select waits for.
+#[cycle(bodies)]
+pub fn bodies_of_comm(walker: &mut Walker<'_>, comm: &Option<Box<Stmt>>) -> Result<(), NoMemory> {
+    match comm {
+        Some(comm) => bodies_of_simple(walker, comm),
+        None => Ok(()),
+    }
+}
+
 /// The literals in specifications of constants.
 #[cycle(bodies)]
 pub fn bodies_of_specs(walker: &mut Walker<'_>, specs: &[ValueSpec]) -> Result<(), NoMemory> {

@@ -1,15 +1,17 @@
 //! Statements with statements in them. Go specification, "Statements".
 
-use crate::keeping::kept;
+use crate::clauses::{
+    clause_behind, comm_behind, finish_clause, finish_comm_clause, see_clause, see_type_clause,
+};
 use crate::literals::{
-    bodies_of_expr, bodies_of_list, bodies_of_option, bodies_of_simple, bodies_of_spec,
-    bodies_of_specs, bodies_of_type_specs,
+    bodies_of_comm, bodies_of_expr, bodies_of_list, bodies_of_option, bodies_of_simple,
+    bodies_of_spec, bodies_of_specs, bodies_of_type_specs,
 };
 use clause_rules::{
     Cases, Matched, Tag, begin_labels, bind_clause, end_labels, enter_decl, fall, finish_arm,
     finish_choice, finish_comm, finish_for, finish_range, finish_switch, finish_type_clause,
-    finish_type_switch, see_cases, see_comm_of, see_condition, see_default, see_loop_condition,
-    see_matched, see_range, see_tag, see_type_cases,
+    finish_type_switch, see_comm_of, see_condition, see_loop_condition, see_matched, see_range,
+    see_tag,
 };
 use go_ast::Token;
 use go_base::{NoMemory, Pos};
@@ -18,9 +20,9 @@ use go_syntax::{
     Block, CaseClause, CommClause, Decl, Expr, ForStmt, IfArm, Label, ListedExpr, RangeStmt, Stmt,
     StmtLine, SwitchStmt, TypeSwitchStmt, ValueSpec,
 };
-use go_tree::{SelectClause, TypeClause, TypedBlock, TypedClause, TypedExpr, TypedStmt};
-use stmt_rules::{First, Gathered, Spot, Steps, WalkedArm, WalkedBlock, Walker, is_panic};
-use typed_parts::{beside, only};
+use go_tree::{SelectClause, TypeClause, TypedArm, TypedClause, TypedStmt};
+use stmt_rules::{First, Gathered, Spot, Steps, WalkedArm, WalkedBlock, Walker, is_panic, kept};
+use typed_parts::{beside, sound};
 
 /// The statements of a list; `falls` says whether its last may be `fallthrough`.
 #[cycle(bodies)]
@@ -29,18 +31,44 @@ pub fn walk_statements(
     lines: &[StmtLine],
     falls: bool,
 ) -> Result<Steps, NoMemory> {
-    let last = last_filled(lines);
     let mut steps = Steps::new(walker.alloc);
+    let done = walk_lines(walker, lines, falls, &mut steps);
+    kept(steps, done)
+}
+
+/// The statements of a list, each behind those before it.
+#[cycle(bodies)]
+fn walk_lines(
+    walker: &mut Walker<'_>,
+    lines: &[StmtLine],
+    falls: bool,
+    steps: &mut Steps,
+) -> Result<(), NoMemory> {
+    let last = last_filled(lines);
     for (index, line) in lines.iter().enumerate() {
         if let Some(stmt) = &line.stmt {
             let spot = Spot {
                 label: None,
                 falls: falls && Some(index) == last,
             };
-            walk_statement(walker, stmt, spot, &mut steps)?;
+            walk_statement(walker, stmt, spot, steps)?;
         }
     }
-    Ok(steps)
+    Ok(())
+}
+
+/// A statement that may be left out.
+#[cycle(bodies)]
+fn walk_optional(
+    walker: &mut Walker<'_>,
+    stmt: &Option<Box<Stmt>>,
+    spot: Spot,
+    steps: &mut Steps,
+) -> Result<(), NoMemory> {
+    match stmt {
+        Some(stmt) => walk_statement(walker, stmt, spot, steps),
+        None => Ok(()),
+    }
 }
 
 /// A statement. What it declares is in scope behind it.
@@ -169,13 +197,12 @@ fn walk_labeled(
 ) -> Result<(), NoMemory> {
     let began = begin_labels(walker, labels)?;
     let mut inner = Steps::new(walker.alloc);
-    if let Some(stmt) = stmt {
-        let spot = Spot {
-            label: began.last,
-            falls,
-        };
-        walk_statement(walker, stmt, spot, &mut inner)?;
-    }
+    let spot = Spot {
+        label: began.last,
+        falls,
+    };
+    let done = walk_optional(walker, stmt, spot, &mut inner);
+    let (began, inner) = kept((began, inner), done)?;
     end_labels(walker, began.count);
     steps.push_labeled(began.at, began.names, inner)
 }
@@ -194,20 +221,32 @@ fn walk_inner_block(
 /// A block, with a scope of its own.
 #[cycle(bodies)]
 fn walk_block(walker: &mut Walker<'_>, block: &Block) -> Result<WalkedBlock, NoMemory> {
+    let at = walker.at(block.open);
+    let end = walker.at(block.close);
+    walk_scope(walker, &block.statements, at, end, false)
+}
+
+/// The statements of a scope of their own, between two places.
+#[cycle(bodies)]
+fn walk_scope(
+    walker: &mut Walker<'_>,
+    lines: &[StmtLine],
+    at: Pos,
+    end: Pos,
+    falls: bool,
+) -> Result<WalkedBlock, NoMemory> {
     walker.scope.open_block()?;
-    let steps = walk_statements(walker, &block.statements, false)?;
+    let steps = walk_statements(walker, lines, falls)?;
     walker.scope.close_block();
-    Ok(WalkedBlock::new(walker.at(block.open), walker.at(block.close), steps))
+    Ok(WalkedBlock::new(at, end, steps))
 }
 
 /// The simple statement before a condition, a tag or a loop.
 #[cycle(bodies)]
 fn walk_first(walker: &mut Walker<'_>, stmt: &Option<Box<Stmt>>) -> Result<First, NoMemory> {
     let mut steps = Steps::new(walker.alloc);
-    if let Some(stmt) = stmt {
-        walk_statement(walker, stmt, Spot::plain(), &mut steps)?;
-    }
-    steps.into_first()
+    let done = walk_optional(walker, stmt, Spot::plain(), &mut steps);
+    kept(steps, done)?.into_first()
 }
 
 /// An `if`: each arm stands in the scope of those before it.
@@ -222,19 +261,39 @@ fn walk_choice(walker: &mut Walker<'_>, stmt: &Stmt, steps: &mut Steps) -> Resul
         return Ok(());
     };
     let mut walked = Gathered::new(walker.alloc);
+    let done = walk_arms(walker, arms, &mut walked);
+    let walked = kept(walked, done)?;
+    let (last, walked) = beside(walk_otherwise(walker, otherwise), walked)?;
+    for _ in arms {
+        walker.scope.close_block();
+    }
+    finish_choice(walker, arms, walked, last, steps)
+}
+
+#[cycle(bodies)]
+fn walk_arms(
+    walker: &mut Walker<'_>,
+    arms: &[IfArm],
+    walked: &mut Gathered<TypedArm>,
+) -> Result<(), NoMemory> {
     for arm in arms {
         walker.scope.open_block()?;
         let arm = walk_arm(walker, arm)?;
         walked.push(arm.arm, arm.ends)?;
     }
-    let last = match otherwise {
-        Some(block) => Some(walk_block(walker, block)?),
-        None => None,
-    };
-    for _ in arms {
-        walker.scope.close_block();
+    Ok(())
+}
+
+/// The block of the last `else`.
+#[cycle(bodies)]
+fn walk_otherwise(
+    walker: &mut Walker<'_>,
+    block: &Option<Box<Block>>,
+) -> Result<Option<WalkedBlock>, NoMemory> {
+    match block {
+        Some(block) => sound(walk_block(walker, block)),
+        None => Ok(None),
     }
-    finish_choice(walker, arms, walked, last, steps)
 }
 
 #[cycle(bodies)]
@@ -260,10 +319,11 @@ fn walk_switch(
     let entered = walker.frame.branches.enter(spot.label, false);
     let (tag, init) = kept(head, entered)?;
     let mut cases = Cases::new(walker.alloc);
-    let clauses = walk_clauses(walker, &switch.clauses, switch.close, tag.tag, &mut cases);
+    let mut clauses = Gathered::new(walker.alloc);
+    let done = walk_clauses(walker, switch, tag.tag, &mut cases, &mut clauses);
     let has_default = cases.has_default;
     drop(cases);
-    let (clauses, (tag, init)) = beside(clauses, (tag, init))?;
+    let (clauses, (tag, init)) = kept((clauses, (tag, init)), done)?;
     let is_left = walker.frame.branches.leave();
     walker.scope.close_block();
     let ends = !is_left && has_default && clauses.all_end;
@@ -275,51 +335,22 @@ fn walk_switch(
 #[cycle(bodies)]
 fn walk_clauses(
     walker: &mut Walker<'_>,
-    clauses: &[CaseClause],
-    close: Token,
+    switch: &SwitchStmt,
     tag: Tag,
     cases: &mut Cases,
-) -> Result<Gathered<TypedClause>, NoMemory> {
-    let mut walked = Gathered::new(walker.alloc);
-    for (index, clause) in clauses.iter().enumerate() {
-        let next = clause_behind(clauses, index);
-        let end = walker.at(next.unwrap_or(close));
-        let (typed, ends) = walk_clause(walker, clause, end, next.is_some(), tag, cases)?;
-        walked.push(typed, ends)?;
+    walked: &mut Gathered<TypedClause>,
+) -> Result<(), NoMemory> {
+    for (index, clause) in switch.clauses.iter().enumerate() {
+        let next = clause_behind(&switch.clauses, index);
+        let end = walker.at(next.unwrap_or(switch.close));
+        let typed = see_clause(walker, clause, tag, cases)?;
+        let typed = kept(typed, bodies_of_list(walker, &clause.items))?;
+        let at = walker.at(clause.word);
+        let body = walk_scope(walker, &clause.statements, at, end, next.is_some());
+        let (body, typed) = beside(body, typed)?;
+        finish_clause(at, clause.items.is_empty(), typed, body, walked)?;
     }
-    Ok(walked)
-}
-
-/// A clause up to a place; `falls` says whether there is one behind it.
-#[cycle(bodies)]
-fn walk_clause(
-    walker: &mut Walker<'_>,
-    clause: &CaseClause,
-    end: Pos,
-    falls: bool,
-    tag: Tag,
-    cases: &mut Cases,
-) -> Result<(Option<TypedClause>, bool), NoMemory> {
-    let at = walker.at(clause.word);
-    let is_default = clause.items.is_empty();
-    let is_sound = !is_default || see_default(walker, clause.word, cases);
-    let typed = see_cases(walker, &clause.items, tag, cases)?;
-    bodies_of_list(walker, &clause.items)?;
-    walker.scope.open_block()?;
-    let steps = walk_statements(walker, &clause.statements, falls)?;
-    walker.scope.close_block();
-    let body = WalkedBlock::new(at, end, steps);
-    let ends = body.ends;
-    let clause = match only(typed.zip(body.block), is_sound) {
-        Some((cases, body)) => Some(TypedClause {
-            at,
-            is_default,
-            cases,
-            body,
-        }),
-        None => None,
-    };
-    Ok((clause, ends))
+    Ok(())
 }
 
 #[cycle(bodies)]
@@ -337,10 +368,11 @@ fn walk_type_switch(
     let entered = walker.frame.branches.enter(spot.label, false);
     let head = kept(head, entered)?;
     let mut cases = Cases::new(walker.alloc);
-    let clauses = walk_type_clauses(walker, &switch.clauses, switch.close, matched, &mut cases);
+    let mut clauses = Gathered::new(walker.alloc);
+    let done = walk_type_clauses(walker, switch, matched, &mut cases, &mut clauses);
     let has_default = cases.has_default;
     drop(cases);
-    let (clauses, (operand, init)) = beside(clauses, head)?;
+    let (clauses, (operand, init)) = kept((clauses, head), done)?;
     let is_left = walker.frame.branches.leave();
     walker.scope.close_block();
     let ends = !is_left && has_default && clauses.all_end;
@@ -352,18 +384,17 @@ fn walk_type_switch(
 #[cycle(bodies)]
 fn walk_type_clauses(
     walker: &mut Walker<'_>,
-    clauses: &[CaseClause],
-    close: Token,
+    switch: &TypeSwitchStmt,
     matched: Matched,
     cases: &mut Cases,
-) -> Result<Gathered<TypeClause>, NoMemory> {
-    let mut walked = Gathered::new(walker.alloc);
-    for (index, clause) in clauses.iter().enumerate() {
-        let end = walker.at(clause_behind(clauses, index).unwrap_or(close));
-        let (typed, ends) = walk_type_clause(walker, clause, end, matched, cases)?;
-        walked.push(typed, ends)?;
+    walked: &mut Gathered<TypeClause>,
+) -> Result<(), NoMemory> {
+    for (index, clause) in switch.clauses.iter().enumerate() {
+        let next = clause_behind(&switch.clauses, index);
+        let end = walker.at(next.unwrap_or(switch.close));
+        walk_type_clause(walker, clause, end, matched, cases, walked)?;
     }
-    Ok(walked)
+    Ok(())
 }
 
 #[cycle(bodies)]
@@ -373,22 +404,22 @@ fn walk_type_clause(
     end: Pos,
     matched: Matched,
     cases: &mut Cases,
-) -> Result<(Option<TypeClause>, bool), NoMemory> {
+    walked: &mut Gathered<TypeClause>,
+) -> Result<(), NoMemory> {
     let at = walker.at(clause.word);
-    let is_default = clause.items.is_empty();
-    let mut seen = see_type_cases(walker, &clause.items, matched, cases)?;
-    if is_default && !see_default(walker, clause.word, cases) {
-        seen.is_sound = false;
-    }
-    bodies_of_list(walker, &clause.items)?;
-    walker.scope.open_block()?;
-    let variable = bind_clause(walker, at, matched, seen.cases.as_slice())?;
-    let steps = walk_statements(walker, &clause.statements, false)?;
+    let seen = see_type_clause(walker, clause, matched, cases)?;
+    let seen = kept(seen, bodies_of_list(walker, &clause.items))?;
+    let seen = kept(seen, walker.scope.open_block())?;
+    let variable = bind_clause(walker, at, matched, seen.cases.as_slice());
+    let (variable, seen) = beside(variable, seen)?;
+    let steps = walk_statements(walker, &clause.statements, false);
+    let (steps, seen) = beside(steps, seen)?;
     walker.scope.close_block();
     let body = WalkedBlock::new(at, end, steps);
     let ends = body.ends;
+    let is_default = clause.items.is_empty();
     let typed = finish_type_clause(walker, at, is_default, seen, variable, body)?;
-    Ok((typed, ends))
+    walked.push(typed, ends)
 }
 
 #[cycle(bodies)]
@@ -403,7 +434,11 @@ fn walk_select(
     let at = walker.at(word);
     let end = walker.at(close);
     walker.frame.branches.enter(spot.label, false)?;
-    let walked = walk_comm_clauses(walker, clauses, close)?;
+    let mut cases = Cases::new(walker.alloc);
+    let mut walked = Gathered::new(walker.alloc);
+    let done = walk_comm_clauses(walker, clauses, close, &mut cases, &mut walked);
+    drop(cases);
+    let walked = kept(walked, done)?;
     let is_left = walker.frame.branches.leave();
     let ends = !is_left && walked.all_end;
     let typed = match walked.items {
@@ -419,15 +454,14 @@ fn walk_comm_clauses(
     walker: &mut Walker<'_>,
     clauses: &[CommClause],
     close: Token,
-) -> Result<Gathered<SelectClause>, NoMemory> {
-    let mut walked = Gathered::new(walker.alloc);
-    let mut cases = Cases::new(walker.alloc);
+    cases: &mut Cases,
+    walked: &mut Gathered<SelectClause>,
+) -> Result<(), NoMemory> {
     for (index, clause) in clauses.iter().enumerate() {
         let end = walker.at(comm_behind(clauses, index).unwrap_or(close));
-        let (typed, ends) = walk_comm_clause(walker, clause, end, &mut cases)?;
-        walked.push(typed, ends)?;
+        walk_comm_clause(walker, clause, end, cases, walked)?;
     }
-    Ok(walked)
+    Ok(())
 }
 
 #[cycle(bodies)]
@@ -436,26 +470,18 @@ fn walk_comm_clause(
     clause: &CommClause,
     end: Pos,
     cases: &mut Cases,
-) -> Result<(Option<SelectClause>, bool), NoMemory> {
+    walked: &mut Gathered<SelectClause>,
+) -> Result<(), NoMemory> {
     let at = walker.at(clause.word);
     walker.scope.open_block()?;
     let seen = see_comm_of(walker, &clause.comm, clause.word, cases)?;
-    let walked = match &clause.comm {
-        Some(comm) => bodies_of_simple(walker, comm),
-        None => Ok(()),
-    };
-    let seen = kept(seen, walked)?;
+    let seen = kept(seen, bodies_of_comm(walker, &clause.comm))?;
     let comm = finish_comm(walker, seen)?;
     let steps = walk_statements(walker, &clause.statements, false);
     let (steps, comm) = beside(steps, comm)?;
     walker.scope.close_block();
     let body = WalkedBlock::new(at, end, steps);
-    let ends = body.ends;
-    let typed = match comm.zip(body.block) {
-        Some((comm, body)) => Some(SelectClause { at, comm, body }),
-        None => None,
-    };
-    Ok((typed, ends))
+    finish_comm_clause(at, comm, body, walked)
 }
 
 /// A `for` with a condition, or without one.
@@ -557,16 +583,4 @@ fn last_filled(lines: &[StmtLine]) -> Option<usize> {
         }
     }
     last
-}
-
-/// The word of the clause behind that of an index.
-fn clause_behind(clauses: &[CaseClause], index: usize) -> Option<Token> {
-    let next = clauses.get(index.checked_add(1)?)?;
-    Some(next.word)
-}
-
-/// The word of the clause behind that of an index.
-fn comm_behind(clauses: &[CommClause], index: usize) -> Option<Token> {
-    let next = clauses.get(index.checked_add(1)?)?;
-    Some(next.word)
 }

@@ -1,15 +1,17 @@
 //! What is asked of sound programs alone: names that are not used, initialisations that stand on themselves, and `main`. Go
 //! specification, "Variable declarations", "Import declarations", "Package initialization", "Program execution".
 
-use crate::initials::{Initials, files_in_order};
-use go_base::{FuncId, NoMemory, Pos, Rule};
-use go_faults::Fault;
-use go_names::{Mention, Mentioned};
+use crate::initials::{Initial, Initials, files_in_order};
+use go_base::{FuncId, Names, NoMemory, Pos, Rule};
+use go_faults::{Fault, Least};
+use go_names::{FileScopes, Mention, Mentioned};
+use go_sources::{SourceFile, Sources};
 use go_syntax::ImportSpec;
-use go_tree::{FunctionDecl, FunctionForm};
+use go_tree::{FunctionDecl, FunctionDecls, FunctionForm, Packages, Variable};
 use indexmap::IndexSet;
 use init_order::{Node, Reliance};
-use stmt_rules::{Holder, Reading, Walker, mentions_from};
+use std::alloc::Global;
+use stmt_rules::{Holder, Need, Reading, Walker, kept, mentions_from};
 
 /// An import, by its index in its file.
 #[derive(Clone, Copy, PartialEq, Eq, Hash)]
@@ -20,12 +22,31 @@ struct ImportKey {
 
 /// Reports the names that are not used.
 pub fn report_unused(walker: &mut Walker<'_>) -> Result<(), NoMemory> {
-    let mut used = Vec::new(walker.alloc);
-    for _ in walker.scope.variables() {
+    let mut imports = IndexSet::new(walker.alloc);
+    let count = walker.scope.variables().len();
+    let used = used_names(
+        walker.alloc,
+        count,
+        walker.scope.mentions().as_slice(),
+        &mut imports,
+    );
+    let done = report_not_used(walker, used, &imports);
+    drop(imports);
+    done
+}
+
+/// By number which variables are used; the imports that are come to stand among these.
+fn used_names(
+    alloc: Global,
+    count: usize,
+    mentions: &[Mention],
+    imports: &mut IndexSet<ImportKey>,
+) -> Result<Vec<bool>, NoMemory> {
+    let mut used = Vec::new(alloc);
+    for _ in 0..count {
         used.push(false)?;
     }
-    let mut imports = IndexSet::new(walker.alloc);
-    for mention in walker.scope.mentions().as_slice() {
+    for mention in mentions {
         match mention.what {
             Mentioned::Variable(variable) => {
                 mark(&mut used, variable.number as usize, !mention.assigned)
@@ -36,15 +57,24 @@ pub fn report_unused(walker: &mut Walker<'_>) -> Result<(), NoMemory> {
             Mentioned::Function(_) => {}
         }
     }
-    walker.needs.mark(&used);
-    report_variables(walker);
-    report_imports(walker, &imports)
+    Ok(used)
 }
 
-fn report_variables(walker: &mut Walker<'_>) {
-    for need in &walker.needs.names {
+/// Reports the names that are not among those that are used.
+fn report_not_used(
+    walker: &mut Walker<'_>,
+    used: Result<Vec<bool>, NoMemory>,
+    imports: &IndexSet<ImportKey>,
+) -> Result<(), NoMemory> {
+    walker.needs.mark(&used?);
+    report_variables(walker.needs.names.as_slice(), &mut walker.later);
+    report_imports(walker, imports)
+}
+
+fn report_variables(needs: &[Need], later: &mut Least) {
+    for need in needs {
         if !need.is_used {
-            walker.later.report(Fault {
+            later.report(Fault {
                 phase: 4,
                 package: need.package,
                 pos: need.at,
@@ -55,38 +85,39 @@ fn report_variables(walker: &mut Walker<'_>) {
 }
 
 fn report_imports<'s>(walker: &mut Walker<'s>, used: &IndexSet<ImportKey>) -> Result<(), NoMemory> {
-    for file in files_in_order(walker)? {
+    for file in files_in_order(walker.alloc, walker.scope.packages(), walker.sources)? {
         walker.enter_file(file);
-        let sources: &'s go_sources::Sources = walker.sources;
+        let sources: &'s Sources = walker.sources;
         if let Some(source) = sources.file(file) {
-            let mut index: u32 = 0;
-            for import in &source.tree.imports {
-                for spec in &import.specs {
-                    report_import(walker, used, ImportKey { file, index }, spec);
-                    index = index.saturating_add(1);
-                }
-            }
+            report_imports_of(walker, used, file, source);
         }
     }
     Ok(())
 }
 
-/// An import is to be used, but for one named `_`.
-fn report_import(
+/// Reports the imports of the file that is entered that are not used.
+fn report_imports_of(
     walker: &mut Walker<'_>,
     used: &IndexSet<ImportKey>,
-    key: ImportKey,
-    spec: &ImportSpec,
+    file: u32,
+    source: &SourceFile,
 ) {
-    if used.contains(&key) {
-        return;
+    let mut index: u32 = 0;
+    for import in &source.tree.imports {
+        for spec in &import.specs {
+            if !used.contains(&ImportKey { file, index }) && !is_blank(source, spec) {
+                walker.report_later(walker.at(spec.path), Rule::ImportNotUsed);
+            }
+            index = index.saturating_add(1);
+        }
     }
-    let is_blank = match (spec.name, walker.sources.file(key.file)) {
-        (Some(name), Some(source)) => source.text(name) == b"_".as_slice(),
-        _ => false,
-    };
-    if !is_blank {
-        walker.report_later(walker.at(spec.path), Rule::ImportNotUsed);
+}
+
+/// Whether an import is named `_`: it need not be used.
+fn is_blank(source: &SourceFile, spec: &ImportSpec) -> bool {
+    match spec.name {
+        Some(name) => source.text(name) == b"_".as_slice(),
+        None => false,
     }
 }
 
@@ -98,19 +129,35 @@ pub fn reliance<'s>(walker: &Walker<'s>, initials: &Initials<'s>) -> Result<Reli
         initials.list.len(),
         walker.scope.functions().len(),
     )?;
-    for (index, initial) in initials.list.iter().enumerate() {
+    let mentions = walker.scope.mentions().as_slice();
+    let done = add_all(
+        initials.list.as_slice(),
+        &walker.readings,
+        mentions,
+        &mut reliance,
+    );
+    kept(reliance, done)
+}
+
+fn add_all(
+    initials: &[Initial<'_>],
+    readings: &[Reading],
+    mentions: &[Mention],
+    reliance: &mut Reliance,
+) -> Result<(), NoMemory> {
+    for (index, initial) in initials.iter().enumerate() {
         for variable in &initial.variables {
             reliance.add(Node::Variable(variable.number as usize), Node::Step(index))?;
         }
     }
-    for reading in &walker.readings {
-        add_reading(walker, &mut reliance, *reading)?;
+    for reading in readings {
+        add_reading(mentions, reliance, *reading)?;
     }
-    Ok(reliance)
+    Ok(())
 }
 
 fn add_reading(
-    walker: &Walker<'_>,
+    mentions: &[Mention],
     reliance: &mut Reliance,
     reading: Reading,
 ) -> Result<(), NoMemory> {
@@ -119,8 +166,7 @@ fn add_reading(
         Holder::Function(function) => Node::Function(function.number as usize),
     };
     let count = reading.to.saturating_sub(reading.from);
-    let mentions = mentions_from(walker.scope.mentions().as_slice(), reading.from);
-    for mention in mentions.iter().take(count) {
+    for mention in mentions_from(mentions, reading.from).iter().take(count) {
         if let Some(to) = node_of(mention) {
             reliance.add(from, to)?;
         }
@@ -131,37 +177,59 @@ fn add_reading(
 /// Reports the variables whose initialisation stands on them.
 pub fn report_cycles(walker: &mut Walker<'_>, reliance: &Reliance) -> Result<(), NoMemory> {
     let cycles = reliance.variables_on_cycles()?;
-    for (variable, is_on_cycle) in walker.scope.variables().iter().zip(cycles.iter()) {
+    let scope = &walker.scope;
+    report_on_cycles(scope.variables(), scope.files(), &cycles, &mut walker.later);
+    Ok(())
+}
+
+fn report_on_cycles(
+    variables: &[Variable],
+    files: &FileScopes,
+    cycles: &[bool],
+    later: &mut Least,
+) {
+    for (variable, is_on_cycle) in variables.iter().zip(cycles.iter()) {
         if *is_on_cycle {
-            let package = match walker.scope.files().file(variable.at.file) {
-                Some(file) => file.package,
-                None => 0,
-            };
-            walker.later.report(Fault {
-                phase: 5,
-                package,
-                pos: variable.at,
-                rule: Rule::InitialisationCycle,
-            });
+            later.report(cycle_at(files, variable.at));
         }
     }
-    Ok(())
+}
+
+/// That the initialisation of the variable at a place stands on it.
+fn cycle_at(files: &FileScopes, pos: Pos) -> Fault {
+    let package = match files.file(pos.file) {
+        Some(file) => file.package,
+        None => 0,
+    };
+    Fault {
+        phase: 5,
+        package,
+        pos,
+        rule: Rule::InitialisationCycle,
+    }
 }
 
 /// The function `main` of the package of that name, which is to have one.
 pub fn find_main(walker: &mut Walker<'_>) -> Option<FuncId> {
-    let package = main_package(walker)?;
-    let found = main_of(walker, package);
+    let scope = &walker.scope;
+    let package = main_package(scope.packages())?;
+    let found = main_of(scope.functions(), scope.names(), package);
     if found.is_none() {
-        let fault = without_main(walker, package);
-        walker.later.report(fault);
+        let first = scope.packages().as_slice().get(package);
+        let file = match first {
+            Some(package) => package.first_file,
+            None => 0,
+        };
+        walker
+            .later
+            .report(without_main(walker.sources, package, file));
     }
     found
 }
 
 /// The package that is named main.
-fn main_package(walker: &Walker<'_>) -> Option<usize> {
-    for (index, package) in walker.scope.packages().as_slice().iter().enumerate() {
+fn main_package(packages: &Packages) -> Option<usize> {
+    for (index, package) in packages.as_slice().iter().enumerate() {
         if package.label.as_str() == "main" {
             return Some(index);
         }
@@ -170,9 +238,9 @@ fn main_package(walker: &Walker<'_>) -> Option<usize> {
 }
 
 /// The function `main` of a package.
-fn main_of(walker: &Walker<'_>, package: usize) -> Option<FuncId> {
-    for (index, function) in walker.scope.functions().as_slice().iter().enumerate() {
-        if is_main(walker, function, package) {
+fn main_of(functions: &FunctionDecls, names: &Names, package: usize) -> Option<FuncId> {
+    for (index, function) in functions.as_slice().iter().enumerate() {
+        if is_main(names, function, package) {
             return Some(FuncId {
                 number: index as u64,
             });
@@ -181,19 +249,15 @@ fn main_of(walker: &Walker<'_>, package: usize) -> Option<FuncId> {
     None
 }
 
-fn is_main(walker: &Walker<'_>, function: &FunctionDecl, package: usize) -> bool {
+fn is_main(names: &Names, function: &FunctionDecl, package: usize) -> bool {
     function.form == FunctionForm::Function
         && function.package as usize == package
-        && walker.scope.names().text(function.name) == Some("main")
+        && names.text(function.name) == Some("main")
 }
 
-/// That a package named main has no function `main`.
-fn without_main(walker: &Walker<'_>, package: usize) -> Fault {
-    let file = match walker.scope.packages().as_slice().get(package) {
-        Some(package) => package.first_file,
-        None => 0,
-    };
-    let offset = match walker.sources.file(file) {
+/// That a package named main, with its first file, has no function `main`.
+fn without_main(sources: &Sources, package: usize, file: u32) -> Fault {
+    let offset = match sources.file(file) {
         Some(source) => source.tree.name.start,
         None => 0,
     };

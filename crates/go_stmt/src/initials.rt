@@ -5,13 +5,15 @@ use go_base::{NoMemory, Pos, Rule, TypeId, VarId};
 use go_bodies::{bodies_of_expr, bodies_of_list};
 use go_faults::Least;
 use go_graph::{Components, components_of, is_graph, on_themselves};
-use go_names::Mentioned;
+use go_names::{FileScopes, Mention, Mentioned};
+use go_scope::Scope;
+use go_sources::Sources;
 use go_syntax::{Decl, DeclLine, ListedExpr, ListedName, ValueSpec};
-use go_tree::Values;
+use go_tree::{Packages, Values, Variable};
 use std::alloc::Global;
 use std::collections::BTreeMap;
-use stmt_rules::{Holder, Walker, mentions_from};
-use typed_parts::Seen;
+use stmt_rules::{Holder, Walker, kept, mentions_from, push_come};
+use typed_parts::{Seen, beside};
 use typed_primaries::{Into, Listed, values_into};
 
 /// The values of an initialisation.
@@ -49,38 +51,60 @@ pub struct Initials<'s> {
 
 /// The initialisations of all packages.
 pub fn find_initials<'s>(walker: &Walker<'s>) -> Result<Initials<'s>, NoMemory> {
-    let mut places = BTreeMap::new(walker.alloc);
-    for (index, variable) in walker.scope.variables().iter().enumerate() {
+    let places = places_of(walker.alloc, walker.scope.variables())?;
+    let files = files_in_order(walker.alloc, walker.scope.packages(), walker.sources);
+    let (files, places) = beside(files, places)?;
+    let mut list = Vec::new(walker.alloc);
+    let found = Found {
+        alloc: walker.alloc,
+        sources: walker.sources,
+        places: &places,
+    };
+    let done = push_files(found, walker.scope.files(), &files, &mut list);
+    drop((places, files));
+    let list = kept(list, done)?;
+    let given = givers(walker.alloc, &list, walker.package_variables);
+    let (of_variable, list) = beside(given, list)?;
+    Ok(Initials { list, of_variable })
+}
+
+/// By what initialisations are found: the sources, and which variables stand at which places.
+#[derive(Clone, Copy)]
+struct Found<'a, 's> {
+    alloc: Global,
+    sources: &'s Sources,
+    places: &'a BTreeMap<Pos, usize>,
+}
+
+/// Which variables stand at which places.
+fn places_of(alloc: Global, variables: &[Variable]) -> Result<BTreeMap<Pos, usize>, NoMemory> {
+    let mut places = BTreeMap::new(alloc);
+    for (index, variable) in variables.iter().enumerate() {
         places.insert(variable.at, index)?;
     }
-    let mut list = Vec::new(walker.alloc);
-    for file in files_in_order(walker)? {
-        push_file(walker, &mut list, &places, file)?;
-    }
-    let mut initials = Initials {
-        list,
-        of_variable: Vec::new(walker.alloc),
-    };
-    initials.find_variables(walker.package_variables)?;
-    Ok(initials)
+    Ok(places)
 }
 
 /// The files, in the order of packages and names.
-pub fn files_in_order(walker: &Walker<'_>) -> Result<Vec<u32>, NoMemory> {
-    let mut files = Vec::new(walker.alloc);
-    for package in walker.scope.packages().as_slice() {
-        push_files(walker, &mut files, package.first_file)?;
+pub fn files_in_order(
+    alloc: Global,
+    packages: &Packages,
+    sources: &Sources,
+) -> Result<Vec<u32>, NoMemory> {
+    let mut files = Vec::new(alloc);
+    for package in packages.as_slice() {
+        push_files_of(sources, &mut files, package.first_file)?;
     }
     Ok(files)
 }
 
 /// The files of a package, of which one is the first.
-fn push_files(walker: &Walker<'_>, files: &mut Vec<u32>, first: u32) -> Result<(), NoMemory> {
-    let Some(source) = walker.sources.file(first) else {
+fn push_files_of(sources: &Sources, files: &mut Vec<u32>, first: u32) -> Result<(), NoMemory> {
+    let Some(source) = sources.file(first) else {
         return Ok(());
     };
     for file in first..u32::MAX {
-        match walker.sources.file(file) {
+        match sources.file(file) {
             Some(other) if other.package == source.package => files.push(file)?,
             _ => return Ok(()),
         }
@@ -88,24 +112,37 @@ fn push_files(walker: &Walker<'_>, files: &mut Vec<u32>, first: u32) -> Result<(
     Ok(())
 }
 
+/// The initialisations of files.
+fn push_files<'s>(
+    found: Found<'_, 's>,
+    scopes: &FileScopes,
+    files: &[u32],
+    list: &mut Vec<Initial<'s>>,
+) -> Result<(), NoMemory> {
+    for file in files {
+        let package = match scopes.file(*file) {
+            Some(scope) => scope.package,
+            None => 0,
+        };
+        push_file(found, package, *file, list)?;
+    }
+    Ok(())
+}
+
 /// The initialisations of a file.
 fn push_file<'s>(
-    walker: &Walker<'s>,
-    list: &mut Vec<Initial<'s>>,
-    places: &BTreeMap<Pos, usize>,
+    found: Found<'_, 's>,
+    package: u32,
     file: u32,
+    list: &mut Vec<Initial<'s>>,
 ) -> Result<(), NoMemory> {
-    let sources: &'s go_sources::Sources = walker.sources;
+    let sources: &'s Sources = found.sources;
     let Some(source) = sources.file(file) else {
         return Ok(());
     };
-    let package = match walker.scope.files().file(file) {
-        Some(scope) => scope.package,
-        None => 0,
-    };
     for line in &source.tree.decls {
         for spec in variable_specs(line) {
-            push_spec(walker, list, places, package, file, spec)?;
+            push_spec(found, package, file, spec, list)?;
         }
     }
     Ok(())
@@ -113,71 +150,98 @@ fn push_file<'s>(
 
 /// The initialisations of a specification: one for each name and value, or one for all.
 fn push_spec<'s>(
-    walker: &Walker<'s>,
-    list: &mut Vec<Initial<'s>>,
-    places: &BTreeMap<Pos, usize>,
+    found: Found<'_, 's>,
     package: u32,
     file: u32,
     spec: &'s ValueSpec,
+    list: &mut Vec<Initial<'s>>,
 ) -> Result<(), NoMemory> {
     if spec.values.is_empty() {
         return Ok(());
     }
+    let has_form = spec.form.is_some();
     if spec.values.len() != spec.names.len() {
         let given = Given::All(spec.values.as_slice());
-        let mut initial = new_initial(walker, places, package, file, &spec.names, given)?;
-        initial.has_form = spec.form.is_some();
-        list.push(initial)?;
-        return Ok(());
+        let variables = found.variables(file, &spec.names);
+        return push_come(
+            list,
+            new_initial(found.alloc, package, variables, has_form, given),
+        );
     }
     for (index, value) in spec.values.iter().enumerate() {
         if let Some(name) = spec.names.get(index) {
-            let names = [*name];
+            let variables = found.variables(file, &[*name]);
             let given = Given::One(value);
-            let mut initial = new_initial(walker, places, package, file, &names, given)?;
-            initial.has_form = spec.form.is_some();
-            list.push(initial)?;
+            push_come(
+                list,
+                new_initial(found.alloc, package, variables, has_form, given),
+            )?;
         }
     }
     Ok(())
 }
 
+impl<'a, 's> Found<'a, 's> {
+    /// The variables of names in a file, and the place of the first.
+    fn variables(self, file: u32, names: &[ListedName]) -> Result<(Pos, Vec<VarId>), NoMemory> {
+        let mut variables = Vec::new(self.alloc);
+        for name in names {
+            let at = Pos {
+                file,
+                offset: name.name.start,
+            };
+            let Some(number) = self.places.get(&at) else {
+                return Err(lost());
+            };
+            variables.push(VarId {
+                number: *number as u64,
+            })?;
+        }
+        let offset = match names.first() {
+            Some(name) => name.name.start,
+            None => 0,
+        };
+        Ok((Pos { file, offset }, variables))
+    }
+}
+
 fn new_initial<'s>(
-    walker: &Walker<'s>,
-    places: &BTreeMap<Pos, usize>,
+    alloc: Global,
     package: u32,
-    file: u32,
-    names: &[ListedName],
+    variables: Result<(Pos, Vec<VarId>), NoMemory>,
+    has_form: bool,
     given: Given<'s>,
 ) -> Result<Initial<'s>, NoMemory> {
-    let mut variables = Vec::new(walker.alloc);
-    for name in names {
-        let at = Pos {
-            file,
-            offset: name.name.start,
-        };
-        let Some(number) = places.get(&at) else {
-            return Err(lost());
-        };
-        variables.push(VarId {
-            number: *number as u64,
-        })?;
-    }
-    let offset = match names.first() {
-        Some(name) => name.name.start,
-        None => 0,
-    };
+    let (at, variables) = variables?;
     Ok(Initial {
         package,
-        file,
-        at: Pos { file, offset },
+        file: at.file,
+        at,
         variables,
-        has_form: false,
+        has_form,
         given,
         values: None,
-        types: Vec::new(walker.alloc),
+        types: Vec::new(alloc),
         is_seen: false,
     })
+}
+
+/// Which initialisation gives each variable without a written type its value.
+fn givers(
+    alloc: Global,
+    list: &[Initial<'_>],
+    count: usize,
+) -> Result<Vec<Option<usize>>, NoMemory> {
+    let mut of_variable = Vec::new(alloc);
+    for _ in 0..count {
+        of_variable.push(None)?;
+    }
+    for (index, initial) in list.iter().enumerate() {
+        if !initial.has_form {
+            set_all(&mut of_variable, &initial.variables, index);
+        }
+    }
+    Ok(of_variable)
 }
 
 /// Types all initialisers: first those of variables without a written type, in an order in which each comes after
@@ -215,8 +279,8 @@ fn see_initial<'s>(
 ) -> Result<(), NoMemory> {
     let from = walker.scope.mention_count();
     let listed = listed_values(walker, initial)?;
-    initial.values = listed.values;
-    initial.types = listed.types;
+    drop(std::mem::replace(&mut initial.values, listed.values));
+    drop(std::mem::replace(&mut initial.types, listed.types));
     initial.is_seen = true;
     walker.read_by(Holder::Step(index), from)
 }
@@ -225,6 +289,12 @@ fn see_initial<'s>(
 fn listed_values<'s>(walker: &mut Walker<'s>, initial: &Initial<'s>) -> Result<Listed, NoMemory> {
     walker.enter_file(initial.file);
     let values = see_given(walker, initial.given)?;
+    let (intos, values) = beside(intos_of(walker, initial), values)?;
+    values_into(walker.scope.ground(), initial.at, values, &intos, true)
+}
+
+/// Where the values of an initialiser go.
+fn intos_of<'s>(walker: &Walker<'s>, initial: &Initial<'s>) -> Result<Vec<Into>, NoMemory> {
     let mut intos = Vec::new(walker.alloc);
     for variable in &initial.variables {
         intos.push(match walker.scope.variable(*variable) {
@@ -232,15 +302,15 @@ fn listed_values<'s>(walker: &mut Walker<'s>, initial: &Initial<'s>) -> Result<L
             _ => Into::Any,
         })?;
     }
-    values_into(walker.scope.ground(), initial.at, values, &intos, true)
+    Ok(intos)
 }
 
 fn see_given<'s>(walker: &mut Walker<'s>, given: Given<'s>) -> Result<Vec<Seen>, NoMemory> {
     match given {
         Given::One(value) => {
             let mut list = Vec::new(walker.alloc);
-            list.push(walker.see(&value.expr)?)?;
-            Ok(list)
+            let done = push_come(&mut list, walker.see(&value.expr));
+            kept(list, done)
         }
         Given::All(values) => walker.see_list(values),
     }
@@ -254,6 +324,16 @@ fn graph_of_initials<'s>(
     initials: &Initials<'s>,
 ) -> Result<Vec<Vec<usize>>, NoMemory> {
     let mut graph = Vec::new(walker.alloc);
+    let done = push_rows(walker, initials, &mut graph);
+    kept(graph, done)
+}
+
+/// The rows of the variables, and behind them those of the initialisations.
+fn push_rows<'s>(
+    walker: &mut Walker<'s>,
+    initials: &Initials<'s>,
+    graph: &mut Vec<Vec<usize>>,
+) -> Result<(), NoMemory> {
     for variable in 0..walker.package_variables {
         let mut row = Vec::new(walker.alloc);
         if let Some(index) = initials.of(variable) {
@@ -267,21 +347,22 @@ fn graph_of_initials<'s>(
         } else {
             let from = walker.scope.mention_count();
             walker.enter_file(initial.file);
-            let _ = see_given(walker, initial.given)?;
-            graph.push(named_from(walker, initials, from)?)?;
+            drop(see_given(walker, initial.given)?);
+            let mentions = mentions_from(walker.scope.mentions().as_slice(), from);
+            graph.push(named_in(walker.alloc, mentions, initials)?)?;
         }
     }
-    Ok(graph)
+    Ok(())
 }
 
-/// The variables without a written type that were read from a mention on.
-fn named_from<'s>(
-    walker: &Walker<'s>,
-    initials: &Initials<'s>,
-    from: usize,
+/// The variables without a written type among what was read.
+fn named_in(
+    alloc: Global,
+    mentions: &[Mention],
+    initials: &Initials<'_>,
 ) -> Result<Vec<usize>, NoMemory> {
-    let mut named = Vec::new(walker.alloc);
-    for mention in mentions_from(walker.scope.mentions().as_slice(), from) {
+    let mut named = Vec::new(alloc);
+    for mention in mentions {
         if let Mentioned::Variable(variable) = mention.what {
             if initials.of(variable.number as usize).is_some() {
                 named.push(variable.number as usize)?;
@@ -298,18 +379,30 @@ fn in_groups<'s>(
     graph: &[Vec<usize>],
 ) -> Result<(), NoMemory> {
     let (components, cyclic) = groups_of(walker.alloc, graph)?;
+    let done = see_groups(walker, initials, graph, &components, &cyclic);
+    drop((components, cyclic));
+    done
+}
+
+fn see_groups<'s>(
+    walker: &mut Walker<'s>,
+    initials: &mut Initials<'s>,
+    graph: &[Vec<usize>],
+    components: &Components,
+    cyclic: &[bool],
+) -> Result<(), NoMemory> {
     let mut group = Vec::new(walker.alloc);
     let mut last = None;
     for node in &components.order {
         let number = components.of.get(*node).copied();
         if number != last {
-            see_group(walker, initials, graph, &components.of, &cyclic, &group)?;
+            see_group(walker, initials, graph, &components.of, cyclic, &group)?;
             group = Vec::new(walker.alloc);
             last = number;
         }
         group.push(*node)?;
     }
-    see_group(walker, initials, graph, &components.of, &cyclic, &group)
+    see_group(walker, initials, graph, &components.of, cyclic, &group)
 }
 
 /// Types variables whose initialisers name each other.
@@ -370,7 +463,7 @@ fn see_cycle<'s>(
 ) -> Result<(), NoMemory> {
     let before = walker.scope.set_least(Least::new());
     for node in group {
-        if let Some(initial) = initial_at(walker, initials, *node) {
+        if let Some(initial) = initials.at(walker.package_variables, *node) {
             drop(listed_values(walker, initial)?);
         }
     }
@@ -381,7 +474,7 @@ fn see_cycle<'s>(
         walker.scope.set_least(least);
         return Ok(());
     }
-    if stands_outside(walker, graph, of, group) {
+    if stands_outside(&walker.scope, walker.package_variables, graph, of, group) {
         return Ok(());
     }
     for node in group {
@@ -390,16 +483,6 @@ fn see_cycle<'s>(
         }
     }
     Ok(())
-}
-
-/// The initialisation that is a node of the graph.
-fn initial_at<'a, 's>(
-    walker: &Walker<'s>,
-    initials: &'a Initials<'s>,
-    node: usize,
-) -> Option<&'a Initial<'s>> {
-    let index = node.checked_sub(walker.package_variables)?;
-    initials.list.get(index)
 }
 
 /// A variable refers to itself.
@@ -415,14 +498,15 @@ fn report_cycle(walker: &mut Walker<'_>, variable: usize) {
 
 /// Whether an initialiser of a group names an unsound variable that is not in it.
 fn stands_outside(
-    walker: &Walker<'_>,
+    scope: &Scope,
+    count: usize,
     graph: &[Vec<usize>],
     of: &[usize],
     group: &[usize],
 ) -> bool {
     for node in group {
         if let Some(row) = graph.get(*node) {
-            if any_outside(walker, row, of, of.get(*node).copied()) {
+            if any_outside(scope, count, row, of, of.get(*node).copied()) {
                 return true;
             }
         }
@@ -430,14 +514,19 @@ fn stands_outside(
     false
 }
 
-/// Whether one of the variables is unsound, and in another group.
-fn any_outside(walker: &Walker<'_>, row: &[usize], of: &[usize], group: Option<usize>) -> bool {
+/// Whether one of the variables, of so many, is unsound and in another group.
+fn any_outside(
+    scope: &Scope,
+    count: usize,
+    row: &[usize],
+    of: &[usize],
+    group: Option<usize>,
+) -> bool {
     for node in row {
         let id = VarId {
             number: *node as u64,
         };
-        let is_variable = *node < walker.package_variables;
-        if is_variable && of.get(*node).copied() != group && !walker.scope.is_sound(id) {
+        if *node < count && of.get(*node).copied() != group && !scope.is_sound(id) {
             return true;
         }
     }
@@ -457,17 +546,10 @@ impl<'s> Initial<'s> {
 }
 
 impl<'s> Initials<'s> {
-    /// Finds which initialisation gives each variable without a written type its value.
-    fn find_variables(&mut self, count: usize) -> Result<(), NoMemory> {
-        for _ in 0..count {
-            self.of_variable.push(None)?;
-        }
-        for (index, initial) in self.list.iter().enumerate() {
-            if !initial.has_form {
-                set_all(&mut self.of_variable, &initial.variables, index);
-            }
-        }
-        Ok(())
+    /// The initialisation that is a node of the graph, behind so many variables.
+    fn at(&self, count: usize, node: usize) -> Option<&Initial<'s>> {
+        let index = node.checked_sub(count)?;
+        self.list.get(index)
     }
 
     /// Which initialisation gives a variable without a written type its value.

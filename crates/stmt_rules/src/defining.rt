@@ -1,5 +1,6 @@
 //! Statements that declare variables. Go specification, "Variable declarations", "Short variable declarations".
 
+use crate::joining::kept;
 use crate::walker::{Walker, are_values};
 use go_ast::Token;
 use go_base::{NameId, NoMemory, Pos, Rule, TypeId, VarId};
@@ -66,14 +67,16 @@ impl<'s> Walker<'s> {
         values: &[ListedExpr],
     ) -> Result<Defining, NoMemory> {
         let lefts = self.lefts(targets)?;
-        let values = self.see_list(values)?;
+        let (values, lefts) = beside(self.see_list(values), lefts)?;
         let mut is_sound = lefts.is_sound;
         if are_values(&values) && !(lefts.are_names && lefts.any_new) {
             self.report(at, Rule::NoNewVariable);
             is_sound = false;
         }
-        let intos = self.intos_of_lefts(lefts.names.as_slice())?;
-        let listed = values_into(self.scope.ground(), at, values, &intos, true)?;
+        let intos = self.intos_of_lefts(lefts.names.as_slice());
+        let (intos, (values, lefts)) = beside(intos, (values, lefts))?;
+        let listed = values_into(self.scope.ground(), at, values, &intos, true);
+        let (listed, lefts) = beside(listed, lefts)?;
         Ok(Defining {
             at,
             lefts,
@@ -91,10 +94,21 @@ impl<'s> Walker<'s> {
             is_sound: true,
         };
         let mut earlier = IndexSet::new(self.alloc);
+        let done = self.add_lefts(&mut lefts, &mut earlier, targets);
+        drop(earlier);
+        kept(lefts, done)
+    }
+
+    fn add_lefts(
+        &mut self,
+        lefts: &mut Lefts,
+        earlier: &mut IndexSet<NameId>,
+        targets: &[ListedExpr],
+    ) -> Result<(), NoMemory> {
         for target in targets {
-            self.add_left(&mut lefts, &mut earlier, &target.expr)?;
+            self.add_left(lefts, earlier, &target.expr)?;
         }
-        Ok(lefts)
+        Ok(())
     }
 
     fn add_left(

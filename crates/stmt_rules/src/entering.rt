@@ -2,7 +2,7 @@
 //! declarations", "Method declarations", "Function literals".
 
 use crate::frames::{Frame, ResultOf};
-use crate::joining::kept;
+use crate::joining::{kept, push_come};
 use crate::steps::Steps;
 use crate::uses::mentions_from;
 use crate::walker::Walker;
@@ -13,6 +13,7 @@ use go_places::type_start;
 use go_syntax::{Block, Param, Params, ResultForm, Signature, TypeExpr};
 use go_tree::{Body, TypedBlock, VarIds};
 use go_type::{Signature as SignatureTerm, TypeTerm};
+use typed_parts::beside;
 
 /// The types of parameters and results, as far as they are sound, in order.
 #[derive(Drop)]
@@ -69,13 +70,21 @@ impl<'s> Walker<'s> {
             params: Vec::new(self.alloc),
             results: Vec::new(self.alloc),
         };
+        let done = self.add_types(signature, &mut types);
+        kept(types, done)
+    }
+
+    fn add_types(
+        &mut self,
+        signature: &Signature,
+        types: &mut SignatureTypes,
+    ) -> Result<(), NoMemory> {
         self.see_params(&signature.params.params, &mut types.params)?;
         match &signature.result {
-            ResultForm::None => {}
-            ResultForm::Params(params) => self.see_params(&params.params, &mut types.results)?,
-            ResultForm::TypeForm(form) => types.results.push(self.see_type(form)?)?,
+            ResultForm::None => Ok(()),
+            ResultForm::Params(params) => self.see_params(&params.params, &mut types.results),
+            ResultForm::TypeForm(form) => push_come(&mut types.results, self.see_type(form)),
         }
-        Ok(types)
     }
 
     fn see_params(
@@ -230,19 +239,33 @@ impl<'s> Walker<'s> {
         steps: Steps,
     ) -> Result<(), NoMemory> {
         self.scope.close_block();
-        let inner = std::mem::replace(&mut self.frame, entered.outer);
-        if !inner.results.is_empty() && !steps.ends {
+        let Entered {
+            function,
+            params,
+            results,
+            first_variable,
+            first_mention,
+            outer,
+        } = entered;
+        let inner = std::mem::replace(&mut self.frame, outer);
+        let has_defer = inner.has_defer;
+        let has_results = !inner.results.is_empty();
+        drop(inner);
+        if has_results && !steps.ends {
             self.report_later(self.at(block.close), Rule::MissingReturn);
         }
-        let captured = self.captured(entered.first_variable, entered.first_mention)?;
-        let Some((function, statements)) = entered.function.zip(steps.into_statements()) else {
+        let captured = self.captured(first_variable, first_mention);
+        let (captured, (steps, names)) = beside(captured, (steps, (params, results)))?;
+        let names = Some((names, captured));
+        let parts = function.zip(steps.into_statements()).zip(names);
+        let Some(((function, statements), ((params, results), captured))) = parts else {
             return Ok(());
         };
         let body = Body {
-            params: entered.params,
-            results: entered.results,
+            params,
+            results,
             captured,
-            has_defer: inner.has_defer,
+            has_defer,
             block: TypedBlock {
                 at: self.at(block.open),
                 end: self.at(block.close),

@@ -2,7 +2,7 @@
 //! specification, "Expression statements", "Send statements", "IncDec statements", "Assignment statements", "Go statements",
 //! "Defer statements", "Return statements", "Break statements", "Continue statements".
 
-use crate::joining::nothing;
+use crate::joining::{kept, nothing, push_come};
 use crate::walker::{Walker, are_values, bare_name};
 use go_ast::{Kind, Token};
 use go_base::{NoMemory, Pos, Rule};
@@ -13,7 +13,7 @@ use go_tree::{ExprKind, Target, TypedExpr, TypedStmt};
 use go_type::{BinaryOp, Builtin};
 use std::alloc::Global;
 use typed_operators::{binary_expression, send, step, target};
-use typed_parts::{Meaning, Seen, asked, beside, is_place, only, value_of};
+use typed_parts::{Meaning, Seen, asked, beside, is_place, only, value_of, with_last};
 use typed_primaries::{Into, Listed, values_into};
 
 /// A side of an assignment.
@@ -38,15 +38,20 @@ impl Side {
 
 /// The sides as targets, where all are sound.
 pub fn targets_of(alloc: Global, sides: Vec<Side>) -> Result<Option<Vec<Target>>, NoMemory> {
-    let mut targets = Vec::new(alloc);
+    let mut targets = Some(Vec::new(alloc));
     for side in sides {
-        match side {
-            Side::Blank => targets.push(Target::Blank)?,
-            Side::Place(Some(place)) => targets.push(Target::Place(place))?,
-            Side::Place(None) => return Ok(None),
-        }
+        targets = with_last(targets, target_of(side))?;
     }
-    Ok(Some(targets))
+    Ok(targets)
+}
+
+/// A side as a target, where it is sound.
+pub fn target_of(side: Side) -> Option<Target> {
+    match side {
+        Side::Blank => Some(Target::Blank),
+        Side::Place(Some(place)) => Some(Target::Place(place)),
+        Side::Place(None) => None,
+    }
 }
 
 /// Where the values of sides go.
@@ -219,17 +224,13 @@ impl<'s> Walker<'s> {
         values: &[ListedExpr],
     ) -> Result<Option<TypedStmt>, NoMemory> {
         let sides = self.sides(targets)?;
-        let values = self.see_list(values)?;
-        let intos = intos_of(self.alloc, &sides)?;
-        let Listed { values, types: _ } = values_into(
-            self.scope.ground(),
-            at,
-            values,
-            &intos,
-            true,
-        )?;
-        let targets = targets_of(self.alloc, sides)?;
-        match targets.zip(values) {
+        let (values, sides) = beside(self.see_list(values), sides)?;
+        let intos = intos_of(self.alloc, &sides);
+        let (intos, (values, sides)) = beside(intos, (values, sides))?;
+        let listed = values_into(self.scope.ground(), at, values, &intos, true);
+        let (listed, sides) = beside(listed, sides)?;
+        let (targets, listed) = beside(targets_of(self.alloc, sides), listed)?;
+        match targets.zip(listed.values) {
             Some((targets, values)) => Ok(Some(TypedStmt::Assign {
                 at,
                 targets,
@@ -242,10 +243,15 @@ impl<'s> Walker<'s> {
     /// The sides of an assignment.
     pub fn sides(&mut self, targets: &[ListedExpr]) -> Result<Vec<Side>, NoMemory> {
         let mut sides = Vec::new(self.alloc);
+        let done = self.add_sides(targets, &mut sides);
+        kept(sides, done)
+    }
+
+    fn add_sides(&mut self, targets: &[ListedExpr], sides: &mut Vec<Side>) -> Result<(), NoMemory> {
         for target in targets {
-            sides.push(self.side(&target.expr)?)?;
+            push_come(sides, self.side(&target.expr))?;
         }
-        Ok(sides)
+        Ok(())
     }
 
     /// A side of an assignment: `_`, or what can be assigned to. A variable by its name alone is not used by that.
@@ -287,7 +293,7 @@ impl<'s> Walker<'s> {
         values: &[ListedExpr],
     ) -> Result<Option<TypedStmt>, NoMemory> {
         let sides = self.see_list(targets)?;
-        let values = self.see_list(values)?;
+        let (values, sides) = beside(self.see_list(values), sides)?;
         if are_values(&sides) && are_values(&values) {
             self.report(at, Rule::CannotAssign);
         }
@@ -299,7 +305,7 @@ impl<'s> Walker<'s> {
     /// Each part of a list is to be a value.
     fn all_values(&mut self, list: Vec<Seen>) {
         for seen in list {
-            let _ = value_of(self.scope.ground(), seen);
+            drop(value_of(self.scope.ground(), seen));
         }
     }
 
@@ -375,13 +381,7 @@ impl<'s> Walker<'s> {
             self.return_of_nothing(values);
             return Ok(None);
         }
-        let mut intos = Vec::new(self.alloc);
-        for result in &self.frame.results {
-            intos.push(match result.of {
-                Some(of) => Into::Type(of),
-                None => Into::Unsound,
-            })?;
-        }
+        let (intos, values) = beside(self.result_intos(), values)?;
         let Listed { values, types: _ } = values_into(
             self.scope.ground(),
             at,
@@ -396,6 +396,18 @@ impl<'s> Walker<'s> {
             })),
             None => Ok(None),
         }
+    }
+
+    /// Where the values that are returned go.
+    fn result_intos(&self) -> Result<Vec<Into>, NoMemory> {
+        let mut intos = Vec::new(self.alloc);
+        for result in &self.frame.results {
+            intos.push(match result.of {
+                Some(of) => Into::Type(of),
+                None => Into::Unsound,
+            })?;
+        }
+        Ok(intos)
     }
 
     /// Values that are returned by a function without results.

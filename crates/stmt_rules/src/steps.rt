@@ -3,7 +3,8 @@
 use go_base::{NameId, NoMemory, Pos};
 use go_tree::{TypedArm, TypedBlock, TypedStmt};
 use std::alloc::Global;
-use typed_parts::with_last;
+use std::vec::IntoIter;
+use typed_parts::{only, with_last};
 
 /// Where a statement stands.
 #[derive(Clone, Copy)]
@@ -48,9 +49,8 @@ impl Steps {
     /// One more statement, None where it is unsound.
     pub fn push(&mut self, stmt: Option<TypedStmt>, ends: bool) -> Result<(), NoMemory> {
         self.ends = ends;
-        match stmt {
-            Some(stmt) => self.statements.push(stmt)?,
-            None => self.is_sound = false,
+        if !push_sound(&mut self.statements, stmt)? {
+            self.is_sound = false;
         }
         Ok(())
     }
@@ -69,21 +69,13 @@ impl Steps {
             ends,
         } = inner;
         self.ends = ends;
-        if !is_sound {
-            self.is_sound = false;
+        self.is_sound = self.is_sound && is_sound;
+        let Some((labels, statements)) = only(Some((labels, statements)), is_sound) else {
             return Ok(());
-        }
-        let mut rest = statements.into_iter();
-        let stmt = match rest.next() {
-            Some(stmt) => Some(Box::new(alloc, stmt)?),
-            None => None,
         };
-        self.statements
-            .push(TypedStmt::Labeled { at, labels, stmt })?;
-        for stmt in rest {
-            self.statements.push(stmt)?;
-        }
-        Ok(())
+        let (stmt, rest) = first_boxed(alloc, statements)?;
+        let labeled = TypedStmt::Labeled { at, labels, stmt };
+        push_all(&mut self.statements, labeled, rest)
     }
 
     /// The statements, where all are sound.
@@ -94,7 +86,7 @@ impl Steps {
             is_sound,
             ends: _,
         } = self;
-        if is_sound { Some(statements) } else { None }
+        only(Some(statements), is_sound)
     }
 
     /// The statement of a list of at most one.
@@ -105,12 +97,48 @@ impl Steps {
             is_sound,
             ends: _,
         } = self;
-        let stmt = match statements.into_iter().next() {
-            Some(stmt) => Some(Box::new(alloc, stmt)?),
-            None => None,
-        };
+        let stmt = boxed_first(alloc, statements)?;
         Ok(First { is_sound, stmt })
     }
+}
+
+/// Adds an item at the end of a list, where it is sound. Whether it is.
+fn push_sound<T: Drop>(items: &mut Vec<T>, item: Option<T>) -> Result<bool, NoMemory> {
+    match item {
+        Some(item) => {
+            items.push(item)?;
+            Ok(true)
+        }
+        None => Ok(false),
+    }
+}
+
+/// The first of a list in a box.
+fn boxed_first<T: Drop>(alloc: Global, items: Vec<T>) -> Result<Option<Box<T>>, NoMemory> {
+    let (first, _rest) = first_boxed(alloc, items)?;
+    Ok(first)
+}
+
+/// The first of a list in a box, and those behind it.
+fn first_boxed<T: Drop>(
+    alloc: Global,
+    items: Vec<T>,
+) -> Result<(Option<Box<T>>, IntoIter<T>), NoMemory> {
+    let mut rest = items.into_iter();
+    let first = match rest.next() {
+        Some(first) => Some(Box::new(alloc, first)?),
+        None => None,
+    };
+    Ok((first, rest))
+}
+
+/// Adds an item and those of a list at the end of another.
+fn push_all<T: Drop>(items: &mut Vec<T>, first: T, rest: IntoIter<T>) -> Result<(), NoMemory> {
+    items.push(first)?;
+    for item in rest {
+        items.push(item)?;
+    }
+    Ok(())
 }
 
 /// The simple statement before a condition, a tag or a loop.

@@ -1,7 +1,7 @@
 //! What is kept while initialisers and bodies are walked.
 
 use crate::frames::Frame;
-use crate::joining::kept;
+use crate::joining::{kept, push_come, put_at};
 use crate::uses::{Holder, Needs, Reading};
 use go_ast::Token;
 use go_base::{NameId, NoMemory, Pos, Rule, TypeId};
@@ -119,10 +119,15 @@ impl<'s> Walker<'s> {
     /// What the expressions of a list stand for.
     pub fn see_list(&mut self, exprs: &[ListedExpr]) -> Result<Vec<Seen>, NoMemory> {
         let mut list = Vec::new(self.alloc);
+        let done = self.see_all(exprs, &mut list);
+        kept(list, done)
+    }
+
+    fn see_all(&mut self, exprs: &[ListedExpr], list: &mut Vec<Seen>) -> Result<(), NoMemory> {
         for expr in exprs {
-            list.push(self.see(&expr.expr)?)?;
+            push_come(list, self.see(&expr.expr))?;
         }
-        Ok(list)
+        Ok(())
     }
 
     /// The value or values of an expression that stands alone.
@@ -151,21 +156,7 @@ impl<'s> Walker<'s> {
 
     /// Keeps the body of a function.
     pub fn keep_body(&mut self, function: usize, body: Body) -> Result<(), NoMemory> {
-        let room = self.make_room(function);
-        let body = kept(body, room)?;
-        match self.bodies.get_mut(function) {
-            Some(place) => drop(std::mem::replace(place, Some(body))),
-            None => drop(body),
-        }
-        Ok(())
-    }
-
-    /// Makes room for the body of a function.
-    fn make_room(&mut self, function: usize) -> Result<(), NoMemory> {
-        for _ in self.bodies.len()..function.saturating_add(1) {
-            self.bodies.push(None)?;
-        }
-        Ok(())
+        put_at(&mut self.bodies, function, body)
     }
 
     /// What was read from a mention on is named by a holder.
@@ -183,13 +174,19 @@ pub fn all_bodies(
     count: usize,
 ) -> Result<Bodies, NoMemory> {
     let mut all = Bodies::new(alloc);
+    let done = push_bodies(&mut all, bodies, count);
+    kept(all, done)
+}
+
+/// Adds bodies, and that there is none for those that lack.
+fn push_bodies(all: &mut Bodies, bodies: Vec<Option<Body>>, count: usize) -> Result<(), NoMemory> {
     for body in bodies {
         all.push(body)?;
     }
     for _ in all.len()..count {
         all.push(None)?;
     }
-    Ok(all)
+    Ok(())
 }
 
 /// Whether all parts of a list are sound, and values.
