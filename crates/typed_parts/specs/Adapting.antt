@@ -40,8 +40,8 @@ pub data IsPassed (types : Table) (at : Pos) (expr : TypedExpr) (to : TypeId) : 
 abbrev pub IsThroughDefault : Table → Pos → TypedExpr → TypeId → TypeId → Judged TypedExpr → Type 0
 IsThroughDefault types at expr of to result = IsThen (IsGiven types of expr) (λ x. IsPassed types at x to) result
 
--- a value is assigned to a type: an untyped operand takes it where it fits its kind, or by its default type goes into an
--- interface
+-- a value is assigned to a type: an untyped operand takes it where it fits its kind, or by its default type goes into
+-- an interface
 pub data IsAssigned (types : Table) (x : Given) (to : TypeId) : Judged TypedExpr → Type 0 where
   typed : (result : Judged TypedExpr) → kind_at types x.expr.of ≡ None
       → IsPassed types x.at x.expr to result → IsAssigned types x to result

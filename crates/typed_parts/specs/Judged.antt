@@ -69,7 +69,8 @@ IsRest None Is rest = rest ≡ unsound
 IsRest (Some x) Is rest = Is x rest
 
 -- what a second rule says of what a first one makes
-pub record IsThen {A B : Type 0} (First : Judged A → Type 0) (Rest : A → Judged B → Type 0) (result : Judged B) : Type 0 where
+pub record IsThen {A B : Type 0} (First : Judged A → Type 0) (Rest : A → Judged B → Type 0)
+    (result : Judged B) : Type 0 where
   pub first : Judged A
   pub rest : Judged B
   pub is : First first

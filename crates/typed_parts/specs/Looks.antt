@@ -51,8 +51,8 @@ elements_layer (layers.Elements-F.Fields fields) = list_any (λ (b : Bool). b) f
 elements_layer (layers.Elements-F.Items items len) = list_any (λ (b : Bool). b) items.items
 elements_layer (layers.Elements-F.Entries entries) = list_any (λ (b : Bool). b) entries.items
 
--- "a variable, pointer indirection, or slice indexing operation; or a field selector of an addressable struct operand; or
--- an array indexing operation of an addressable array"
+-- "a variable, pointer indirection, or slice indexing operation; or a field selector of an addressable struct operand;
+-- or an array indexing operation of an addressable array"
 abbrev pub kind_layer : layers.ExprKind-F Bool Bool Look Bool Bool Bool Bool Look → Look
 kind_layer (layers.ExprKind-F.ConstOf constant) = value false
 kind_layer (layers.ExprKind-F.NilOf) = value false
@@ -107,13 +107,13 @@ holds_callee =
 
 unfoldable pub holds_elements : Elements → Bool
 holds_elements =
-    fold-Elements Bool Bool Look Bool Bool Bool Bool Look callee_layer elements_layer kind_layer values_layer entry_layer
-    field_layer item_layer expr_layer
+    fold-Elements Bool Bool Look Bool Bool Bool Bool Look callee_layer elements_layer kind_layer values_layer
+    entry_layer field_layer item_layer expr_layer
 
 unfoldable pub look_kind : ExprKind → Look
 look_kind =
-    fold-ExprKind Bool Bool Look Bool Bool Bool Bool Look callee_layer elements_layer kind_layer values_layer entry_layer
-    field_layer item_layer expr_layer
+    fold-ExprKind Bool Bool Look Bool Bool Bool Bool Look callee_layer elements_layer kind_layer values_layer
+    entry_layer field_layer item_layer expr_layer
 
 unfoldable pub holds_values : Values → Bool
 holds_values =
@@ -122,23 +122,23 @@ holds_values =
 
 unfoldable pub holds_entry : EntryInit → Bool
 holds_entry =
-    fold-EntryInit Bool Bool Look Bool Bool Bool Bool Look callee_layer elements_layer kind_layer values_layer entry_layer
-    field_layer item_layer expr_layer
+    fold-EntryInit Bool Bool Look Bool Bool Bool Bool Look callee_layer elements_layer kind_layer values_layer
+    entry_layer field_layer item_layer expr_layer
 
 unfoldable pub holds_field : FieldInit → Bool
 holds_field =
-    fold-FieldInit Bool Bool Look Bool Bool Bool Bool Look callee_layer elements_layer kind_layer values_layer entry_layer
-    field_layer item_layer expr_layer
+    fold-FieldInit Bool Bool Look Bool Bool Bool Bool Look callee_layer elements_layer kind_layer values_layer
+    entry_layer field_layer item_layer expr_layer
 
 unfoldable pub holds_item : ItemInit → Bool
 holds_item =
-    fold-ItemInit Bool Bool Look Bool Bool Bool Bool Look callee_layer elements_layer kind_layer values_layer entry_layer
-    field_layer item_layer expr_layer
+    fold-ItemInit Bool Bool Look Bool Bool Bool Bool Look callee_layer elements_layer kind_layer values_layer
+    entry_layer field_layer item_layer expr_layer
 
 unfoldable pub look : TypedExpr → Look
 look =
-    fold-TypedExpr Bool Bool Look Bool Bool Bool Bool Look callee_layer elements_layer kind_layer values_layer entry_layer
-    field_layer item_layer expr_layer
+    fold-TypedExpr Bool Bool Look Bool Bool Bool Bool Look callee_layer elements_layer kind_layer values_layer
+    entry_layer field_layer item_layer expr_layer
 
 abbrev pub is_place : TypedExpr → Bool
 is_place x = (look x).is_place

@@ -64,9 +64,9 @@ abbrev pub constant_as : Table → Pos → Const → TypeId → Judged TypedExpr
 constant_as types at value to = constant_node at to (as_constant types value to)
 
 -- an untyped operand at a place takes a type: what becomes of it, by its form, and which rules are broken in it. An
--- operation takes the type with its operands; a comparison keeps those, and a shift its count. "If the left operand of a
--- non-constant shift expression is an untyped constant, it is first implicitly converted to the type it would assume if
--- the shift expression were replaced by its left operand alone."
+-- operation takes the type with its operands; a comparison keeps those, and a shift its count. "If the left operand of
+-- a non-constant shift expression is an untyped constant, it is first implicitly converted to the type it would assume
+-- if the shift expression were replaced by its left operand alone."
 mutual
   pub data IsRetyped (types : Table) (to : TypeId) : Pos → ExprKind → Judged TypedExpr → Type 0 where
     constant : (at : Pos) (value : Const) → IsRetyped types to at (ConstOf value) (constant_as types at value to)

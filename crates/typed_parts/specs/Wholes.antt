@@ -1,5 +1,5 @@
--- Whole numbers, as an index, a bound or a size, and strings. Go specification, "Index expressions", "Slice expressions",
--- "Making slices, maps and channels" and "String types".
+-- Whole numbers, as an index, a bound or a size, and strings. Go specification, "Index expressions", "Slice
+-- expressions", "Making slices, maps and channels" and "String types".
 use Rattle.std.specs.Prelude.{◌≡◌, Bool, true, false, Option, Some, None}
 use Rattle.std.specs.Option.{option_map}
 use Rattle.go_base.specs.declared.place.Pos.{Pos}
