@@ -5,9 +5,18 @@ use clause_rules::{Cases, Matched, SeenCases, Tag, see_cases, see_default, see_t
 use go_ast::Token;
 use go_base::{NoMemory, Pos};
 use go_syntax::{CaseClause, CommClause};
-use go_tree::{Comm, SelectClause, TypedCase, TypedClause};
-use stmt_rules::{Gathered, WalkedBlock, Walker};
+use go_tree::{Comm, SelectClause, TypedCase, TypedClause, TypedStmt};
+use stmt_rules::{Gathered, Steps, WalkedBlock, Walker};
 use typed_parts::only;
+
+/// A block as a statement.
+pub fn finish_block(
+    walked: Result<WalkedBlock, NoMemory>,
+    steps: &mut Steps,
+) -> Result<(), NoMemory> {
+    let WalkedBlock { block, ends } = walked?;
+    steps.push(block.map(TypedStmt::Block), ends)
+}
 
 /// The cases of a clause of a switch over values, where all are sound.
 pub fn see_clause(

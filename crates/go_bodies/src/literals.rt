@@ -6,7 +6,7 @@ use go_syntax::{
     Element, ElementLine, Expr, FieldLine, ListedExpr, Param, ResultForm, Signature, Stmt,
     TypeExpr, TypeSpec, ValueSpec,
 };
-use stmt_rules::{Steps, Walker};
+use stmt_rules::Walker;
 use typed_parts::beside;
 
 /// The literals in a statement without statements in it.
@@ -31,15 +31,6 @@ pub fn bodies_of_simple(walker: &mut Walker<'_>, stmt: &Stmt) -> Result<(), NoMe
         Stmt::Go { call, .. } | Stmt::Defer { call, .. } => bodies_of_expr(walker, call),
         Stmt::Return { results, .. } => bodies_of_list(walker, results),
         _ => Ok(()),
-    }
-}
-
-/// The literals in what a clause of a select waits for.
-#[cycle(bodies)]
-pub fn bodies_of_comm(walker: &mut Walker<'_>, comm: &Option<Box<Stmt>>) -> Result<(), NoMemory> {
-    match comm {
-        Some(comm) => bodies_of_simple(walker, comm),
-        None => Ok(()),
     }
 }
 
@@ -240,15 +231,7 @@ fn walk_literal(walker: &mut Walker<'_>, expr: &Expr) -> Result<(), NoMemory> {
     bodies_of_signature(walker, signature)?;
     let function = walker.scope.literal(walker.at(*word));
     let entered = walker.enter(function, &None, signature)?;
-    let (steps, entered) = beside(literal_body(walker, expr), entered)?;
+    let steps = walk_statements(walker, &body.statements, false);
+    let (steps, entered) = beside(steps, entered)?;
     walker.finish(entered, body, steps)
-}
-
-/// The statements of a function literal.
-#[cycle(bodies)]
-fn literal_body(walker: &mut Walker<'_>, expr: &Expr) -> Result<Steps, NoMemory> {
-    match expr {
-        Expr::Function { body, .. } => walk_statements(walker, &body.statements, false),
-        _ => Ok(Steps::new(walker.alloc)),
-    }
 }

@@ -1,20 +1,21 @@
 //! Statements with statements in them. Go specification, "Statements".
 
 use crate::clauses::{
-    clause_behind, comm_behind, finish_clause, finish_comm_clause, see_clause, see_type_clause,
+    clause_behind, comm_behind, finish_block, finish_clause, finish_comm_clause, see_clause,
+    see_type_clause,
 };
 use crate::literals::{
-    bodies_of_comm, bodies_of_expr, bodies_of_list, bodies_of_option, bodies_of_simple,
-    bodies_of_spec, bodies_of_specs, bodies_of_type_specs,
+    bodies_of_expr, bodies_of_list, bodies_of_option, bodies_of_simple, bodies_of_spec,
+    bodies_of_specs, bodies_of_type_specs,
 };
 use clause_rules::{
-    Cases, Matched, Tag, begin_labels, bind_clause, end_labels, enter_decl, fall, finish_arm,
-    finish_choice, finish_comm, finish_for, finish_range, finish_switch, finish_type_clause,
-    finish_type_switch, see_comm_of, see_condition, see_loop_condition, see_matched, see_range,
-    see_tag,
+    Cases, Matched, SeenCases, Tag, begin_labels, bind_clause, end_labels, enter_decl, fall,
+    finish_arm, finish_choice, finish_comm, finish_for, finish_range, finish_switch,
+    finish_type_clause, finish_type_switch, see_comm_of, see_condition, see_loop_condition,
+    see_matched, see_range, see_tag,
 };
 use go_ast::Token;
-use go_base::{NoMemory, Pos};
+use go_base::{NoMemory, Pos, VarId};
 use go_places::stmt_start;
 use go_syntax::{
     Block, CaseClause, CommClause, Decl, Expr, ForStmt, IfArm, Label, ListedExpr, RangeStmt, Stmt,
@@ -84,7 +85,7 @@ pub fn walk_statement(
         Stmt::Labeled { labels, stmt } => walk_labeled(walker, labels, stmt, spot.falls, steps),
         Stmt::Define { .. } => walk_define(walker, stmt, steps),
         Stmt::Fallthrough(word) => fall(walker, *word, spot.falls, steps),
-        Stmt::Block(block) => walk_inner_block(walker, block, steps),
+        Stmt::Block(block) => finish_block(walk_block(walker, block), steps),
         Stmt::If { .. } => walk_choice(walker, stmt, steps),
         Stmt::Switch(switch) => walk_switch(walker, switch, spot, steps),
         Stmt::TypeSwitch(switch) => walk_type_switch(walker, switch, spot, steps),
@@ -207,38 +208,13 @@ fn walk_labeled(
     steps.push_labeled(began.at, began.names, inner)
 }
 
-#[cycle(bodies)]
-fn walk_inner_block(
-    walker: &mut Walker<'_>,
-    block: &Block,
-    steps: &mut Steps,
-) -> Result<(), NoMemory> {
-    let walked = walk_block(walker, block)?;
-    let typed = walked.block.map(TypedStmt::Block);
-    steps.push(typed, walked.ends)
-}
-
 /// A block, with a scope of its own.
 #[cycle(bodies)]
 fn walk_block(walker: &mut Walker<'_>, block: &Block) -> Result<WalkedBlock, NoMemory> {
-    let at = walker.at(block.open);
-    let end = walker.at(block.close);
-    walk_scope(walker, &block.statements, at, end, false)
-}
-
-/// The statements of a scope of their own, between two places.
-#[cycle(bodies)]
-fn walk_scope(
-    walker: &mut Walker<'_>,
-    lines: &[StmtLine],
-    at: Pos,
-    end: Pos,
-    falls: bool,
-) -> Result<WalkedBlock, NoMemory> {
     walker.scope.open_block()?;
-    let steps = walk_statements(walker, lines, falls)?;
+    let steps = walk_statements(walker, &block.statements, false)?;
     walker.scope.close_block();
-    Ok(WalkedBlock::new(at, end, steps))
+    Ok(WalkedBlock::new(walker.at(block.open), walker.at(block.close), steps))
 }
 
 /// The simple statement before a condition, a tag or a loop.
@@ -270,6 +246,7 @@ fn walk_choice(walker: &mut Walker<'_>, stmt: &Stmt, steps: &mut Steps) -> Resul
     finish_choice(walker, arms, walked, last, steps)
 }
 
+/// The arms of an `if`, each in a scope that stays open.
 #[cycle(bodies)]
 fn walk_arms(
     walker: &mut Walker<'_>,
@@ -278,7 +255,11 @@ fn walk_arms(
 ) -> Result<(), NoMemory> {
     for arm in arms {
         walker.scope.open_block()?;
-        let arm = walk_arm(walker, arm)?;
+        let init = walk_first(walker, &arm.init)?;
+        let head = beside(see_condition(walker, &arm.condition), init)?;
+        let head = kept(head, bodies_of_expr(walker, &arm.condition))?;
+        let (body, (condition, init)) = beside(walk_block(walker, &arm.body), head)?;
+        let arm = finish_arm(walker, arm.word, init, condition, body);
         walked.push(arm.arm, arm.ends)?;
     }
     Ok(())
@@ -297,15 +278,6 @@ fn walk_otherwise(
 }
 
 #[cycle(bodies)]
-fn walk_arm(walker: &mut Walker<'_>, arm: &IfArm) -> Result<WalkedArm, NoMemory> {
-    let init = walk_first(walker, &arm.init)?;
-    let head = beside(see_condition(walker, &arm.condition), init)?;
-    let head = kept(head, bodies_of_expr(walker, &arm.condition))?;
-    let (body, (condition, init)) = beside(walk_block(walker, &arm.body), head)?;
-    Ok(finish_arm(walker, arm.word, init, condition, body))
-}
-
-#[cycle(bodies)]
 fn walk_switch(
     walker: &mut Walker<'_>,
     switch: &SwitchStmt,
@@ -315,9 +287,8 @@ fn walk_switch(
     walker.scope.open_block()?;
     let init = walk_first(walker, &switch.init)?;
     let head = beside(see_tag(walker, &switch.tag), init)?;
-    let head = kept(head, bodies_of_option(walker, &switch.tag))?;
-    let entered = walker.frame.branches.enter(spot.label, false);
-    let (tag, init) = kept(head, entered)?;
+    let walked = bodies_of_option(walker, &switch.tag);
+    let (tag, init) = kept(head, enter_branches(walker, walked, spot, false))?;
     let mut cases = Cases::new(walker.alloc);
     let mut clauses = Gathered::new(walker.alloc);
     let done = walk_clauses(walker, switch, tag.tag, &mut cases, &mut clauses);
@@ -341,13 +312,16 @@ fn walk_clauses(
     walked: &mut Gathered<TypedClause>,
 ) -> Result<(), NoMemory> {
     for (index, clause) in switch.clauses.iter().enumerate() {
-        let next = clause_behind(&switch.clauses, index);
-        let end = walker.at(next.unwrap_or(switch.close));
         let typed = see_clause(walker, clause, tag, cases)?;
-        let typed = kept(typed, bodies_of_list(walker, &clause.items))?;
+        let walked_items = bodies_of_list(walker, &clause.items);
+        let typed = kept(typed, open_block(walker, walked_items))?;
+        let next = clause_behind(&switch.clauses, index);
+        let steps = walk_statements(walker, &clause.statements, next.is_some());
+        let (steps, typed) = beside(steps, typed)?;
+        walker.scope.close_block();
         let at = walker.at(clause.word);
-        let body = walk_scope(walker, &clause.statements, at, end, next.is_some());
-        let (body, typed) = beside(body, typed)?;
+        let end = walker.at(next.unwrap_or(switch.close));
+        let body = WalkedBlock::new(at, end, steps);
         finish_clause(at, clause.items.is_empty(), typed, body, walked)?;
     }
     Ok(())
@@ -364,9 +338,8 @@ fn walk_type_switch(
     let init = walk_first(walker, &switch.init)?;
     let seen = see_matched(walker, &switch.operand, &switch.binding);
     let ((operand, matched), init) = beside(seen, init)?;
-    let head = kept((operand, init), bodies_of_expr(walker, &switch.operand))?;
-    let entered = walker.frame.branches.enter(spot.label, false);
-    let head = kept(head, entered)?;
+    let walked = bodies_of_expr(walker, &switch.operand);
+    let head = kept((operand, init), enter_branches(walker, walked, spot, false))?;
     let mut cases = Cases::new(walker.alloc);
     let mut clauses = Gathered::new(walker.alloc);
     let done = walk_type_clauses(walker, switch, matched, &mut cases, &mut clauses);
@@ -390,36 +363,22 @@ fn walk_type_clauses(
     walked: &mut Gathered<TypeClause>,
 ) -> Result<(), NoMemory> {
     for (index, clause) in switch.clauses.iter().enumerate() {
+        let at = walker.at(clause.word);
+        let seen = see_type_clause(walker, clause, matched, cases)?;
+        let walked_items = bodies_of_list(walker, &clause.items);
+        let variable = open_type_clause(walker, walked_items, at, matched, &seen);
+        let (variable, seen) = beside(variable, seen)?;
+        let steps = walk_statements(walker, &clause.statements, false);
+        let (steps, seen) = beside(steps, seen)?;
+        walker.scope.close_block();
         let next = clause_behind(&switch.clauses, index);
-        let end = walker.at(next.unwrap_or(switch.close));
-        walk_type_clause(walker, clause, end, matched, cases, walked)?;
+        let body = WalkedBlock::new(at, walker.at(next.unwrap_or(switch.close)), steps);
+        let ends = body.ends;
+        let is_default = clause.items.is_empty();
+        let typed = finish_type_clause(walker, at, is_default, seen, variable, body)?;
+        walked.push(typed, ends)?;
     }
     Ok(())
-}
-
-#[cycle(bodies)]
-fn walk_type_clause(
-    walker: &mut Walker<'_>,
-    clause: &CaseClause,
-    end: Pos,
-    matched: Matched,
-    cases: &mut Cases,
-    walked: &mut Gathered<TypeClause>,
-) -> Result<(), NoMemory> {
-    let at = walker.at(clause.word);
-    let seen = see_type_clause(walker, clause, matched, cases)?;
-    let seen = kept(seen, bodies_of_list(walker, &clause.items))?;
-    let seen = kept(seen, walker.scope.open_block())?;
-    let variable = bind_clause(walker, at, matched, seen.cases.as_slice());
-    let (variable, seen) = beside(variable, seen)?;
-    let steps = walk_statements(walker, &clause.statements, false);
-    let (steps, seen) = beside(steps, seen)?;
-    walker.scope.close_block();
-    let body = WalkedBlock::new(at, end, steps);
-    let ends = body.ends;
-    let is_default = clause.items.is_empty();
-    let typed = finish_type_clause(walker, at, is_default, seen, variable, body)?;
-    walked.push(typed, ends)
 }
 
 #[cycle(bodies)]
@@ -458,30 +417,22 @@ fn walk_comm_clauses(
     walked: &mut Gathered<SelectClause>,
 ) -> Result<(), NoMemory> {
     for (index, clause) in clauses.iter().enumerate() {
+        walker.scope.open_block()?;
+        let seen = see_comm_of(walker, &clause.comm, clause.word, cases)?;
+        let walked_comm = match &clause.comm {
+            Some(comm) => bodies_of_simple(walker, comm),
+            None => Ok(()),
+        };
+        let seen = kept(seen, walked_comm)?;
+        let comm = finish_comm(walker, seen)?;
+        let steps = walk_statements(walker, &clause.statements, false);
+        let (steps, comm) = beside(steps, comm)?;
+        walker.scope.close_block();
+        let at = walker.at(clause.word);
         let end = walker.at(comm_behind(clauses, index).unwrap_or(close));
-        walk_comm_clause(walker, clause, end, cases, walked)?;
+        finish_comm_clause(at, comm, WalkedBlock::new(at, end, steps), walked)?;
     }
     Ok(())
-}
-
-#[cycle(bodies)]
-fn walk_comm_clause(
-    walker: &mut Walker<'_>,
-    clause: &CommClause,
-    end: Pos,
-    cases: &mut Cases,
-    walked: &mut Gathered<SelectClause>,
-) -> Result<(), NoMemory> {
-    let at = walker.at(clause.word);
-    walker.scope.open_block()?;
-    let seen = see_comm_of(walker, &clause.comm, clause.word, cases)?;
-    let seen = kept(seen, bodies_of_comm(walker, &clause.comm))?;
-    let comm = finish_comm(walker, seen)?;
-    let steps = walk_statements(walker, &clause.statements, false);
-    let (steps, comm) = beside(steps, comm)?;
-    walker.scope.close_block();
-    let body = WalkedBlock::new(at, end, steps);
-    finish_comm_clause(at, comm, body, walked)
 }
 
 /// A `for` with a condition, or without one.
@@ -501,9 +452,8 @@ fn walk_while(
         return Ok(());
     };
     let seen = see_loop_condition(walker, condition)?;
-    let seen = kept(seen, bodies_of_option(walker, condition))?;
-    let entered = walker.frame.branches.enter(spot.label, true);
-    let seen = kept(seen, entered)?;
+    let walked = bodies_of_option(walker, condition);
+    let seen = kept(seen, enter_branches(walker, walked, spot, true))?;
     let (body, seen) = beside(walk_block(walker, body), seen)?;
     let is_left = walker.frame.branches.leave();
     let ends = condition.is_none() && !is_left;
@@ -551,8 +501,8 @@ fn walk_range(
 ) -> Result<(), NoMemory> {
     let seen = see_range(walker, &stmt.targets, stmt.operator, &stmt.operand)?;
     let seen = kept(seen, bodies_of_expr(walker, &stmt.operand))?;
-    let seen = kept(seen, bodies_of_list(walker, &stmt.targets))?;
-    let seen = kept(seen, walker.scope.open_block())?;
+    let walked = bodies_of_list(walker, &stmt.targets);
+    let seen = kept(seen, open_block(walker, walked))?;
     let head = finish_range(walker, seen)?;
     let entered = walker.frame.branches.enter(spot.label, true);
     let head = kept(head, entered)?;
@@ -583,4 +533,34 @@ fn last_filled(lines: &[StmtLine]) -> Option<usize> {
         }
     }
     last
+}
+
+/// A statement that can be left begins, where what stands before it was walked.
+fn enter_branches(
+    walker: &mut Walker<'_>,
+    walked: Result<(), NoMemory>,
+    spot: Spot,
+    is_loop: bool,
+) -> Result<(), NoMemory> {
+    walked?;
+    walker.frame.branches.enter(spot.label, is_loop)
+}
+
+/// A block begins, where what stands before it was walked.
+fn open_block(walker: &mut Walker<'_>, walked: Result<(), NoMemory>) -> Result<(), NoMemory> {
+    walked?;
+    walker.scope.open_block()
+}
+
+/// The block of a clause of a type switch begins, where what stands before it was walked: with the variable that it binds.
+fn open_type_clause(
+    walker: &mut Walker<'_>,
+    walked: Result<(), NoMemory>,
+    at: Pos,
+    matched: Matched,
+    seen: &SeenCases,
+) -> Result<Option<VarId>, NoMemory> {
+    walked?;
+    walker.scope.open_block()?;
+    bind_clause(walker, at, matched, seen.cases.as_slice())
 }
