@@ -53,8 +53,8 @@ pub data IsMatchedFor (types : Table) (op : CompareOp) (x y : TypeId) : Option M
       → (how ≡ match_of.Typed → ⊥) → IsMatchedFor types op x y (Some how)
   mismatch : with_nil types x y ≡ false → compared_types types x y ≡ None → IsMatchedFor types op x y None
 
--- "slice, map, and function types are not comparable", and only integers and strings are ordered; any value to which nil
--- may be assigned is compared with nil
+-- "slice, map, and function types are not comparable", and only integers and strings are ordered; any value to which
+-- nil may be assigned is compared with nil
 pub data IsAsked (types : Table) (op : CompareOp) (at : Pos) (nil : Bool) (operands : Pair) : Judged Pair → Type 0 where
   of_nil : nil ≡ true → IsAsked types op at nil operands (fine operands)
   taken : TakesComparison types op operands.left.of → TakesComparison types op operands.right.of
@@ -70,7 +70,8 @@ IsPairMatched types op how x y result =
 pub data IsComparablePair (types : Table) (op : CompareOp) (x y : Given) : Judged Pair → Type 0 where
   matched : (how : Matched) (result : Judged Pair) → IsMatchedFor types op x.expr.of y.expr.of (Some how)
       → IsPairMatched types op how x y result → IsComparablePair types op x y result
-  mismatched : IsMatchedFor types op x.expr.of y.expr.of None → IsComparablePair types op x y (breaks x.at NotComparable)
+  mismatched : IsMatchedFor types op x.expr.of y.expr.of None
+      → IsComparablePair types op x y (breaks x.at NotComparable)
 
 -- the left operand takes the type of the right one if it may, and else the right one that of the left
 pub data IsLevelled (types : Table) (left right : TypedExpr) : Pair → Type 0 where
@@ -89,7 +90,8 @@ AreCompared types op at operands made =
 abbrev pub AreDefaulted : Table → Pair → Judged Pair → Type 0
 AreDefaulted types operands result =
     (left : Judged TypedExpr) × ((right : Judged TypedExpr)
-    × (IsDefaulted types operands.left left × (IsDefaulted types operands.right right × (result ≡ both_judged left right))))
+    × (IsDefaulted types operands.left left
+    × (IsDefaulted types operands.right right × (result ≡ both_judged left right))))
 
 abbrev pub AreComparedNodes : Table → CompareOp → Pos → Pair → Judged TypedExpr → Type 0
 AreComparedNodes types op at operands result =
@@ -120,12 +122,14 @@ IsCaseOperand types match_of.FirstConverted expr tag result = IsGiven types tag 
 IsCaseOperand types match_of.FirstDefault expr tag result = IsDefaulted types expr result
 IsCaseOperand types _ expr tag result = ⊥
 
-pub data IsAskedCase (types : Table) (at : Pos) (nil : Bool) (tag : TypeId) (value : TypedExpr) : Judged TypedExpr → Type 0
+pub data IsAskedCase (types : Table) (at : Pos) (nil : Bool) (tag : TypeId) (value : TypedExpr)
+    : Judged TypedExpr → Type 0
   where
     of_nil : nil ≡ true → IsAskedCase types at nil tag value (fine value)
     taken : TakesComparison types compare.Equal value.of → TakesComparison types compare.Equal tag
         → IsAskedCase types at nil tag value (fine value)
-    refused : nil ≡ false → ((TakesComparison types compare.Equal value.of × TakesComparison types compare.Equal tag) → ⊥)
+    refused : nil ≡ false
+        → ((TakesComparison types compare.Equal value.of × TakesComparison types compare.Equal tag) → ⊥)
         → IsAskedCase types at nil tag value (breaks at NotComparable)
 
 -- a case: its value takes the type of the tag if it may, and else the tag that of the value

@@ -76,7 +76,8 @@ shift_operands x y value count = record {
 abbrev pub AreShiftOperands : Table → Seen → Seen → Judged (Given × TypedExpr) → Type 0
 AreShiftOperands types x y result =
     (count : Judged TypedExpr) × (IsCount types (one_value types y).sound count
-    × (result ≡ shift_operands (one_value types x) (one_value types y) (shift_value types (one_value types x).sound) count))
+    × (result ≡ shift_operands (one_value types x) (one_value types y)
+    (shift_value types (one_value types x).sound) count))
 
 -- "x << y" and "x >> y"
 abbrev pub IsShift : Table → Bool → Seen → Seen → Judged TypedExpr → Type 0

@@ -1,5 +1,6 @@
--- What statements and declarations ask of expressions. Go specification, "If statements", "Constant declarations", "Array
--- types", "Assignment statements", "IncDec statements", "Send statements", "Switch statements" and "For statements".
+-- What statements and declarations ask of expressions. Go specification, "If statements", "Constant declarations",
+-- "Array types", "Assignment statements", "IncDec statements", "Send statements", "Switch statements" and "For
+-- statements".
 use Rattle.std.specs.Prelude.{◌≡◌, ℕ, ◌^◌, ◌-◌, nat_lt, ℤ, pos, negsuc, Bool, true, false, ◌||◌, if◌then◌else◌, is_some}
 use Rattle.std.specs.Prelude.{◌++◌, Option, Some, None}
 use Rattle.go_base.specs.declared.ids.TypeId.{TypeId}
@@ -188,7 +189,8 @@ IsRangeValue types part result =
 abbrev pub IsRange : Table → Seen → Judged Ranged → Type 0
 IsRange types part result = IsThen (IsRangeValue types part) (λ given. Exactly (range_given types given)) result
 
-abbrev pub map_element_layer : layers.ExprKind-F Callee Elements ExprKind Values EntryInit FieldInit ItemInit TypedExpr → Bool
+abbrev pub map_element_layer : layers.ExprKind-F Callee Elements ExprKind Values EntryInit FieldInit ItemInit TypedExpr
+    → Bool
 map_element_layer (layers.ExprKind-F.MapIndex table key comma_ok) = true
 map_element_layer _ = false
 

@@ -1,5 +1,5 @@
--- Operators on one operand. Go specification, "Operators", "Arithmetic operators", "Logical operators", "Address operators"
--- and "Receive operator".
+-- Operators on one operand. Go specification, "Operators", "Arithmetic operators", "Logical operators", "Address
+-- operators" and "Receive operator".
 use Rattle.std.specs.Prelude.{◌≡◌, Bool, true, false, ◌||◌, if◌then◌else◌, is_some, Option, Some, None}
 use Rattle.std.specs.Global.{Box}
 use Rattle.go_base.specs.declared.ids.TypeId.{TypeId}
