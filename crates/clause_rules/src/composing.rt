@@ -2,6 +2,7 @@
 
 use crate::choosing::{Cases, Matched, SeenTag, Tag, see_case, see_default, see_type_case};
 use crate::receiving::{SeenComm, see_comm};
+use flow_rules::choice_ends;
 use go_ast::Token;
 use go_base::{NameId, NoMemory, Pos, Rule, VarId};
 use go_expr::see_decl;
@@ -171,9 +172,9 @@ pub fn finish_choice(
             }),
             None => None,
         };
-        return steps.push(stmt, false);
+        return steps.push(stmt, choice_ends(all_end, None));
     };
-    let ends = all_end && last.ends;
+    let ends = choice_ends(all_end, Some(last.ends));
     let stmt = match walked.items.zip(last.block) {
         Some((arms, block)) => Some(TypedStmt::If {
             at,

@@ -1,1 +1,2 @@
 pub mod Surroundings
+pub mod Terminating

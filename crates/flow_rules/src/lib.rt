@@ -4,5 +4,7 @@
 
 mod around;
 mod branches;
+mod terminating;
 
 pub use branches::Branches;
+pub use terminating::{choice_ends, loop_ends, select_ends, switch_ends};

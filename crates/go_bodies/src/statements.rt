@@ -13,6 +13,7 @@ use clause_rules::{
     finish_type_switch, see_comm_of, see_condition, see_loop_condition, see_matched, see_range,
     see_tag,
 };
+use flow_rules::{loop_ends, select_ends, switch_ends};
 use go_ast::Token;
 use go_base::{NoMemory, Pos};
 use go_places::stmt_start;
@@ -326,7 +327,7 @@ fn walk_switch(
     let (clauses, (tag, init)) = kept((clauses, (tag, init)), done)?;
     let is_left = walker.frame.branches.leave();
     walker.scope.close_block();
-    let ends = !is_left && has_default && clauses.all_end;
+    let ends = switch_ends(has_default, clauses.all_end, is_left);
     let typed = finish_switch(walker, switch.word, init, tag, clauses.items, switch.close);
     steps.push(typed, ends)
 }
@@ -375,7 +376,7 @@ fn walk_type_switch(
     let (clauses, (operand, init)) = kept((clauses, head), done)?;
     let is_left = walker.frame.branches.leave();
     walker.scope.close_block();
-    let ends = !is_left && has_default && clauses.all_end;
+    let ends = switch_ends(has_default, clauses.all_end, is_left);
     let typed = finish_type_switch(walker, switch, init, operand, matched, clauses.items);
     steps.push(typed, ends)
 }
@@ -440,7 +441,7 @@ fn walk_select(
     drop(cases);
     let walked = kept(walked, done)?;
     let is_left = walker.frame.branches.leave();
-    let ends = !is_left && walked.all_end;
+    let ends = select_ends(walked.all_end, is_left);
     let typed = match walked.items {
         Some(clauses) => Some(TypedStmt::Select { at, clauses, end }),
         None => None,
@@ -506,7 +507,7 @@ fn walk_while(
     let seen = kept(seen, entered)?;
     let (body, seen) = beside(walk_block(walker, body), seen)?;
     let is_left = walker.frame.branches.leave();
-    let ends = condition.is_none() && !is_left;
+    let ends = loop_ends(condition.is_some(), is_left);
     let none = First {
         is_sound: true,
         stmt: None,
@@ -537,7 +538,7 @@ fn walk_for(
     let (body, (post, (seen, init))) = beside(walk_block(walker, &stmt.body), head)?;
     let is_left = walker.frame.branches.leave();
     walker.scope.close_block();
-    let ends = stmt.condition.is_none() && !is_left;
+    let ends = loop_ends(stmt.condition.is_some(), is_left);
     let typed = finish_for(walker, stmt.word, init, seen, post, body);
     steps.push(typed, ends)
 }

@@ -11,7 +11,7 @@ use go_tree::{FunctionDecl, FunctionDecls, FunctionForm, Packages, Variable};
 use indexmap::IndexSet;
 use init_order::{Node, Reliance};
 use std::alloc::Global;
-use stmt_rules::{Holder, Need, Reading, Walker, kept, mentions_from};
+use stmt_rules::{Holder, Reading, Walker, kept, mentions_from};
 
 /// An import, by its index in its file.
 #[derive(Clone, Copy, PartialEq, Eq, Hash)]
@@ -22,66 +22,23 @@ struct ImportKey {
 
 /// Reports the names that are not used.
 pub fn report_unused(walker: &mut Walker<'_>) -> Result<(), NoMemory> {
-    let mut imports = IndexSet::new(walker.alloc);
-    let count = walker.scope.variables().len();
-    let used = used_names(
-        walker.alloc,
-        count,
-        walker.scope.mentions().as_slice(),
-        &mut imports,
-    );
-    let done = report_not_used(walker, used, &imports);
+    let mentions = walker.scope.mentions().as_slice();
+    walker.needs.report_unused(mentions, &mut walker.later)?;
+    let imports = used_imports(walker.alloc, mentions)?;
+    let done = report_imports(walker, &imports);
     drop(imports);
     done
 }
 
-/// By number which variables are used; the imports that are come to stand among these.
-fn used_names(
-    alloc: Global,
-    count: usize,
-    mentions: &[Mention],
-    imports: &mut IndexSet<ImportKey>,
-) -> Result<Vec<bool>, NoMemory> {
-    let mut used = Vec::new(alloc);
-    for _ in 0..count {
-        used.push(false)?;
-    }
+/// The imports that are used.
+fn used_imports(alloc: Global, mentions: &[Mention]) -> Result<IndexSet<ImportKey>, NoMemory> {
+    let mut imports = IndexSet::new(alloc);
     for mention in mentions {
-        match mention.what {
-            Mentioned::Variable(variable) => {
-                mark(&mut used, variable.number as usize, !mention.assigned)
-            }
-            Mentioned::Import { file, index } => {
-                imports.insert(ImportKey { file, index })?;
-            }
-            Mentioned::Function(_) => {}
+        if let Mentioned::Import { file, index } = mention.what {
+            imports.insert(ImportKey { file, index })?;
         }
     }
-    Ok(used)
-}
-
-/// Reports the names that are not among those that are used.
-fn report_not_used(
-    walker: &mut Walker<'_>,
-    used: Result<Vec<bool>, NoMemory>,
-    imports: &IndexSet<ImportKey>,
-) -> Result<(), NoMemory> {
-    walker.needs.mark(&used?);
-    report_variables(walker.needs.names.as_slice(), &mut walker.later);
-    report_imports(walker, imports)
-}
-
-fn report_variables(needs: &[Need], later: &mut Least) {
-    for need in needs {
-        if !need.is_used {
-            later.report(Fault {
-                phase: 4,
-                package: need.package,
-                pos: need.at,
-                rule: Rule::VariableNotUsed,
-            });
-        }
-    }
+    Ok(imports)
 }
 
 fn report_imports<'s>(walker: &mut Walker<'s>, used: &IndexSet<ImportKey>) -> Result<(), NoMemory> {
@@ -275,14 +232,5 @@ fn node_of(mention: &Mention) -> Option<Node> {
         Mentioned::Variable(variable) => Some(Node::Variable(variable.number as usize)),
         Mentioned::Function(function) => Some(Node::Function(function.number as usize)),
         Mentioned::Import { .. } => None,
-    }
-}
-
-/// Marks a place, where it is to be marked.
-fn mark(marks: &mut Vec<bool>, place: usize, is_marked: bool) {
-    if is_marked {
-        if let Some(mark) = marks.get_mut(place) {
-            *mark = true;
-        }
     }
 }

@@ -20,5 +20,5 @@ pub use frames::{Frame, ResultOf};
 pub use joining::{kept, nothing, push_come};
 pub use simple::{Side, intos_of, is_panic, target_of, targets_of};
 pub use steps::{First, Gathered, Spot, Steps, WalkedArm, WalkedBlock};
-pub use uses::{Holder, Need, Needs, Reading, mentions_from};
+pub use uses::{Holder, Reading, mentions_from};
 pub use walker::{Walker, all_bodies, are_values, bare_name};

@@ -2,7 +2,7 @@
 
 use crate::frames::Frame;
 use crate::joining::{kept, push_come, put_at};
-use crate::uses::{Holder, Needs, Reading};
+use crate::uses::{Holder, Reading};
 use go_ast::Token;
 use go_base::{NameId, NoMemory, Pos, Rule, TypeId};
 use go_expr::{see_expr, see_item, see_type};
@@ -15,6 +15,7 @@ use go_tree::{Bodies, Body};
 use go_type::{TypeTerm, Types};
 use std::alloc::Global;
 use typed_parts::{Given, Meaning, Seen, value_of};
+use use_rules::Needs;
 
 /// The first minor version of Go in which each turn of a loop has variables of its own.
 const FRESH_LOOPS: u32 = 22;
