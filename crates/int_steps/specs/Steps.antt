@@ -1,7 +1,7 @@
 -- One instruction on integers, as it reads and writes the slots of a frame: those of its parameters, its free variables
 -- and its registers, in this order. What it makes of its operands is what the machine makes of them. Go specification,
 -- "Operators", "Conversions between numeric types", "Address operators" and "Assignment statements".
-use Rattle.std.specs.Prelude.{◌≡◌, ℕ, ◌+◌, List, ℤ, Option, Some, None, Unit, Result, Ok, Err, length, slice_get}
+use Rattle.std.specs.Prelude.{◌≡◌, ℕ, ◌+◌, List, ℤ, Option, Some, None, Result, Ok, Err, length, slice_get}
 use Rattle.std.specs.Prelude.{if◌then◌else◌, nat_lt}
 use Rattle.std.specs.Option.{option_and_then}
 use Rattle.std.specs.Ordering.{int_cmp}
