@@ -16,7 +16,7 @@ use Rattle.go_value.specs.declared.faults.Fault.TheVariants as fault
 use Rattle.int_steps.specs.Laws.{GoesOn, IntsAct, IsFrameOf, state_at}
 use Rattle.int_steps.specs.Steps as meant
 use Rattle.int_steps.specs.Steps.{State, as_pointer, converted, held, int_assigned, int_does, int_given, int_loaded}
-use Rattle.int_steps.specs.Steps.{integer_of, on_two, pointer_of, slot_of, with_value}
+use Rattle.int_steps.specs.Steps.{integer_of, on_two, pointer_of, with_value}
 use Rattle.plan_mean.specs.Slots.{slot_in}
 use Rattle.ssa_ir.specs.declared.operands.ConstValue.{ConstValue}
 use Rattle.ssa_ir.specs.declared.operands.ConstValue.TheVariants as constant

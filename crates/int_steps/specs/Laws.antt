@@ -21,7 +21,8 @@ state_at s below = record { slots = slots_of s.frame ∷ below; store = s.machin
 
 -- where the instruction goes on, so does the machine, behind it: with this store, and with slots in which its register
 -- has got what it gets
-pub record GoesOn (s : Site) (below : List (List (Option Val))) (register : Option ℕ) (o : Op) (new : State) : Type 0 where
+pub record GoesOn (s : Site) (below : List (List (Option Val))) (register : Option ℕ) (o : Op) (new : State)
+    : Type 0 where
   pub value : Option Val
   pub slots : new.slots ≡ slots_of (with_result register value s.frame) ∷ below
   pub acts_so : acts s register o ≡ goes_behind s register value (record (s.machine) { store = new.store })

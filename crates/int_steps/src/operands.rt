@@ -2,6 +2,7 @@
 
 ghost use Rattle.std.specs.Prelude.{◌≡◌, min, option_map, slice_get};
 ghost use Rattle.go_store.specs.Cells.{integer_in};
+ghost use Rattle.go_value.specs.Kinds as kinds;
 ghost use Rattle.go_value.specs.Values.{value_of};
 ghost use Rattle.interp_state.specs.Frames.{frames_of};
 ghost use Rattle.int_steps.specs.Steps as meant;
@@ -9,7 +10,7 @@ ghost use Rattle.int_steps.specs.Steps.{constant_integer, kind_at};
 
 use go_base::TypeId;
 use go_type::{IntKind, Types, int_kind};
-use go_value::Value;
+use go_value::{Address, Value};
 use interp_state::RegStack;
 use ssa_ir::{ConstValue, Function, Operand};
 
@@ -56,7 +57,7 @@ fn free_slot(function: &Function, number: u64) -> Option<u64>
 }
 
 /// What the slot of an operand holds.
-pub fn held<'a>(regs: &'a RegStack, function: &Function, operand: &Operand) -> Option<&'a Value>
+fn held<'a>(regs: &'a RegStack, function: &Function, operand: &Operand) -> Option<&'a Value>
     ensures { option_map (λ it. value_of it.now) result ≡ meant.held function.now (frames_of regs.now) operand.now }
 {
     match slot_of(function, operand) {
@@ -89,7 +90,39 @@ fn held_integer(regs: &RegStack, function: &Function, operand: &Operand) -> Opti
     ensures { result ≡ integer_in (meant.held function.now (frames_of regs.now) operand.now) }
 {
     match held(regs, function, operand) {
-        Some(Value::Int(number)) => Some(*number),
+        Some(value) => as_integer(value),
+        None => None,
+    }
+}
+
+fn as_integer(value: &Value) -> Option<i128>
+    ensures { result ≡ kinds.integer (value_of value.now) }
+{
+    match value {
+        Value::Int(number) => Some(*number),
+        _ => None,
+    }
+}
+
+/// The address that the slot of an operand holds. None where it holds none.
+pub fn address<'a>(
+    regs: &'a RegStack,
+    function: &Function,
+    operand: &Operand,
+) -> Option<&'a Address>
+    ensures { option_map (λ it. it.now) result ≡ meant.pointer_of function.now (frames_of regs.now) operand.now }
+{
+    match held(regs, function, operand) {
+        Some(value) => as_address(value),
+        None => None,
+    }
+}
+
+fn as_address(value: &Value) -> Option<&Address>
+    ensures { option_map (λ it. it.now) result ≡ meant.as_pointer (value_of value.now) }
+{
+    match value {
+        Value::Pointer(address) => Some(address),
         _ => None,
     }
 }

@@ -7,7 +7,7 @@ ghost use Rattle.interp_state.specs.Frames.{KeepsSpare, frames_of};
 ghost use Rattle.go_value.specs.Values.{value_of};
 ghost use Rattle.int_steps.specs.Steps.{DoesAs, MayWant, MeetsNone, int_assigned, int_does, state_of, with_value};
 
-use crate::operands::{held, integer, register_slot};
+use crate::operands::{address, integer, register_slot};
 use crate::values::{given, lost};
 use go_store::Store;
 use go_type::Types;
@@ -65,8 +65,8 @@ fn put(
     let Some(number) = integer(regs, function, value) else {
         return Err(lost());
     };
-    match held(regs, function, at) {
-        Some(Value::Pointer(at)) => store.put_int_at(at, number),
-        _ => Err(lost()),
+    match address(regs, function, at) {
+        Some(at) => store.put_int_at(at, number),
+        None => Err(lost()),
     }
 }

@@ -12,7 +12,7 @@ ghost use Rattle.ssa_mean.specs.Arithmetic.{negated, negated_in, on_integers};
 ghost use Rattle.ssa_mean.specs.Comes.{of_result, then_to, where_some};
 
 use crate::arithmetic::{compare, negative, operate, turned};
-use crate::operands::{held, integer, kind_of};
+use crate::operands::{address, integer, kind_of};
 use go_base::TypeId;
 use go_store::Store;
 use go_type::{BinaryOp, IntKind, Types, UnaryOp, int_kind};
@@ -153,9 +153,9 @@ fn load(
 ) -> Result<Value, ValueError>
     ensures { GivesAs value_of result (where_some (int_loaded (stored store.now)) (pointer_of function.now (frames_of regs.now) at.now)) }
 {
-    match held(regs, function, at) {
-        Some(Value::Pointer(at)) => loaded(store, at),
-        _ => Err(lost()),
+    match address(regs, function, at) {
+        Some(at) => loaded(store, at),
+        None => Err(lost()),
     }
 }
 

@@ -395,7 +395,10 @@ fn put_captured(machine: &mut Machine<'_>, first: u32, captured: &[Address]) -> 
     let mut slot = first;
     for address in captured {
         let address = address.copy()?;
-        machine.current.stack.set(slot as u64, Value::Pointer(address));
+        machine
+            .current
+            .stack
+            .set(slot as u64, Value::Pointer(address));
         let Some(next) = slot.checked_add(1) else {
             return Err(lost());
         };

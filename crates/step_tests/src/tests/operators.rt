@@ -10,7 +10,9 @@ use std::alloc::Global;
 use std::test::Fail;
 
 const LEAST: i128 = -0x8000_0000_0000_0000;
+
 const MOST: i128 = 0x7fff_ffff_ffff_ffff;
+
 const MOST_UINT: i128 = 0xffff_ffff_ffff_ffff;
 
 /// An operator at two integers of a kind, and what it gives.
@@ -19,8 +21,20 @@ const GIVEN: &[(Basic, BinaryOp, i128, i128, i128)] = &[
     (Basic::Int8, BinaryOp::Sub, -128, 1, 127),
     (Basic::Int16, BinaryOp::Add, 32767, 1, -32768),
     (Basic::Int16, BinaryOp::Sub, -32768, 1, 32767),
-    (Basic::Int32, BinaryOp::Add, 2_147_483_647, 1, -2_147_483_648),
-    (Basic::Int32, BinaryOp::Sub, -2_147_483_648, 1, 2_147_483_647),
+    (
+        Basic::Int32,
+        BinaryOp::Add,
+        2_147_483_647,
+        1,
+        -2_147_483_648,
+    ),
+    (
+        Basic::Int32,
+        BinaryOp::Sub,
+        -2_147_483_648,
+        1,
+        2_147_483_647,
+    ),
     (Basic::Int64, BinaryOp::Add, MOST, 1, LEAST),
     (Basic::Int64, BinaryOp::Sub, LEAST, 1, MOST),
     (Basic::Int, BinaryOp::Add, MOST, 1, LEAST),
@@ -110,7 +124,13 @@ fn between(op: Infix) -> Op {
 #[test]
 fn operators_give_integers_of_a_kind(rt: HostRuntime) -> Result<(), Fail> {
     for (kind, op, first, second, given) in GIVEN {
-        let outcome = on_params(rt.alloc(), *kind, between(Infix::Operate(*op)), *first, *second)?;
+        let outcome = on_params(
+            rt.alloc(),
+            *kind,
+            between(Infix::Operate(*op)),
+            *first,
+            *second,
+        )?;
         assert!(rt; outcome.0 == Ok(()));
         assert_eq!(rt; outcome.1, [Some(*first), Some(*second), Some(*given)]);
     }
@@ -154,7 +174,13 @@ fn operators_take_one_integer(rt: HostRuntime) -> Result<(), Fail> {
 fn integers_are_converted(rt: HostRuntime) -> Result<(), Fail> {
     for (first, kind, given) in CONVERTED {
         let (to, operand) = (basic(*kind), param(0));
-        let outcome = on_params(rt.alloc(), Basic::Int, Op::Convert { to, operand }, *first, 0)?;
+        let outcome = on_params(
+            rt.alloc(),
+            Basic::Int,
+            Op::Convert { to, operand },
+            *first,
+            0,
+        )?;
         assert!(rt; outcome.0 == Ok(()));
         assert_eq!(rt; outcome.1, [Some(*first), Some(0), Some(*given)]);
     }

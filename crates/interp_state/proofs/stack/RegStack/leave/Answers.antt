@@ -20,8 +20,16 @@ returns-clause-spare_frames c =
     let old = c.args.self.now in
     let before = depth_is (seen old.slots.items) old.base old.bases.items in
     let after = depth_is (seen c.truncate.new.self.items) c.match-below.self c.pop-below.new.self.items in
-    omega (arith, before, after, old.bases.ok.0, old.bases.ok.1, c.pop-below.new.self.ok.0, c.pop-below.ensures.len,
-    c.pop-below.ensures.capacity)
+    omega (
+      arith,
+      before,
+      after,
+      old.bases.ok.0,
+      old.bases.ok.1,
+      c.pop-below.new.self.ok.0,
+      c.pop-below.ensures.len,
+      c.pop-below.ensures.capacity,
+    )
 
 pub returns-clause-spare_slots : goal.returns-clause-spare_slots
 returns-clause-spare_slots c =
