@@ -470,7 +470,7 @@ fn put(stack: &mut RegStack, given: Option<(u32, Value)>)
     ensures { frames_of stack.new ≡ with_given (given_of given) (frames_of stack.old) }
 {
     if let Some((to, value)) = given {
-        stack.set(to, value);
+        stack.set(to as u64, value);
     }
 }
 

@@ -356,12 +356,13 @@ fn put_arguments(machine: &mut Machine<'_>, function: &PlannedFunction) -> Resul
     if machine.waiting.len() != function.params as usize {
         return Err(lost());
     }
-    machine.current.stack.enter(function.slots)?;
+    machine.current.stack.reserve(1, function.slots as u64)?;
+    machine.current.stack.enter(function.slots as u64);
     let mut slot = function.params;
     for _ in 0..machine.waiting.len() {
         slot = slot.saturating_sub(1);
         match machine.waiting.pop() {
-            Some(value) => machine.current.stack.set(slot, value),
+            Some(value) => machine.current.stack.set(slot as u64, value),
             None => return Err(lost()),
         }
     }
@@ -376,7 +377,7 @@ fn put_bound(machine: &mut Machine<'_>, first: u32, bound: Bound) -> Result<(), 
     match bound {
         Bound::Nothing => Ok(()),
         Bound::Receiver(receiver) => {
-            machine.current.stack.set(first, receiver);
+            machine.current.stack.set(first as u64, receiver);
             Ok(())
         }
         Bound::Captured(captured) => {
@@ -394,7 +395,10 @@ fn put_captured(machine: &mut Machine<'_>, first: u32, captured: &[Address]) -> 
     let mut slot = first;
     for address in captured {
         let address = address.copy()?;
-        machine.current.stack.set(slot, Value::Pointer(address));
+        machine
+            .current
+            .stack
+            .set(slot as u64, Value::Pointer(address));
         let Some(next) = slot.checked_add(1) else {
             return Err(lost());
         };
@@ -477,7 +481,7 @@ fn give_result(machine: &mut Machine<'_>, to: Option<u32>, value: Option<Value>)
     ensures others { machine.new ≡ record machine.old { current = record (machine.old.current) { stack = machine.new.current.stack } } }
 {
     if let (Some(to), Some(value)) = (to, value) {
-        machine.current.stack.set(to, value);
+        machine.current.stack.set(to as u64, value);
     }
 }
 

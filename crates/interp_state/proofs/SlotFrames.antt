@@ -6,16 +6,16 @@ use Rattle.std.proofs.Common.{Bool, true, false, ◌≡◌, ℕ, zero, suc, ◌+
 use Rattle.std.proofs.lemmas.Bool.{eqb-true}
 use Rattle.std.proofs.Common.{◌∙◌, ◌==◌, subst, length, take, drop, reverse, replicate, min, Bor, arith, zero-add, append_assoc}
 use Rattle.std.specs.Prelude.{◌⊎◌, slice_get, slice_set, slice_index_or, option_map, unwrap_or, option_to_list, MatchOption}
-use Rattle.std.specs.Prelude.{option_copied, Result, Ok, Err, is_ok, is_err, OnOk, if◌then◌else◌}
+use Rattle.std.specs.Prelude.{option_copied}
 use Rattle.std.specs.Slice.{IsItemAt}
 use Rattle.std.specs.Option.{option_flatten}
 use Rattle.std.proofs.lemmas.List.{take-map, length-map, map-append, reverse-append, length-reverse, take-set-le}
-use Rattle.std.proofs.lemmas.List.{drop-set-add, map-set, set_past}
+use Rattle.std.proofs.lemmas.List.{drop-set-add, length-drop, map-set, set_past}
 use Rattle.std.proofs.lemmas.Option.{slice_get_past, slice_get-map}
 use Rattle.std.proofs.Math.Nat.{suc-add}
 use Rattle.std.proofs.Math.Seq.{take-append_seam, drop-append_seam}
 use Rattle.interp_state.specs.Frames.{frames_from, seen, without_slot}
-use Rattle.plan_mean.specs.Slots.{below_top, with_frame, slot_in, with_slot}
+use Rattle.plan_mean.specs.Slots.{below_top, top_of, with_frame, slot_in, with_slot}
 use Rattle.go_value.specs.Values.{Val, value_of}
 use Rattle.go_value.specs.declared.values.Value.{Value}
 
@@ -50,6 +50,37 @@ counted slots base (below ∷ others) = ap suc (counted (take base slots) below 
 pub depth_is : {A : Type 0} (slots : List A) (base : ℕ) (bases : List ℕ)
     → length (frames_from slots base (reverse bases)) ≡ length bases
 depth_is slots base bases = counted slots base (reverse bases) ∙ length-reverse bases
+
+-- how many slots the top frame has
+top_counted : {A : Type 0} (slots : List A) (base : ℕ) (others : List ℕ) → 0 < length others
+    → length (top_of (frames_from slots base others)) ≡ length slots - base
+top_counted slots base [] h = let no : ⊥ = omega arith in absurd no
+top_counted slots base (below ∷ others) h = length-drop base slots
+
+pub top_is : (slots : List (Option Value)) (base : ℕ) (bases : List ℕ) → 0 < length bases
+    → length (top_of (frames_from (seen slots) base (reverse bases))) ≡ length slots - base
+top_is slots base bases some =
+    let many : 0 < length (reverse bases) = omega (arith, length-reverse bases) in
+    top_counted (seen slots) base (reverse bases) many
+    ∙ ap (λ k. k - base) (length-map slots (option_map value_of))
+
+pub no_top : (slots : List (Option Value)) (base : ℕ) (bases : List ℕ) → length bases ≡ 0
+    → length (top_of (frames_from (seen slots) base (reverse bases))) ≡ 0
+no_top slots base bases none =
+    ap (λ bases. length (top_of (frames_from (seen slots) base (reverse bases)))) (no_items bases none)
+
+-- what the slots that stay leave to spare
+pub spared : (slots cut : List (Option Value)) (base : ℕ) (bases : List ℕ) (cap : ℕ) → length slots ≤ cap → cap < 2 ^ 63
+    → length cut + (length slots - base) ≡ length slots → (length bases ≡ 0 → base ≡ 2 ^ 64 - 1)
+    → cap - length cut ≡ cap - length slots + length (top_of (frames_from (seen slots) base (reverse bases)))
+spared slots cut base bases cap within small is empty =
+    elim (cases_lt 0 (length bases)) [
+      | inl some ↦ let top = top_is slots base bases some in omega (arith, top)
+      | inr none ↦
+          let no_bases : length bases ≡ 0 = omega arith in
+          let most : base ≡ 2 ^ 64 - 1 = empty no_bases in
+          let top = no_top slots base bases no_bases in omega (arith, top, most)
+    ]
 
 -- ---- a frame more
 
@@ -297,17 +328,7 @@ pub not_within : (place len : ℕ) → (place < len → false ≡ true) → len 
 not_within place len h =
     elim (cases_lt place len) [ inl below ↦ absurd (true≢false (sym (h below))) | inr past ↦ past ]
 
--- ---- results
-
-pub went_well : {A E : Type 0} {P : Type 0} (given : Result A E) (failed : Bool) → failed ≡ is_err given → failed ≡ false
-    → OnOk given P → P
-went_well (Ok it) failed is succeeds h = h
-went_well (Err it) failed is succeeds h = let absurdity : ⊥ = cc in absurd absurdity
-
-pub was_pushed : {A E X : Type 0} (given : Result A E) (failed : Bool) (old new : List X) (it : X) → failed ≡ is_err given
-    → failed ≡ false → new ≡ (if is_ok given then old ++ it ∷ [] else old) → new ≡ old ++ it ∷ []
-was_pushed (Ok _) failed old new it is succeeds h = h
-was_pushed (Err _) failed old new it is succeeds h = let absurdity : ⊥ = cc in absurd absurdity
+-- ---- a frame of unset slots
 
 pub enters : (slots : List (Option Value)) (n base len : ℕ) (bases new : List ℕ) (filled : List (Option Value))
     → len ≡ length slots → filled ≡ slots ++ replicate n None → new ≡ bases ++ base ∷ []

@@ -172,7 +172,7 @@ impl<'a> Machine<'a> {
         ensures { IfOk result (λ it. looked self.now arg.now ≡ Some (value_of it.now)) }
     {
         match arg {
-            Arg::Slot(slot) => match self.current.stack.get(*slot) {
+            Arg::Slot(slot) => match self.current.stack.get(*slot as u64) {
                 Some(value) => Ok(value),
                 None => Err(lost()),
             },
@@ -185,7 +185,7 @@ impl<'a> Machine<'a> {
     fn look_in_cell(&self, slot: u32) -> Result<&Value, NoMemory>
         ensures { IfOk result (λ it. looked self.now (Arg.Cell slot) ≡ Some (value_of it.now)) }
     {
-        match self.current.stack.get(slot) {
+        match self.current.stack.get(slot as u64) {
             Some(Value::Pointer(address)) => match self.store.value_at(address) {
                 Some(value) => Ok(value),
                 None => Err(lost()),
@@ -260,7 +260,7 @@ impl<'a> Machine<'a> {
     pub fn set(&mut self, to: u32, value: Value)
         ensures { Wrote to (value_of value) self.old self.new }
     {
-        self.current.stack.set(to, value);
+        self.current.stack.set(to as u64, value);
     }
 
     /// Gives a register an integer.
@@ -268,7 +268,7 @@ impl<'a> Machine<'a> {
         ensures goes { result ≡ Turn.Goes }
         ensures wrote { Wrote to (vals.number number) self.old self.new }
     {
-        self.current.stack.set_int(to, number);
+        self.current.stack.set_int(to as u64, number);
         Turn::Goes
     }
 
@@ -278,7 +278,7 @@ impl<'a> Machine<'a> {
         ensures goes { result ≡ Turn.Goes }
         ensures wrote { Wrote to (vals.truth truth) self.old self.new }
     {
-        self.current.stack.set(to, Value::Truth(truth));
+        self.current.stack.set(to as u64, Value::Truth(truth));
         Turn::Goes
     }
 
@@ -289,7 +289,7 @@ impl<'a> Machine<'a> {
     {
         match outcome {
             Ok(value) => {
-                self.current.stack.set(to, value);
+                self.current.stack.set(to as u64, value);
                 Turn::Goes
             }
             Err(met) => self.meet(met),

@@ -22,6 +22,7 @@ use code_plan::Arg;
 use go_base::NoMemory;
 use go_type::{CompareOp, ConstOp, IntKind};
 use go_value::{Fault, Value, ValueError, concat, convert_int, int_op, shift_op};
+use int_steps::{compare, negative, operate, turned};
 use interp_state::{Machine, Met, Turn};
 use std::cmp::Ordering;
 
@@ -37,62 +38,6 @@ fn holds(op: CompareOp, order: Ordering) -> bool
         CompareOp::Greater => order.is_gt(),
         CompareOp::GreaterEqual => order.is_ge(),
     }
-}
-
-fn compare(op: CompareOp, a: i128, b: i128) -> bool
-    ensures { result ≡ holds op (int_cmp a b) }
-{
-    match op {
-        CompareOp::Equal => a == b,
-        CompareOp::NotEqual => a != b,
-        CompareOp::Less => a < b,
-        CompareOp::LessEqual => a <= b,
-        CompareOp::Greater => a > b,
-        CompareOp::GreaterEqual => a >= b,
-    }
-}
-
-/// An integer operation.
-fn operate(kind: IntKind, op: ConstOp, a: i128, b: i128) -> Result<i128, Fault>
-    ensures { result ≡ operated kind op a b }
-{
-    match op {
-        ConstOp::Div => quotient(kind, a, b),
-        ConstOp::Rem => remainder(kind, a, b),
-        _ => int_op(kind, op, a, b),
-    }
-}
-
-/// A quotient; in 64 bits where both integers fit.
-fn quotient(kind: IntKind, a: i128, b: i128) -> Result<i128, Fault>
-    ensures { result ≡ operated kind op.Div a b }
-{
-    match (i64::try_from(a), i64::try_from(b)) {
-        (Ok(a), Ok(b)) if b > 0 => Ok(convert_int(kind, divided(a, b))),
-        _ => int_op(kind, ConstOp::Div, a, b),
-    }
-}
-
-fn divided(a: i64, b: i64) -> i128
-    ensures { pos 0 <ℤ b → result ≡ int_div a b }
-{
-    i128::from(a.wrapping_div(b.max(1)))
-}
-
-/// A remainder; in 64 bits where both integers fit.
-fn remainder(kind: IntKind, a: i128, b: i128) -> Result<i128, Fault>
-    ensures { result ≡ operated kind op.Rem a b }
-{
-    match (i64::try_from(a), i64::try_from(b)) {
-        (Ok(a), Ok(b)) if b > 0 => Ok(convert_int(kind, rest(a, b))),
-        _ => int_op(kind, ConstOp::Rem, a, b),
-    }
-}
-
-fn rest(a: i64, b: i64) -> i128
-    ensures { pos 0 <ℤ b → result ≡ int_rem a b }
-{
-    i128::from(a.wrapping_rem(b.max(1)))
 }
 
 /// Two integers.
@@ -231,12 +176,6 @@ pub fn negate(machine: &mut Machine<'_>, kind: IntKind, operand: &Arg, to: u32) 
     }
 }
 
-fn negative(kind: IntKind, number: i128) -> i128
-    ensures { result ≡ wrapped kind (pos 0 -ℤ number) }
-{
-    convert_int(kind, number.wrapping_neg())
-}
-
 /// Each bit of an integer turns.
 pub fn complement(machine: &mut Machine<'_>, kind: IntKind, operand: &Arg, to: u32) -> Turn
     ensures { Steps result machine.old machine.new (λ w. acts w (machine_of machine.old) (act.Complement kind operand.now to)) }
@@ -245,12 +184,6 @@ pub fn complement(machine: &mut Machine<'_>, kind: IntKind, operand: &Arg, to: u
         Ok(number) => machine.set_int(to, turned(kind, number)),
         Err(_) => Turn::WantsMemory,
     }
-}
-
-fn turned(kind: IntKind, number: i128) -> i128
-    ensures { result ≡ wrapped kind (negsuc 0 -ℤ number) }
-{
-    convert_int(kind, !number)
 }
 
 /// A truth value turns.

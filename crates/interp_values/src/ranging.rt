@@ -109,7 +109,7 @@ fn taken_state(machine: &mut Machine<'_>, range: u32) -> Result<RangeState, NoMe
     ensures slots { OnOk result (slots_of machine.new ≡ without_slot range (slots_of machine.old)) }
     ensures others { machine.new ≡ record machine.old { current = record (machine.old.current) { stack = machine.new.current.stack } } }
 {
-    match machine.current.stack.take_slot(range) {
+    match machine.current.stack.take_slot(range as u64) {
         Some(mut value) => state_in(machine, &mut value),
         None => Err(lost()),
     }

@@ -13,7 +13,7 @@ loop-preserved c =
     let here : c.saturating_sub-slot.result ≡ length after =
     omega (arith, less, c.loop.invariant.1.0, c.saturating_sub-slot.ensures) in (
       put_last before after c.in-Some.value c.saturating_sub-slot.result (slots_of c.loop.machine)
-          (frames_of c.set.new.self) _ c.in-Some.ensures.items here c.set.ensures c.loop.invariant.0,
+          (frames_of c.set.new.self) _ c.in-Some.ensures.items here c.set.ensures.slots c.loop.invariant.0,
       (
         here,
         (

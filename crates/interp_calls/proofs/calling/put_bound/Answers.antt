@@ -13,7 +13,7 @@ returns-in-Nothing-clause-others c = refl
 
 pub returns-in-Receiver-clause-slots : goal.returns-in-Receiver-clause-slots
 returns-in-Receiver-clause-slots c =
-    c.set.ensures
+    c.set.ensures.slots
     ∙ sym (ap (λ bound. with_slots_from c.args.first (free_of bound) (slots_of c.args.machine.now)) c.in-Receiver.is)
 
 pub returns-in-Receiver-clause-others : goal.returns-in-Receiver-clause-others

@@ -21,7 +21,7 @@ loop-address-preserved c =
           (take_more all i c.address-item.result c.loop-address-test.true
           ∙ ap (λ (at : Pointer). take i all ++ at ∷ []) (sym c.address-item.is ∙ sym c.in_ok-address.ensures))
           c.loop-address.invariant.1.0 c.loop-address.invariant.0
-          (c.set.ensures
+          (c.set.ensures.slots
           ∙ ap (λ it. with_slot c.loop-address.slot it (slots_of c.loop-address.machine))
           (pointer_is c.in_ok-address.address)),
       (

@@ -5,8 +5,8 @@ use Rattle.go_value.specs.Values as vals
 use Rattle.interp_state.proofs.SlotFrames.{set_seen, unset_past, place_is, past_is, not_within}
 use Rattle.interp_state.proofs.stack.RegStack.set_int.Goals as goal
 
-pub returns-in-Some : goal.returns-in-Some
-returns-in-Some c =
+pub returns-in-Some-clause-slots : goal.returns-in-Some-clause-slots
+returns-in-Some-clause-slots c =
     let slots = c.args.self.now.slots in
     set_seen slots.items c.args.self.now.base c.args.slot c.saturating_add.result c.put_int.new.place
     (vals.number c.args.number) c.args.self.now.bases.items
@@ -14,8 +14,8 @@ returns-in-Some c =
     (c.in-Some.ensures.variant.0 refl) slots.ok.1 slots.small)
     (c.put_int.ensures ∙ ap (λ n. Some (vals.number n)) (to_z-of_z w128 c.args.number c.ranges.number))
 
-pub returns-in_default : goal.returns-in_default
-returns-in_default c =
+pub returns-in_default-clause-slots : goal.returns-in_default-clause-slots
+returns-in_default-clause-slots c =
     let slots = c.args.self.now.slots in
     let past : slots.len ≤ c.args.self.now.base + c.args.slot =
     past_is c.args.self.now.base c.args.slot c.saturating_add.result slots.len c.saturating_add.ensures

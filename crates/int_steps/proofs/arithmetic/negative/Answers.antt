@@ -4,7 +4,7 @@ use Rattle.std.specs.Int.RustNames.{FitsSigned}
 use Rattle.std.proofs.lemmas.Int.{ints, to_z-of_z, wrapping_neg_is}
 use Rattle.go_value.specs.Ints.{wrapped}
 use Rattle.go_value.proofs.Wraps.{wrapped_wrap}
-use Rattle.interp_values.proofs.arithmetic.negative.Goals as goal
+use Rattle.int_steps.proofs.arithmetic.negative.Goals as goal
 
 pub returns : goal.returns
 returns c =
