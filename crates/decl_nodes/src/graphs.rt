@@ -1,5 +1,11 @@
 //! What is asked of graphs over nodes.
 
+ghost use Rattle.std.specs.Prelude.{◌≡◌, [], map, length, replicate, false, true, slice_set, IfOk, OnOk, OnErr, MatchOption};
+ghost use Rattle.go_graph.specs.Graph.{next};
+ghost use Rattle.go_graph.specs.Marks.{AreMarks, ReachesMark, marked};
+ghost use Rattle.go_graph.specs.Silence.{IsFirst};
+ghost use Rattle.decl_nodes.specs.Edges.{IsOrder, with_edge, with_edges};
+
 use crate::error::lost;
 use go_base::NoMemory;
 use go_graph::{
@@ -19,7 +25,9 @@ pub struct Order {
 }
 
 /// The order of a graph.
-pub fn order_of(alloc: Global, graph: &[Vec<usize>]) -> Result<Order, NoMemory> {
+pub fn order_of(alloc: Global, graph: &[Vec<usize>]) -> Result<Order, NoMemory>
+    ensures { IfOk result (λ o. IsOrder (map (λ r. r.items) graph.now) o.of.items o.nodes.items o.cyclic.items) }
+{
     if !is_graph(graph) {
         return Err(lost());
     }
@@ -37,7 +45,9 @@ pub fn reach_marked(
     alloc: Global,
     graph: &[Vec<usize>],
     marks: &[bool],
-) -> Result<Vec<bool>, NoMemory> {
+) -> Result<Vec<bool>, NoMemory>
+    ensures { IfOk result (λ v. AreMarks (length graph.now) (ReachesMark (map (λ r. r.items) graph.now) marks.now) v.items) }
+{
     if !is_graph(graph) || marks.len() != graph.len() {
         return Err(lost());
     }
@@ -47,7 +57,9 @@ pub fn reach_marked(
 }
 
 /// The flag of each node's component.
-fn spread(alloc: Global, of: &[usize], flags: &[bool]) -> Result<Vec<bool>, NoMemory> {
+fn spread(alloc: Global, of: &[usize], flags: &[bool]) -> Result<Vec<bool>, NoMemory>
+    ensures { IfOk result (λ v. v.items ≡ map (marked flags.now) of.now) }
+{
     let mut marks = Vec::new(alloc);
     for component in of {
         marks.push(is_marked(flags, *component))?;
@@ -56,39 +68,57 @@ fn spread(alloc: Global, of: &[usize], flags: &[bool]) -> Result<Vec<bool>, NoMe
 }
 
 /// Whether a place is marked.
-pub fn is_marked(marks: &[bool], place: usize) -> bool {
+pub fn is_marked(marks: &[bool], place: usize) -> bool
+    ensures { result ≡ marked marks.now place }
+{
     marks.get(place).copied().unwrap_or(false)
 }
 
 /// Marks a place.
-pub fn mark(marks: &mut Vec<bool>, place: usize) {
-    if let Some(flag) = marks.get_mut(place) {
-        *flag = true;
+pub fn mark(marks: &mut Vec<bool>, place: usize)
+    ensures { marks.new.items ≡ slice_set marks.old.items place true }
+{
+    if place < marks.len() {
+        marks[place] = true;
     }
 }
 
 /// Nothing is marked.
-pub fn unmarked(alloc: Global, count: usize) -> Result<Vec<bool>, NoMemory> {
-    let mut marks = Vec::new(alloc);
-    for _ in 0..count {
-        marks.push(false)?;
-    }
-    Ok(marks)
+pub fn unmarked(alloc: Global, count: usize) -> Result<Vec<bool>, NoMemory>
+    ensures { IfOk result (λ v. v.items ≡ replicate count false) }
+{
+    Ok(vec![in alloc; false; count]?)
 }
 
 /// No edges yet.
-pub fn no_edges(alloc: Global, count: usize) -> Result<Vec<Vec<usize>>, NoMemory> {
+pub fn no_edges(alloc: Global, count: usize) -> Result<Vec<Vec<usize>>, NoMemory>
+    ensures { IfOk result (λ g. map (λ r. r.items) g.items ≡ replicate count []) }
+{
     let mut graph = Vec::new(alloc);
-    for _ in 0..count {
+    for made in 0..count {
         graph.push(Vec::new(alloc))?;
     }
     Ok(graph)
 }
 
-/// Adds an edge.
-pub fn add_edge(graph: &mut Vec<Vec<usize>>, from: usize, to: usize) -> Result<(), NoMemory> {
-    if let Some(row) = graph.get_mut(from) {
-        row.push(to)?;
+/// Adds an edge. After `NoMemory` all is as before.
+pub fn add_edge(graph: &mut Vec<Vec<usize>>, from: usize, to: usize) -> Result<(), NoMemory>
+    ensures added { OnOk result (map (λ r. r.items) graph.new.items ≡ with_edge from to (map (λ r. r.items) graph.old.items)) }
+    ensures err { OnErr result (map (λ r. r.items) graph.new.items ≡ map (λ r. r.items) graph.old.items) }
+{
+    if from < graph.len() {
+        graph[from].push(to)?;
+    }
+    Ok(())
+}
+
+/// Adds edges from one node. After `NoMemory` all is as before.
+pub fn add_edges(graph: &mut Vec<Vec<usize>>, from: usize, to: &[usize]) -> Result<(), NoMemory>
+    ensures added { OnOk result (map (λ r. r.items) graph.new.items ≡ with_edges from to.now (map (λ r. r.items) graph.old.items)) }
+    ensures err { OnErr result (map (λ r. r.items) graph.new.items ≡ map (λ r. r.items) graph.old.items) }
+{
+    if from < graph.len() {
+        graph[from].extend_from_slice(to)?;
     }
     Ok(())
 }
@@ -98,7 +128,9 @@ pub fn first_heard(
     alloc: Global,
     graph: &[Vec<usize>],
     faults: &[Fault],
-) -> Result<Option<usize>, NoMemory> {
+) -> Result<Option<usize>, NoMemory>
+    ensures { IfOk result (λ o. MatchOption o (faults.now ≡ []) (IsFirst (next (map (λ r. r.items) graph.now)) faults.now)) }
+{
     if !is_graph(graph) || !are_at_nodes(faults, graph.len()) {
         return Err(lost());
     }

@@ -1,9 +1,15 @@
 //! The nodes of declarations, numbered, and what each of them stands on.
 
+ghost use Rattle.std.specs.Prelude.{◌≡◌, map, length, option_copied, slice_get, IfOk, OnOk, OnErr};
+ghost use Rattle.decl_nodes.specs.Edges.{with_edge, with_edges};
+ghost use Rattle.decl_nodes.specs.Numbered.{no_nodes, with_node, with_kind, kind_at};
+
+use crate::graphs::{add_edge, add_edges};
 use go_base::{Bytes, NameId, NoMemory, Pos, TypeId};
 use go_rules::LogicOp;
 use go_type::{CompareOp, Const, ConstOp, Dir, UnaryOp};
 use std::alloc::Global;
+use std::marker::Model;
 
 /// A field of a struct. Go specification, "Struct types".
 #[derive(Drop)]
@@ -162,9 +168,20 @@ pub struct Nodes {
     edges: Vec<Vec<usize>>,
 }
 
+impl Model for Nodes {
+    ghost use Rattle.std.specs.Prelude.{map};
+    ghost use Rattle.decl_nodes.specs.Numbered.{Numbered};
+
+    ghost Value = { Numbered };
+
+    ghost view = { λ n. record { list = n.items.items; edges = map (λ r. r.items) n.edges.items } };
+}
+
 impl Nodes {
     /// No nodes.
-    pub fn new(alloc: Global) -> Nodes {
+    pub fn new(alloc: Global) -> Nodes
+        ensures { result ≡ no_nodes }
+    {
         Nodes {
             alloc,
             items: Vec::new(alloc),
@@ -173,7 +190,10 @@ impl Nodes {
     }
 
     /// Adds a node that stands on nothing yet, and gives its number.
-    pub fn push(&mut self, package: u32, at: Pos, kind: Kind) -> Result<usize, NoMemory> {
+    pub fn push(&mut self, package: u32, at: Pos, kind: Kind) -> Result<usize, NoMemory>
+        ensures number { IfOk result (λ n. n ≡ length self.old.list) }
+        ensures pushed { OnOk result (self.new ≡ with_node (record { «package» = «package»; at = at; kind = kind }) self.old) }
+    {
         let number = self.items.len();
         self.items.push(Node { package, at, kind })?;
         self.edges.push(Vec::new(self.alloc))?;
@@ -181,35 +201,41 @@ impl Nodes {
     }
 
     /// Says what a node is.
-    pub fn set(&mut self, node: usize, kind: Kind) {
-        if let Some(item) = self.items.get_mut(node) {
-            item.kind = kind;
+    pub fn set(&mut self, node: usize, kind: Kind)
+        ensures { self.new ≡ with_kind node kind self.old }
+    {
+        if node < self.items.len() {
+            self.items[node].kind = kind;
         }
     }
 
-    /// A node stands on another.
-    pub fn stand(&mut self, node: usize, on: usize) -> Result<(), NoMemory> {
-        if let Some(row) = self.edges.get_mut(node) {
-            row.push(on)?;
-        }
-        Ok(())
+    /// A node stands on another. After `NoMemory` all is as before.
+    pub fn stand(&mut self, node: usize, on: usize) -> Result<(), NoMemory>
+        ensures stands { OnOk result (self.new ≡ record self.old { edges = with_edge node on self.old.edges }) }
+        ensures err { OnErr result (self.new ≡ self.old) }
+    {
+        add_edge(&mut self.edges, node, on)
     }
 
-    /// A node stands on others.
-    pub fn stand_all(&mut self, node: usize, on: &[usize]) -> Result<(), NoMemory> {
-        if let Some(row) = self.edges.get_mut(node) {
-            row.extend_from_slice(on)?;
-        }
-        Ok(())
+    /// A node stands on others. After `NoMemory` all is as before.
+    pub fn stand_all(&mut self, node: usize, on: &[usize]) -> Result<(), NoMemory>
+        ensures stands { OnOk result (self.new ≡ record self.old { edges = with_edges node on.now self.old.edges }) }
+        ensures err { OnErr result (self.new ≡ self.old) }
+    {
+        add_edges(&mut self.edges, node, on)
     }
 
     /// The node of a number.
-    pub fn get(&self, node: usize) -> Option<&Node> {
+    pub fn get(&self, node: usize) -> Option<&Node>
+        ensures { option_copied result ≡ slice_get self.now.list node }
+    {
         self.items.as_slice().get(node)
     }
 
     /// What a node is.
-    pub fn kind(&self, node: usize) -> Option<&Kind> {
+    pub fn kind(&self, node: usize) -> Option<&Kind>
+        ensures { option_copied result ≡ kind_at self.now.list node }
+    {
         match self.items.as_slice().get(node) {
             Some(item) => Some(&item.kind),
             None => None,
@@ -217,17 +243,23 @@ impl Nodes {
     }
 
     /// The nodes themselves.
-    pub fn as_slice(&self) -> &[Node] {
+    pub fn as_slice(&self) -> &[Node]
+        ensures { result.now ≡ self.now.list }
+    {
         self.items.as_slice()
     }
 
     /// What each node stands on.
-    pub fn edges(&self) -> &[Vec<usize>] {
+    pub fn edges(&self) -> &[Vec<usize>]
+        ensures { map (λ r. r.items) result.now ≡ self.now.edges }
+    {
         self.edges.as_slice()
     }
 
     /// How many nodes there are.
-    pub fn len(&self) -> usize {
+    pub fn len(&self) -> usize
+        ensures { result ≡ length self.now.list }
+    {
         self.items.len()
     }
 }
