@@ -214,8 +214,9 @@ value_goes : SlotsTell → (s : Site) (below : List (List (Option Val))) (regist
     }) x ≡ to new
     → GoesOn s below register o new
 value_goes tell s below register o (to it) new frame does is =
-    let same : record (state_at s below) { slots = with_value s.function register it (slots_of s.frame ∷ below) } ≡ new =
-    cc in
+    let same : record (state_at s below) {
+      slots = with_value s.function register it (slots_of s.frame ∷ below);
+    } ≡ new = cc in
     record {
       value = Some it;
       slots = sym (ap (λ (st : State). st.slots) same) ∙ written tell s below register it frame;
@@ -268,7 +269,8 @@ store_goes s below register at it (to store) new does is =
     let same : record (state_at s below) { store = store } ≡ new = cc in
     record {
       value = None;
-      slots = sym (ap (λ (st : State). st.slots) same) ∙ ap (λ frame. slots_of frame ∷ below) (sym (unwritten s register));
+      slots = sym (ap (λ (st : State). st.slots) same)
+          ∙ ap (λ frame. slots_of frame ∷ below) (sym (unwritten s register));
       acts_so = does (value_somewhere Stored store)
           ∙ ap (λ (st : State). goes_behind s None None (record (s.machine) { store = st.store })) same
           ∙ behind s register (record (s.machine) { store = new.store });

@@ -148,8 +148,8 @@ nil_loaded store at test is holds =
     ap (λ nil. if nil then faults fault.NilPointer else then_to number (of_option (integer_in (loaded store at))))
     (sym is ∙ holds)
 
-pub found_loaded : (store : Stored) (at : Pointer) (test : Bool) (found : Option ℤ) → test ≡ is_none at.cell → test ≡ false
-    → found ≡ integer_in (loaded store at) → int_loaded store at ≡ then_to number (of_option found)
+pub found_loaded : (store : Stored) (at : Pointer) (test : Bool) (found : Option ℤ) → test ≡ is_none at.cell
+    → test ≡ false → found ≡ integer_in (loaded store at) → int_loaded store at ≡ then_to number (of_option found)
 found_loaded store at test found is fails there =
     ap (λ nil. if nil then faults fault.NilPointer else then_to number (of_option (integer_in (loaded store at))))
     (sym is ∙ fails)
@@ -180,7 +180,8 @@ put_as (Ok _) wanted old new at n it is same put nil =
 put_as (Err (errors.Fault met)) wanted old new at n it is same put nil =
     same ∙ ap (λ (cell : Option CellId). if is_none cell then faults fault.NilPointer
     else to (put_in (number n) old at)) nil.0 ∙ ap faults (sym nil.1)
-put_as (Err errors.OutOfMemory) wanted old new at n it is same put nil = λ met fails. none at.cell nil met (sym same ∙ fails)
+put_as (Err errors.OutOfMemory) wanted old new at n it is same put nil =
+    λ met fails. none at.cell nil met (sym same ∙ fails)
   where
     none : (cell : Option CellId) → (cell ≡ None → ⊥) → (met : Fault)
         → (if is_none cell then faults fault.NilPointer else to (put_in (number n) old at))

@@ -1,12 +1,9 @@
 //! Operators. Go specification, "Operators".
 
-ghost use Rattle.std.specs.Prelude.{◌≡◌, ◌-ℤ◌, ◌<ℤ◌, Bool, IfOk, int_div, int_rem, negsuc, pos};
+ghost use Rattle.std.specs.Prelude.{◌≡◌, Bool, IfOk};
 ghost use Rattle.std.specs.Bool.{beq};
-ghost use Rattle.std.specs.Ordering.{int_cmp};
 ghost use Rattle.code_plan.specs.declared.steps.Step.TheVariants as act;
-ghost use Rattle.go_type.specs.declared.constants.ConstOp.TheVariants as op;
 ghost use Rattle.go_type.specs.declared.operators.CompareOp.{CompareOp as Comparison};
-ghost use Rattle.go_value.specs.Ints.{operated, wrapped};
 ghost use Rattle.go_value.specs.Values.{number, truth};
 ghost use Rattle.interp_state.specs.Machines.{machine_of};
 ghost use Rattle.interp_state.specs.States.{looked};
@@ -21,7 +18,7 @@ ghost use Rattle.ssa_mean.specs.Comes.{to};
 use code_plan::Arg;
 use go_base::NoMemory;
 use go_type::{CompareOp, ConstOp, IntKind};
-use go_value::{Fault, Value, ValueError, concat, convert_int, int_op, shift_op};
+use go_value::{Fault, Value, ValueError, concat, shift_op};
 use int_steps::{compare, negative, operate, turned};
 use interp_state::{Machine, Met, Turn};
 use std::cmp::Ordering;
