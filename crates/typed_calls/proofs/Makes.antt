@@ -21,9 +21,10 @@ use Rattle.typed_calls.specs.declared.built_ins.BuiltInCall.{BuiltInCall}
 use Rattle.typed_calls.specs.BuiltIns.{IsCallNode, broken_in, built_in_node, values_in}
 use Rattle.typed_calls.specs.Making.{Form, IsFormed, IsMake, IsSize, added, added_broken, asked_form, exceeds, first_at}
 use Rattle.typed_calls.specs.Making.{form_broken, form_in, formed, ordered}
-use Rattle.typed_calls.specs.Turning.{Asks, IsEach, IsThenSoundly, Turned, Turns}
+use Rattle.typed_parts.specs.Turning.{Asks, IsEach, IsThenSoundly, Turned, Turns}
 use Rattle.typed_calls.proofs.Asks.{node_made}
-use Rattle.typed_calls.proofs.Turns.{asks, came, nothing_came, then_nothing, then_soundly}
+use Rattle.typed_parts.proofs.Turns.{asks, came, nothing_came, then_nothing, then_soundly}
+use Rattle.typed_parts.specs.Limits.{Basis}
 
 pub values_more : (types : Table) (xs : List Seen) (x : Seen)
     → values_in types (xs ++ x ∷ []) ≡ values_in types xs ++ (one_value types x).sound ∷ []
@@ -78,7 +79,7 @@ ordered_stays (Some at) (x ∷ []) e = refl
 ordered_stays (Some at) (x ∷ y ∷ []) e = in_order (x ∷ y ∷ []) (not (exceeds (integer_of x) (integer_of y))) e
 ordered_stays (Some at) (x ∷ y ∷ z ∷ xs) e = refl
 
-abbrev IsMade : BuiltInCall → TypeId → List TypedExpr → Table → Table → Judged TypedExpr → Type 0
+abbrev IsMade : BuiltInCall → TypeId → List TypedExpr → Basis → Basis → Judged TypedExpr → Type 0
 IsMade call form these before after result = IsCallNode call form (Some form) these false before after result
 
 orders : (mid last : Ground) (call : BuiltInCall) (form : TypeId) (at : Option Pos) (v w : Vec TypedExpr) (told : Bool)
@@ -134,7 +135,7 @@ no_sizes old mid call form sizes o h e =
     (items_of o) (ap items_of e) h
 
 -- the form of the arguments, and what is asked of it
-abbrev IsAsked : BuiltInCall → Form → Table → Table → Judged TypedExpr → Type 0
+abbrev IsAsked : BuiltInCall → Form → Basis → Basis → Judged TypedExpr → Type 0
 IsAsked call these before after result =
     IsThenSoundly (Asks (λ types. asked_form types call these)) (λ (form : TypeId). IsMake call form these.sizes) before after result
 

@@ -22,7 +22,8 @@ use Rattle.typed_parts.specs.Wholes.{IsWhole}
 use Rattle.typed_calls.specs.declared.built_ins.BuiltInCall.{BuiltInCall}
 use Rattle.typed_calls.specs.declared.making.Shaped.{Shaped}
 use Rattle.typed_calls.specs.BuiltIns.{IsCallNode, broken_in, values_in}
-use Rattle.typed_calls.specs.Turning.{Asks, IsEach, IsThenSoundly, Keeps}
+use Rattle.typed_parts.specs.Turning.{Asks, IsEach, IsThenSoundly, Keeps}
+use Rattle.typed_parts.specs.Limits.{Basis}
 
 -- the arguments: first a type, and then values; where none is written there is no place of a type
 pub record Form : Type 0 where
@@ -144,11 +145,11 @@ ordered (Some at) (len ∷ cap ∷ []) = record {
 }
 ordered at sizes = fine sizes
 
-abbrev pub IsSize : ℕ → Option Given → Table → Table → Judged TypedExpr → Type 0
+abbrev pub IsSize : ℕ → Option Given → Basis → Basis → Judged TypedExpr → Type 0
 IsSize number size before after result = Keeps (λ types. IsWhole types size BadBuiltInCall) before after result
 
 -- the sizes are whole numbers in order
-abbrev pub IsMake : BuiltInCall → TypeId → List (Option Given) → Table → Table → Judged TypedExpr → Type 0
+abbrev pub IsMake : BuiltInCall → TypeId → List (Option Given) → Basis → Basis → Judged TypedExpr → Type 0
 IsMake call form sizes before after result =
     IsThenSoundly (IsEach IsSize sizes)
     (λ (exprs : List TypedExpr).
@@ -156,7 +157,7 @@ IsMake call form sizes before after result =
     (λ (these : List TypedExpr). IsCallNode call form (Some form) these false)) before after result
 
 -- `make`, or `new` that is not asked for how large its type is
-abbrev pub IsFormed : BuiltInCall → List Seen → Table → Table → Judged TypedExpr → Type 0
+abbrev pub IsFormed : BuiltInCall → List Seen → Basis → Basis → Judged TypedExpr → Type 0
 IsFormed call arguments before after result =
     IsThenSoundly (Asks (λ types. formed types call.at arguments))
     (λ (these : Form). IsThenSoundly (Asks (λ types. asked_form types call these))

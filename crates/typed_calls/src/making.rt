@@ -5,7 +5,7 @@ ghost use Rattle.typed_parts.specs.Joining.{listed};
 ghost use Rattle.typed_parts.specs.Judged.{reported};
 ghost use Rattle.typed_parts.specs.Numbers.{integer_of};
 ghost use Rattle.typed_calls.specs.Making.{IsFormed, IsMake, IsSize, added, added_broken, all_sound, asked_form, exceeds, first_at, form_broken, form_in, form_of, is_new, is_sound, make_asked, new_asked, order_broken, ordered, sizes_of};
-ghost use Rattle.typed_calls.specs.Turning.{IsEach, Turns};
+ghost use Rattle.typed_parts.specs.Turning.{IsEach, Turns};
 
 use crate::built_ins::BuiltInCall;
 use go_base::{NoMemory, Pos, Rule, TypeId};

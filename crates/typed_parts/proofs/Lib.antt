@@ -6,3 +6,4 @@ pub mod InBoxes
 pub mod Arms
 pub mod Adapts
 pub mod Wholes
+pub mod Turns

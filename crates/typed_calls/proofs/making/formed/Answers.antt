@@ -3,7 +3,7 @@ use Rattle.std.specs.Global.{Vec}
 use Rattle.typed_parts.specs.declared.meaning.Given.{Given}
 use Rattle.std.proofs.Common.{Option}
 use Rattle.typed_calls.specs.Making.{IsMake, form_of}
-use Rattle.typed_calls.specs.Turning.{Turns}
+use Rattle.typed_parts.specs.Turning.{Turns}
 use Rattle.typed_calls.proofs.Grows.{no_first, same_some, zip_first, zip_second}
 use Rattle.typed_calls.proofs.Makes.{forms_made, forms_nothing}
 use Rattle.typed_calls.proofs.making.formed.Goals as goal
