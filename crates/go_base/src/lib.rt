@@ -8,6 +8,7 @@ mod ids;
 mod line;
 mod memory;
 mod names;
+mod paths;
 mod place;
 mod rule;
 mod target;
@@ -19,6 +20,7 @@ pub use ids::{BlockId, CellId, ChanId, FuncId, GoId, MapId, NameId, TypeId, VarI
 pub use line::{MAX_FILE_BYTES, line_column};
 pub use memory::NoMemory;
 pub use names::Names;
+pub use paths::rest_below;
 pub use place::{Place, Pos};
 pub use rule::Rule;
 pub use target::Target;

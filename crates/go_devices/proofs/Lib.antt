@@ -1,4 +1,3 @@
 mod Listed
-mod Below
 mod Trees
 mod Streams

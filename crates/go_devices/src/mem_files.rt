@@ -3,11 +3,11 @@
 ghost use Rattle.std.specs.Prelude.{map, string_bytes, option_copied, ◌≡◌, ◌↔◌, ℕ, List, [], Some, IfOk, OnErr, IsErrOf, IsTrue, bytes_eq, if◌then◌else◌};
 ghost use Rattle.std.specs.List.Sorted.{IsStrictlyIncreasing};
 ghost use Rattle.go_devices.specs.CallPlan.{after_call, fails_next};
-ghost use Rattle.go_base.specs.Devices.{ListsTree, ReadsTree, file_at, rest_below, name_in, names_in, is_directory};
+ghost use Rattle.go_base.specs.Devices.{ListsTree, ReadsTree, file_at, name_in, names_in, is_directory};
 ghost use Rattle.go_devices.specs.Memory.{tree_of};
 
 use crate::call_plan::FaultPlan;
-use go_base::{FileError, Files, NoMemory};
+use go_base::{FileError, Files, NoMemory, rest_below};
 use std::alloc::Global;
 use std::collections::BTreeMap;
 use std::marker::Model;
@@ -58,16 +58,6 @@ impl MemFiles {
         self.files.insert(path, bytes)?;
         Ok(())
     }
-}
-
-/// What a path has after a directory that it lies below.
-fn rest_below<'a>(dir: &str, path: &'a str) -> Option<&'a str>
-    ensures { option_copied result ≡ rest_below dir.now path.now }
-{
-    if dir == "." {
-        return Some(path);
-    }
-    path.strip_prefix(dir)?.strip_prefix('/')
 }
 
 /// The name of a file that lies in a directory itself.

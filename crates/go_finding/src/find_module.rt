@@ -10,8 +10,8 @@ ghost use Rattle.go_finding.specs.Refusals.{Stops};
 use crate::error::LoadError;
 use crate::file_bytes::{read_whole, refuse_at};
 use crate::go_mod::read_go_mod;
-use crate::paths::{is_plain, join, join_with_slash, parent, rest_below};
-use go_base::{Files, NoMemory};
+use crate::paths::{is_plain, join, join_with_slash, parent};
+use go_base::{Files, NoMemory, rest_below};
 use std::alloc::Global;
 
 /// A module, and the directory of its go.mod.

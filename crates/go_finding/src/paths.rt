@@ -1,8 +1,6 @@
 //! Paths of files and directories: components joined by `/`, where `.` is the directory of the paths themselves.
 
 ghost use Rattle.std.specs.Prelude.{◌≡◌, ◌<◌, IfOk, IfSome, option_map, string_bytes};
-ghost use Rattle.std.specs.Option.{option_copied};
-ghost use Rattle.go_base.specs.Devices.{rest_below};
 ghost use Rattle.go_finding.specs.Imports.{is_plain, is_plain_component};
 ghost use Rattle.go_finding.specs.Paths.{depth, path_in, with_slash, LiesIn};
 
@@ -45,17 +43,6 @@ pub fn join_with_slash(alloc: Global, front: &str, rest: &str) -> Result<String,
     path.push_str("/")?;
     path.push_str(rest)?;
     Ok(path)
-}
-
-/// What a path has after a directory in which it lies: None for the directory itself, and where the path lies
-/// elsewhere.
-pub fn rest_below<'a>(dir: &str, path: &'a str) -> Option<&'a str>
-    ensures { option_copied result ≡ rest_below dir.now path.now }
-{
-    if dir == "." {
-        return Some(path);
-    }
-    path.strip_prefix(dir)?.strip_prefix('/')
 }
 
 /// Whether a path has no component that is empty, `.` or `..`.

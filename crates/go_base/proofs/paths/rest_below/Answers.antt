@@ -1,7 +1,7 @@
 use Rattle.std.proofs.Common.{◌∙◌, ◌∷◌, ◌++◌, ap, sym, lit<, rules}
 use Rattle.std.proofs.lemmas.Str.Pattern.{strip_prefix_char}
-use Rattle.go_devices.proofs.Below.{below_no, below_stripped, rest_below_other}
-use Rattle.go_devices.proofs.mem_files.rest_below.Goals as goal
+use Rattle.go_base.proofs.Below.{below_no, below_stripped, rest_below_other}
+use Rattle.go_base.proofs.paths.rest_below.Goals as goal
 
 pub returns-in_err-strip_prefix : goal.returns-in_err-strip_prefix
 returns-in_err-strip_prefix c =
