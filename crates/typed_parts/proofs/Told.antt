@@ -7,7 +7,7 @@ use Rattle.go_base.specs.declared.memory.NoMemory.{NoMemory}
 use Rattle.go_base.specs.declared.place.Pos.{Pos}
 use Rattle.go_base.specs.declared.rule.Rule.TheVariants.{TypeTooLarge}
 use Rattle.go_type.specs.Same.{same_id, same_id-Decides}
-use Rattle.go_type.specs.Sizes.{leaves_to}
+use Rattle.go_type.specs.Sizes.{leaves_to, nests_within}
 use Rattle.go_type.specs.Table.{Table}
 use Rattle.type_sizes.specs.declared.sizes.Size.{Size}
 use Rattle.type_sizes.specs.Known.{IsSizeOf}
@@ -40,12 +40,12 @@ within_limits types id size is e h = record {
 }
 
 pub not_true : (b : Bool) → not b ≡ true → b ≡ false
-not_true true e = e
+not_true true e = sym e
 not_true false e = refl
 
 pub not_false : (b : Bool) → not b ≡ false → b ≡ true
 not_false true e = refl
-not_false false e = e
+not_false false e = sym e
 
 le_true : (a b : ℕ) → nat_le a b ≡ true → a ≤ b
 le_true a b e = search (arith, tests)
@@ -150,3 +150,21 @@ limits_apart types id leaves within (IsTooLarge.too_many more) = above leaves (l
   where
     above : (n m : ℕ) → n ≡ m → n ≤ 1048576 → 1048576 < m → ⊥
     above n m e low high = omega arith
+
+-- what is known of types whose sizes stay
+pub settled_right : (old later : Table) (base : Basis) (p : TypeId → Bool)
+    → ((a : TypeId) (n : ℕ) → p a ≡ true → leaves_to n later a ≡ leaves_to n old a)
+    → ((a : TypeId) (n : ℕ) → p a ≡ true → nests_within n later a ≡ nests_within n old a)
+    → ((id : TypeId) (leaves : ℕ) → known base id ≡ Some leaves → p id ≡ true)
+    → IsRight (record base { types = old }) → IsRight (record base { types = later })
+settled_right old later base p leaves nests settled right = λ id many is.
+    let was = right id many is in
+    let there = settled id many is in
+    record {
+      nests = λ nested. was.nests (record {
+        nested = (nested.nested.0, sym (nests id nested.nested.0 there) ∙ nested.nested.1);
+        above = sym (nests id 1000 there) ∙ nested.above;
+      });
+      has = was.has ∙ sym (leaves id 1000 there);
+      few = was.few;
+    }
