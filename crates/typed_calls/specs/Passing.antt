@@ -25,7 +25,6 @@ use Rattle.typed_calls.specs.declared.calling.CallSite.{CallSite}
 use Rattle.typed_calls.specs.declared.calling.NumberBreach.{NumberBreach}
 use Rattle.typed_calls.specs.declared.calling.NumberBreach.TheVariants as breach
 use Rattle.typed_calls.specs.declared.packing.Plan.{Plan}
-use Rattle.typed_parts.specs.Limits.{Basis}
 
 -- ---- the number of arguments
 
@@ -121,7 +120,7 @@ abbrev pub signature_of : Table → TypeId → Option Signature
 signature_of types of = function_term (underlying_term_of types of)
 
 -- a call is of its one result, or of none or several values, whose type is held
-abbrev pub IsResultOf : Basis → Basis → List TypeId → TypeId → Type 0
+abbrev pub IsResultOf : Table → Table → List TypeId → TypeId → Type 0
 IsResultOf before after (only ∷ []) of = (after ≡ before) × (of ≡ only)
 IsResultOf before after results of =
     (term_at after of ≡ Some (Tuple results)) × (after ≡ with_term (Tuple results) before)
