@@ -24,12 +24,13 @@ use Rattle.typed_calls.specs.declared.converting.UntypedConversion.{UntypedConve
 use Rattle.typed_calls.specs.Converting.{IsConverted, IsConvertedAs, IsExplicit, IsExplicitNode, IsTypedAs, IsTypedConverted}
 use Rattle.typed_calls.specs.Converting.{IsRetypedAt, IsUntypedAs, IsUntypedConverted, IsValueOfKind, MayConvert, constant_conversion}
 use Rattle.typed_calls.specs.Converting.{moved, moved_result, placed, untyped_conversion}
-use Rattle.typed_calls.specs.Turning.{Asks, IsThenSoundly, Keeps, Soundly, Turned, Turns}
-use Rattle.typed_calls.proofs.Turns.{asks, came, followed, kept_reports, weaker}
+use Rattle.typed_parts.specs.Turning.{Asks, IsThenSoundly, Keeps, Soundly, Turned, Turns}
+use Rattle.typed_parts.proofs.Turns.{asks, came, followed, held_reports, kept_reports, weaker}
+use Rattle.typed_parts.specs.Limits.{Basis, basis}
 
 -- a function that is asked of what a first rule made, and a rule of what it gives
-pub after_function : {A B C : Type 0} (old mid last new : Ground) (First : Table → Table → Judged A → Type 0)
-    (rule : A → Judged B) (Next : B → Table → Table → Judged C → Type 0) (o : Option A) (p : Option B)
+pub after_function : {A B C : Type 0} (old mid last new : Ground) (First : Basis → Basis → Judged A → Type 0)
+    (rule : A → Judged B) (Next : B → Basis → Basis → Judged C → Type 0) (o : Option A) (p : Option B)
     (result : Result (Option C) NoMemory) → Turned old mid o First → p ≡ (judged o rule).sound
     → last ≡ reported mid (judged o rule).broken → Turns last new result (Soundly Next p)
     → Turns old new result (IsThenSoundly First (λ x. IsThenSoundly (Asks (λ types. rule x)) Next))
@@ -48,7 +49,7 @@ pub converted_by : (old new : Ground) (at : Pos) (to : TypeId) (x : Given) (by :
     → Turns old new result (IsConvertedAs by at x to) → Turns old new result (IsConverted at to x)
 converted_by old new at to x by result e h =
     weaker old new (IsConvertedAs by at x to) (IsConverted at to x) result
-    (λ (one : Judged TypedExpr) is. subst (λ (b : ConstantConversion). IsConvertedAs b at x to old.types new.types one) e is) h
+    (λ (one : Judged TypedExpr) is. subst (λ (b : ConstantConversion). IsConvertedAs b at x to (basis old) (basis new) one) e is) h
 
 -- a function that breaks no rule, unless memory ran out
 pub made_by : {A : Type 0} (old : Ground) (rule : Table → Judged A) (came : Result (Option A) NoMemory)
@@ -69,7 +70,7 @@ pub untyped_by : (old new : Ground) (at : Pos) (to : TypeId) (expr : TypedExpr) 
     → Turns old new result (IsUntypedAs by at expr to) → Turns old new result (IsUntypedConverted at expr kind to)
 untyped_by old new at to expr kind by result e h =
     weaker old new (IsUntypedAs by at expr to) (IsUntypedConverted at expr kind to) result
-    (λ (one : Judged TypedExpr) is. subst (λ (b : UntypedConversion). IsUntypedAs b at expr to old.types new.types one) e is) h
+    (λ (one : Judged TypedExpr) is. subst (λ (b : UntypedConversion). IsUntypedAs b at expr to (basis old) (basis new) one) e is) h
 
 -- a conversion of what came
 pub explicit_made : (g : Ground) (at : Pos) (to : TypeId) (expr : TypedExpr) (made : Result TypedExpr NoMemory)
@@ -94,9 +95,9 @@ typed_made old new at to expr (Ok x) result grows definitions same may h e =
     subst (λ (r : Result (Option TypedExpr) NoMemory). Turns old new r (IsTypedConverted at expr to)) (sym e)
     (record {
       judged = fine x;
-      is = record { grows = grows; definitions = definitions; is = IsTypedAs.converted x may h };
+      is = record { within = ap (λ (g : Ground). (basis g).within) same; grows = grows; definitions = definitions; is = IsTypedAs.converted x may h };
       answers = refl;
-      reports = same;
+      reports = held_reports old new [] same;
     })
 
 pub typed_refused : (old mid new : Ground) (at : Pos) (to : TypeId) (expr : TypedExpr) (answer : Option TypedExpr)
@@ -105,18 +106,24 @@ pub typed_refused : (old mid new : Ground) (at : Pos) (to : TypeId) (expr : Type
     → answer ≡ None → new ≡ reported mid (record { at = at; rule = BadConversion } ∷ [])
     → Turns old new (came answer) (IsTypedConverted at expr to)
 typed_refused old mid new at to expr answer grows definitions same never a r =
-    let whole : new ≡ reported (record old { types = mid.types }) (record { at = at; rule = BadConversion } ∷ []) = r ∙ ap (λ (g : Ground). reported g (record { at = at; rule = BadConversion } ∷ [])) same in
+    let broken : List Broken = record { at = at; rule = BadConversion } ∷ [] in
+    let whole : new ≡ reported (record old { types = mid.types }) broken = r ∙ ap (λ (g : Ground). reported g broken) same in
     let types : new.types ≡ mid.types = ap (λ (g : Ground). g.types) r in
     record {
       judged = breaks at BadConversion;
-      is = subst (λ (t : Table). IsTypedConverted at expr to old.types t (breaks at BadConversion)) (sym types)
-          (record { grows = grows; definitions = definitions; is = IsTypedAs.refused never });
+      is = record {
+        within = ap (λ (g : Ground). (basis g).within) whole;
+        grows = subst (λ (t : Table). Grows old.types t) (sym types) grows;
+        definitions = subst (λ (t : Table). KeepsDefinitions old.types t) (sym types) definitions;
+        is = subst (λ (t : Table). IsTypedAs at expr to old.types t (breaks at BadConversion)) (sym types) (IsTypedAs.refused never);
+      };
       answers = a;
-      reports = subst (λ (t : Table). new ≡ reported (record old { types = t }) (record { at = at; rule = BadConversion } ∷ [])) (sym types) whole;
+      reports = held_reports old new broken
+          (subst (λ (t : Table). new ≡ reported (record old { types = t }) broken) (sym types) whole);
     }
 
 -- of a list that came
-pub list_came : {A : Type 0} (old new : Ground) (Is : Table → Table → Judged (List A) → Type 0)
+pub list_came : {A : Type 0} (old new : Ground) (Is : Basis → Basis → Judged (List A) → Type 0)
     (came : Result (Option (Vec A)) NoMemory) (o : Option (Vec A)) → came ≡ Ok o → Turns old new (listed came) Is
     → Turned old new (items_of o) Is
 list_came {A} old new Is came o e h = subst (λ (r : Result (Option (Vec A)) NoMemory). Turns old new (listed r) Is) e h
@@ -131,7 +138,7 @@ retyped_placed old new at to expr (Ok answer) result h e =
     subst (λ (r : Result (Option TypedExpr) NoMemory). Turns old new r (Keeps (λ (types : Table). IsRetypedAt types at expr to))) (sym e)
     (record {
       judged = placed at h.judged;
-      is = (ap (λ (g : Ground). g.types) h.reports, (h.judged, (h.is, refl)));
+      is = (ap basis h.reports, (h.judged, (h.is, refl)));
       answers = ap (option_map (moved at)) h.answers;
       reports = kept_reports old new h.judged.broken h.reports;
     })

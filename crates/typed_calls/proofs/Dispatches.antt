@@ -9,7 +9,7 @@ use Rattle.typed_parts.specs.declared.meaning.Given.{Given}
 use Rattle.typed_calls.specs.declared.built_ins.BuiltInCall.{BuiltInCall}
 use Rattle.typed_calls.specs.Dispatch.{IsOfOne}
 use Rattle.typed_calls.specs.Measuring.{IsLength}
-use Rattle.typed_calls.specs.Turning.{Turns}
+use Rattle.typed_parts.specs.Turning.{Turns}
 
 pub one_by : (old new : Ground) (call : BuiltInCall) (x : Given) (b : Builtin) (result : Result (Option TypedExpr) NoMemory)
     → call.builtin ≡ b → Turns old new result (IsOfOne b call x) → Turns old new result (IsOfOne call.builtin call x)

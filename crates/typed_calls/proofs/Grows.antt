@@ -16,16 +16,17 @@ use Rattle.typed_parts.specs.Judged.{Broken, Judged, reported}
 use Rattle.typed_calls.specs.declared.built_ins.BuiltInCall.{BuiltInCall}
 use Rattle.typed_calls.specs.BuiltIns.{built_in_node}
 use Rattle.typed_calls.specs.Growing.{IsAppendNode, IsBehind, IsItem, first_type, is_zero, slice_value}
-use Rattle.typed_calls.specs.Turning.{Asks, IsThenSoundly, Soundly, Turned, Turns}
+use Rattle.typed_parts.specs.Turning.{Asks, IsThenSoundly, Soundly, Turned, Turns}
 use Rattle.typed_calls.proofs.Asks.{node_made}
-use Rattle.typed_calls.proofs.Turns.{asks, came, nothing, nothing_came, nothing_made, something, then_nothing, then_soundly}
+use Rattle.typed_parts.proofs.Turns.{asks, came, nothing, nothing_came, nothing_made, something, then_nothing, then_soundly}
+use Rattle.typed_parts.specs.Limits.{Basis}
 
 abbrev pub list_if : {A : Type 0} → List A → Bool → List Broken → Judged (List A)
 list_if xs takes broken = record { sound = only (Some xs) takes; broken = broken }
 
 -- a list of which something was asked
 pub kept_list : {A B : Type 0} (old mid new : Ground) (v w : Vec A) (takes told : Bool) (broken : List Broken)
-    (Next : List A → Table → Table → Judged B → Type 0) (result : Result (Option B) NoMemory)
+    (Next : List A → Basis → Basis → Judged B → Type 0) (result : Result (Option B) NoMemory)
     → told ≡ takes → only (Some v) told ≡ Some w → mid ≡ reported old broken → Turns mid new result (Next w.items)
     → Turns old new result (IsThenSoundly (Asks (λ types. list_if v.items takes broken)) Next)
 kept_list old mid new v w takes false broken Next result t e r h = cc
@@ -38,7 +39,7 @@ kept_list {A} {B} old mid new v w takes true broken Next result t e r h =
     here
 
 pub no_list : {A B : Type 0} (old mid : Ground) (v : Vec A) (takes told : Bool) (broken : List Broken)
-    (Next : List A → Table → Table → Judged B → Type 0) → told ≡ takes → only (Some v) told ≡ None
+    (Next : List A → Basis → Basis → Judged B → Type 0) → told ≡ takes → only (Some v) told ≡ None
     → mid ≡ reported old broken
     → Turns old mid (nothing_came {A = B}) (IsThenSoundly (Asks (λ types. list_if v.items takes broken)) Next)
 no_list old mid v takes true broken Next t e r = cc

@@ -1,4 +1,3 @@
-pub mod Turns
 pub mod Asks
 pub mod Moves
 pub mod Makes

@@ -8,6 +8,7 @@ use Rattle.go_base.specs.declared.ids.TypeId.{TypeId}
 use Rattle.go_base.specs.declared.memory.NoMemory.{NoMemory}
 use Rattle.go_base.specs.declared.place.Pos.{Pos}
 use Rattle.go_tree.specs.declared.exprs.TypedExpr.{TypedExpr}
+use Rattle.go_type.specs.declared.term.TypeTerm.TheVariants.{Pointer}
 use Rattle.go_type.specs.Table.{Table}
 use Rattle.typed_parts.specs.declared.ground.Ground.{Ground}
 use Rattle.typed_parts.specs.declared.meaning.Given.{Given}
@@ -15,15 +16,17 @@ use Rattle.typed_parts.specs.declared.meaning.Seen.{Seen}
 use Rattle.typed_parts.specs.Judged.{Broken, Judged, reported}
 use Rattle.typed_parts.specs.Meanings.{one_value, type_of}
 use Rattle.typed_parts.proofs.Reports.{reported_after}
+use Rattle.typed_parts.proofs.Told.{was_granted, was_refused}
 use Rattle.typed_parts.specs.Joining.{items_of, only}
 use Rattle.typed_parts.specs.Numbers.{integer_of}
 use Rattle.typed_calls.specs.declared.built_ins.BuiltInCall.{BuiltInCall}
 use Rattle.typed_calls.specs.BuiltIns.{IsCallNode, broken_in, built_in_node, values_in}
-use Rattle.typed_calls.specs.Making.{Form, IsFormed, IsMake, IsSize, added, added_broken, asked_form, exceeds, first_at}
-use Rattle.typed_calls.specs.Making.{form_broken, form_in, formed, ordered}
-use Rattle.typed_calls.specs.Turning.{Asks, IsEach, IsThenSoundly, Turned, Turns}
+use Rattle.typed_calls.specs.Making.{Form, IsFormed, IsMadeBy, IsMake, IsNew, IsSize, added, added_broken, asked_form, exceeds, first_at}
+use Rattle.typed_calls.specs.Making.{form_broken, form_in, formed, is_new, ordered}
+use Rattle.typed_parts.specs.Turning.{Asks, IsEach, IsHeld, IsThenSoundly, Turned, Turns}
 use Rattle.typed_calls.proofs.Asks.{node_made}
-use Rattle.typed_calls.proofs.Turns.{asks, came, nothing_came, then_nothing, then_soundly}
+use Rattle.typed_parts.proofs.Turns.{asks, came, nothing_came, then_nothing, then_soundly}
+use Rattle.typed_parts.specs.Limits.{Basis, IsLimited, granted}
 
 pub values_more : (types : Table) (xs : List Seen) (x : Seen)
     → values_in types (xs ++ x ∷ []) ≡ values_in types xs ++ (one_value types x).sound ∷ []
@@ -78,7 +81,7 @@ ordered_stays (Some at) (x ∷ []) e = refl
 ordered_stays (Some at) (x ∷ y ∷ []) e = in_order (x ∷ y ∷ []) (not (exceeds (integer_of x) (integer_of y))) e
 ordered_stays (Some at) (x ∷ y ∷ z ∷ xs) e = refl
 
-abbrev IsMade : BuiltInCall → TypeId → List TypedExpr → Table → Table → Judged TypedExpr → Type 0
+abbrev IsMade : BuiltInCall → TypeId → List TypedExpr → Basis → Basis → Judged TypedExpr → Type 0
 IsMade call form these before after result = IsCallNode call form (Some form) these false before after result
 
 orders : (mid last : Ground) (call : BuiltInCall) (form : TypeId) (at : Option Pos) (v w : Vec TypedExpr) (told : Bool)
@@ -134,9 +137,9 @@ no_sizes old mid call form sizes o h e =
     (items_of o) (ap items_of e) h
 
 -- the form of the arguments, and what is asked of it
-abbrev IsAsked : BuiltInCall → Form → Table → Table → Judged TypedExpr → Type 0
+abbrev IsAsked : BuiltInCall → Form → Basis → Basis → Judged TypedExpr → Type 0
 IsAsked call these before after result =
-    IsThenSoundly (Asks (λ types. asked_form types call these)) (λ (form : TypeId). IsMake call form these.sizes) before after result
+    IsThenSoundly (Asks (λ types. asked_form types call these)) (λ (form : TypeId). IsMadeBy (is_new call.builtin) call form these.sizes) before after result
 
 forms : (old mid new : Ground) (call : BuiltInCall) (arguments : List Seen) (f : Form) (result : Result (Option TypedExpr) NoMemory)
     → f ≡ form_in old.types call.at arguments → mid ≡ reported old (form_broken old.types arguments)
@@ -149,10 +152,10 @@ pub forms_made : (old mid last new : Ground) (call : BuiltInCall) (arguments : L
     (form : TypeId) (result : Result (Option TypedExpr) NoMemory)
     → f ≡ form_in old.types call.at arguments → mid ≡ reported old (form_broken old.types arguments)
     → p ≡ (asked_form mid.types call f).sound → last ≡ reported mid (asked_form mid.types call f).broken → p ≡ Some form
-    → Turns last new result (IsMake call form f.sizes) → Turns old new result (IsFormed call arguments)
+    → Turns last new result (IsMadeBy (is_new call.builtin) call form f.sizes) → Turns old new result (IsFormed call arguments)
 forms_made old mid last new call arguments f p form result e r a b k h =
     forms old mid new call arguments f result e r
-    (then_soundly mid last new (Asks (λ (types : Table). asked_form types call f)) (λ (of : TypeId). IsMake call of f.sizes) p form result k
+    (then_soundly mid last new (Asks (λ (types : Table). asked_form types call f)) (λ (of : TypeId). IsMadeBy (is_new call.builtin) call of f.sizes) p form result k
     (asks mid last (λ (types : Table). asked_form types call f) p a b) h)
 
 pub forms_nothing : (old mid last : Ground) (call : BuiltInCall) (arguments : List Seen) (f : Form) (p : Option TypeId)
@@ -161,5 +164,34 @@ pub forms_nothing : (old mid last : Ground) (call : BuiltInCall) (arguments : Li
     → Turns old last (nothing_came {A = TypedExpr}) (IsFormed call arguments)
 forms_nothing old mid last call arguments f p e r a b k =
     forms old mid last call arguments f (nothing_came {A = TypedExpr}) e r
-    (then_nothing mid last (Asks (λ (types : Table). asked_form types call f)) (λ (of : TypeId). IsMake call of f.sizes) p k
+    (then_nothing mid last (Asks (λ (types : Table). asked_form types call f)) (λ (of : TypeId). IsMadeBy (is_new call.builtin) call of f.sizes) p k
     (asks mid last (λ (types : Table). asked_form types call f) p a b))
+
+-- ---- new
+
+abbrev IsPlaced : BuiltInCall → TypeId → TypeId → Basis → Basis → Judged TypedExpr → Type 0
+IsPlaced call form pointer before after result =
+    IsThenSoundly (IsLimited call.at pointer) (λ (fits : Unit {0}). IsCallNode call pointer (Some form) [] false) before after result
+
+pub new_made : (old mid last : Ground) (call : BuiltInCall) (form pointer : TypeId) (fits : Bool) (v : Vec TypedExpr) (made : TypedExpr)
+    → Turned old mid (Some pointer) (IsHeld (Pointer form)) → Turns {E = NoMemory} mid last (granted (Ok fits)) (IsLimited call.at pointer)
+    → fits ≡ true → v.items ≡ [] → made ≡ built_in_node call pointer (Some form) v false → Turns old last (came (Some made)) (IsNew call form)
+new_made old mid last call form pointer fits v made held limits e none m =
+    then_soundly old mid last (IsHeld (Pointer form)) (IsPlaced call form) (Some pointer) pointer (came (Some made)) refl held
+    (then_soundly mid last last (IsLimited call.at pointer) (λ (fits : Unit {0}). IsCallNode call pointer (Some form) [] false) (Some tt) tt (came (Some made)) refl
+    (was_granted mid last (IsLimited call.at pointer) fits e limits)
+    (node_made last call pointer (Some form) [] false v made none m))
+
+pub new_refused : (old mid last : Ground) (call : BuiltInCall) (form pointer : TypeId) (fits : Bool)
+    → Turned old mid (Some pointer) (IsHeld (Pointer form)) → Turns {E = NoMemory} mid last (granted (Ok fits)) (IsLimited call.at pointer)
+    → fits ≡ false → Turns old last (nothing_came {A = TypedExpr}) (IsNew call form)
+new_refused old mid last call form pointer fits held limits e =
+    then_soundly old mid last (IsHeld (Pointer form)) (IsPlaced call form) (Some pointer) pointer (nothing_came {A = TypedExpr}) refl held
+    (then_nothing mid last (IsLimited call.at pointer) (λ (fits : Unit {0}). IsCallNode call pointer (Some form) [] false) None refl
+    (was_refused mid last (IsLimited call.at pointer) fits e limits))
+
+pub made_by : (old new : Ground) (call : BuiltInCall) (form : TypeId) (sizes : List (Option Given)) (b told : Bool)
+    (result : Result (Option TypedExpr) NoMemory) → told ≡ is_new call.builtin → told ≡ b
+    → Turns old new result (IsMadeBy b call form sizes) → Turns old new result (IsMadeBy (is_new call.builtin) call form sizes)
+made_by old new call form sizes b told result e f h =
+    subst (λ (d : Bool). Turns old new result (IsMadeBy d call form sizes)) (sym f ∙ e) h

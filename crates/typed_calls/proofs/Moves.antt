@@ -26,9 +26,9 @@ use Rattle.typed_calls.specs.BuiltIns.{IsAction, built_in_node}
 use Rattle.typed_calls.specs.Measuring.{IsLengthOf, IsMeasured, constant_length, has_length}
 use Rattle.typed_calls.specs.Moving.{IsCopiedFrom, IsCopy, IsCopyAfter, IsCopyOf, IsCopyTo, IsDelete, IsDeletedFrom}
 use Rattle.typed_calls.specs.Moving.{IsDeletion, IsSource, MayCopy, copied_to, deleted_from, key_type}
-use Rattle.typed_calls.specs.Turning.{Asks, Keeps, Soundly, Turned, Turns}
-use Rattle.typed_calls.proofs.Asks.{asked_fact, asked_test, first_came, keeps_comes, outcome_of, second_stays}
-use Rattle.typed_calls.proofs.Turns.{asks, followed, keeps, then_soundly}
+use Rattle.typed_parts.specs.Turning.{Asks, Keeps, Soundly, Turned, Turns}
+use Rattle.typed_calls.proofs.Asks.{asked_fact}
+use Rattle.typed_parts.proofs.Turns.{asked_test, asks, first_came, followed, keeps, keeps_comes, outcome_of, second_stays, then_soundly}
 
 pub deletes : (old mid last new : Ground) (call : BuiltInCall) (m key there : Option Given) (of : Option TypeId)
     (came : Result (Option TypedExpr) NoMemory) (k : Option TypedExpr) (n : Option Given)

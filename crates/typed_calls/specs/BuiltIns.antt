@@ -12,9 +12,8 @@ use Rattle.go_tree.specs.declared.exprs.ExprKind.TheVariants.{BuiltinOf}
 use Rattle.go_tree.specs.declared.exprs.TypedExpr.{TypedExpr}
 use Rattle.go_type.specs.declared.operators.Builtin.{Builtin}
 use Rattle.go_type.specs.declared.operators.Builtin.TheVariants as builtin
-use Rattle.go_type.specs.declared.term.TypeTerm.{TypeTerm}
 use Rattle.go_type.specs.declared.term.TypeTerm.TheVariants.{Interface, Tuple}
-use Rattle.go_type.specs.Table.{Table, term_at, with_term}
+use Rattle.go_type.specs.Table.{Table}
 use Rattle.typed_parts.specs.declared.meaning.Given.{Given}
 use Rattle.typed_parts.specs.declared.meaning.Seen.{Seen}
 use Rattle.typed_parts.specs.Adapting.{IsAssignedTo, IsDefaultFor}
@@ -24,7 +23,8 @@ use Rattle.typed_parts.specs.Meanings.{one_value}
 use Rattle.typed_parts.specs.Nodes.{node}
 use Rattle.typed_parts.specs.Several.{place_of}
 use Rattle.typed_calls.specs.declared.built_ins.BuiltInCall.{BuiltInCall}
-use Rattle.typed_calls.specs.Turning.{Asks, IsEach, IsThenSoundly, Keeps, Soundly}
+use Rattle.typed_parts.specs.Turning.{Asks, IsEach, IsHeld, IsThenSoundly, Keeps, Soundly}
+use Rattle.typed_parts.specs.Limits.{Basis}
 
 abbrev pub built_in_node : BuiltInCall → TypeId → Option TypeId → Vec TypedExpr → Bool → TypedExpr
 built_in_node call of form arguments spread =
@@ -35,20 +35,13 @@ abbrev pub IsNode : BuiltInCall → TypeId → Option TypeId → List TypedExpr 
 IsNode call of form arguments spread made =
     (v : Vec TypedExpr) × ((v.items ≡ arguments) × (made ≡ built_in_node call of form v spread))
 
-abbrev pub IsCallNode : BuiltInCall → TypeId → Option TypeId → List TypedExpr → Bool → Table → Table → Judged TypedExpr
+abbrev pub IsCallNode : BuiltInCall → TypeId → Option TypeId → List TypedExpr → Bool → Basis → Basis → Judged TypedExpr
     → Type 0
 IsCallNode call of form arguments spread before after result =
     Keeps (λ types. IsFine (IsNode call of form arguments spread)) before after result
 
--- a type is held
-pub record IsHeld (term : TypeTerm) (before after : Table) (result : Judged TypeId) : Type 0 where
-  pub id : TypeId
-  pub named : term_at after id ≡ Some term
-  pub held : after ≡ with_term term before
-  pub whole : result ≡ fine id
-
 -- a call without a value is of the type of no values
-abbrev pub IsAction : BuiltInCall → List TypedExpr → Table → Table → Judged TypedExpr → Type 0
+abbrev pub IsAction : BuiltInCall → List TypedExpr → Basis → Basis → Judged TypedExpr → Type 0
 IsAction call arguments before after result =
     IsThenSoundly (IsHeld (Tuple [])) (λ (nothing : TypeId). IsCallNode call nothing None arguments false) before after
     result
@@ -119,15 +112,15 @@ number_asked call values =
 -- ---- "Handling panics" and "Bootstrapping"
 
 -- "the predeclared type interface{}"; "panic": its argument becomes one
-abbrev pub IsPanicOf : BuiltInCall → Given → TypeId → Table → Table → Judged TypedExpr → Type 0
+abbrev pub IsPanicOf : BuiltInCall → Given → TypeId → Basis → Basis → Judged TypedExpr → Type 0
 IsPanicOf call x any before after result =
     IsThenSoundly (Keeps (λ types. IsAssignedTo types (Some x) (Some any)))
     (λ (value : TypedExpr). IsAction call (value ∷ [])) before after result
 
-abbrev pub IsPanic : BuiltInCall → Given → Table → Table → Judged TypedExpr → Type 0
+abbrev pub IsPanic : BuiltInCall → Given → Basis → Basis → Judged TypedExpr → Type 0
 IsPanic call x before after result = IsThenSoundly (IsHeld (Interface [])) (IsPanicOf call x) before after result
 
-abbrev pub IsRecover : BuiltInCall → Table → Table → Judged TypedExpr → Type 0
+abbrev pub IsRecover : BuiltInCall → Basis → Basis → Judged TypedExpr → Type 0
 IsRecover call before after result =
     IsThenSoundly (IsHeld (Interface [])) (λ (any : TypeId). IsCallNode call any None [] false) before after result
 
@@ -139,13 +132,13 @@ abbrev pub print_asked : Table → Pos → TypedExpr → Judged TypedExpr
 print_asked types at value = if is_printed types value.of then fine value else breaks at BadBuiltInCall
 
 -- an untyped operand is printed by its default type
-abbrev pub IsPrinted : Given → Table → Table → Judged TypedExpr → Type 0
+abbrev pub IsPrinted : Given → Basis → Basis → Judged TypedExpr → Type 0
 IsPrinted x before after result =
     IsThenSoundly (Keeps (λ types. IsDefaultFor types (Some x)))
     (λ (value : TypedExpr). Asks (λ types. print_asked types x.at value)) before after result
 
-abbrev pub IsPrintable : ℕ → Option Given → Table → Table → Judged TypedExpr → Type 0
+abbrev pub IsPrintable : ℕ → Option Given → Basis → Basis → Judged TypedExpr → Type 0
 IsPrintable number x before after result = Soundly IsPrinted x before after result
 
-abbrev pub IsPrint : BuiltInCall → List (Option Given) → Table → Table → Judged TypedExpr → Type 0
+abbrev pub IsPrint : BuiltInCall → List (Option Given) → Basis → Basis → Judged TypedExpr → Type 0
 IsPrint call values before after result = IsThenSoundly (IsEach IsPrintable values) (IsAction call) before after result

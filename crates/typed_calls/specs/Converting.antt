@@ -46,7 +46,8 @@ use Rattle.typed_calls.specs.declared.converting.ConstantConversion.{ConstantCon
 use Rattle.typed_calls.specs.declared.converting.ConstantConversion.TheVariants as becomes
 use Rattle.typed_calls.specs.declared.converting.UntypedConversion.{UntypedConversion}
 use Rattle.typed_calls.specs.declared.converting.UntypedConversion.TheVariants as how
-use Rattle.typed_calls.specs.Turning.{Asks, IsEach, IsThenSoundly, Keeps}
+use Rattle.typed_parts.specs.Turning.{Asks, IsEach, IsThenSoundly, Keeps}
+use Rattle.typed_parts.specs.Limits.{Basis}
 
 -- ---- the argument: one value, without a `...`
 
@@ -189,23 +190,23 @@ abbrev pub IsRetypedAt : Table → Pos → TypedExpr → TypeId → Judged Typed
 IsRetypedAt types at expr to result =
     (given : Judged TypedExpr) × (IsGiven types to expr given × (result ≡ placed at given))
 
-abbrev pub IsExplicitNode : Pos → TypeId → TypedExpr → Table → Table → Judged TypedExpr → Type 0
+abbrev pub IsExplicitNode : Pos → TypeId → TypedExpr → Basis → Basis → Judged TypedExpr → Type 0
 IsExplicitNode at to expr before after result =
     Keeps (λ types. IsFine (IsExplicit types at expr to)) before after result
 
-abbrev pub IsThrough : TypeId → Pos → TypeId → TypedExpr → Table → Table → Judged TypedExpr → Type 0
+abbrev pub IsThrough : TypeId → Pos → TypeId → TypedExpr → Basis → Basis → Judged TypedExpr → Type 0
 IsThrough of at to expr before after result =
     IsThenSoundly (Keeps (λ types. IsGiven types of expr)) (IsExplicitNode at to) before after result
 
-abbrev pub IsUntypedAs : UntypedConversion → Pos → TypedExpr → TypeId → Table → Table → Judged TypedExpr → Type 0
+abbrev pub IsUntypedAs : UntypedConversion → Pos → TypedExpr → TypeId → Basis → Basis → Judged TypedExpr → Type 0
 IsUntypedAs how.Retyped at expr to before after result =
     Keeps (λ types. IsRetypedAt types at expr to) before after result
 IsUntypedAs (how.Through of) at expr to before after result = IsThrough of at to expr before after result
 IsUntypedAs how.Refused at expr to before after result = Asks (λ types. breaks at BadConversion) before after result
 
-abbrev pub IsUntypedConverted : Pos → TypedExpr → Untyped → TypeId → Table → Table → Judged TypedExpr → Type 0
+abbrev pub IsUntypedConverted : Pos → TypedExpr → Untyped → TypeId → Basis → Basis → Judged TypedExpr → Type 0
 IsUntypedConverted at expr kind to before after result =
-    IsUntypedAs (untyped_conversion before kind to) at expr to before after result
+    IsUntypedAs (untyped_conversion before.types kind to) at expr to before after result
 
 -- ---- typed values
 
@@ -252,33 +253,34 @@ pub data IsTypedAs (at : Pos) (expr : TypedExpr) (to : TypeId) (before after : T
       → IsTypedAs at expr to before after (fine made)
   refused : (MayConvert before after expr.of to → ⊥) → IsTypedAs at expr to before after (breaks at BadConversion)
 
-pub record IsTypedConverted (at : Pos) (expr : TypedExpr) (to : TypeId) (before after : Table)
+pub record IsTypedConverted (at : Pos) (expr : TypedExpr) (to : TypeId) (before after : Basis)
     (result : Judged TypedExpr) : Type 0 where
-  pub grows : Grows before after
-  pub definitions : KeepsDefinitions before after
-  pub is : IsTypedAs at expr to before after result
+  pub within : after.within ≡ before.within
+  pub grows : Grows before.types after.types
+  pub definitions : KeepsDefinitions before.types after.types
+  pub is : IsTypedAs at expr to before.types after.types result
 
 -- ---- conversions
 
-abbrev pub IsValueOfKind : Option Untyped → Pos → TypedExpr → TypeId → Table → Table → Judged TypedExpr → Type 0
+abbrev pub IsValueOfKind : Option Untyped → Pos → TypedExpr → TypeId → Basis → Basis → Judged TypedExpr → Type 0
 IsValueOfKind (Some kind) at expr to before after result = IsUntypedConverted at expr kind to before after result
 IsValueOfKind None at expr to before after result = IsTypedConverted at expr to before after result
 
-abbrev pub IsConvertedAs : ConstantConversion → Pos → Given → TypeId → Table → Table → Judged TypedExpr → Type 0
+abbrev pub IsConvertedAs : ConstantConversion → Pos → Given → TypeId → Basis → Basis → Judged TypedExpr → Type 0
 IsConvertedAs becomes.Integer at x to before after result = Asks (λ types. as_integer types at x to) before after result
 IsConvertedAs becomes.Text at x to before after result = Asks (λ types. text_constant at x.expr to) before after result
 IsConvertedAs becomes.Other at x to before after result =
-    IsValueOfKind (kind_at before x.expr.of) at x.expr to before after result
+    IsValueOfKind (kind_at before.types x.expr.of) at x.expr to before after result
 
-abbrev pub IsConverted : Pos → TypeId → Given → Table → Table → Judged TypedExpr → Type 0
+abbrev pub IsConverted : Pos → TypeId → Given → Basis → Basis → Judged TypedExpr → Type 0
 IsConverted at to x before after result =
-    IsConvertedAs (constant_conversion before x.expr to) at x to before after result
+    IsConvertedAs (constant_conversion before.types x.expr to) at x to before after result
 
-abbrev pub IsOneValue : ℕ → Seen → Table → Table → Judged Given → Type 0
+abbrev pub IsOneValue : ℕ → Seen → Basis → Basis → Judged Given → Type 0
 IsOneValue number part before after result = Asks (λ types. one_value types part) before after result
 
 -- `T(x)`
-abbrev pub IsConversion : Pos → TypeId → List Seen → Option Pos → Table → Table → Judged TypedExpr → Type 0
+abbrev pub IsConversion : Pos → TypeId → List Seen → Option Pos → Basis → Basis → Judged TypedExpr → Type 0
 IsConversion at to arguments dots before after result =
     IsThenSoundly (IsEach IsOneValue arguments)
     (λ (values : List Given). IsThenSoundly (Asks (λ types. sole_asked at dots values)) (IsConverted at to)) before

@@ -9,9 +9,10 @@ use Rattle.typed_calls.specs.declared.built_ins.BuiltInCall.{BuiltInCall}
 use Rattle.typed_calls.specs.BuiltIns.{IsPanic}
 use Rattle.typed_calls.specs.Measuring.{IsLength}
 use Rattle.typed_calls.specs.Moving.{IsClear, IsClose}
+use Rattle.typed_parts.specs.Limits.{Basis}
 
 -- "clear", "close", "panic", and else "len" and "cap"
-abbrev pub IsOfOne : Builtin → BuiltInCall → Given → Table → Table → Judged TypedExpr → Type 0
+abbrev pub IsOfOne : Builtin → BuiltInCall → Given → Basis → Basis → Judged TypedExpr → Type 0
 IsOfOne builtin.Clear call x before after result = IsClear call x before after result
 IsOfOne builtin.Close call x before after result = IsClose call x before after result
 IsOfOne builtin.Panic call x before after result = IsPanic call x before after result

@@ -19,8 +19,9 @@ use Rattle.typed_parts.specs.Retyping.{IsGiven}
 use Rattle.typed_parts.specs.Several.{place_of}
 use Rattle.typed_parts.specs.Shapes.{elem_of, is_untyped_text}
 use Rattle.typed_calls.specs.declared.built_ins.BuiltInCall.{BuiltInCall}
-use Rattle.typed_calls.specs.BuiltIns.{IsCallNode, IsHeld, argument}
-use Rattle.typed_calls.specs.Turning.{Asks, IsEach, IsFollowed, IsThenSoundly, Keeps, Soundly}
+use Rattle.typed_calls.specs.BuiltIns.{IsCallNode, argument}
+use Rattle.typed_parts.specs.Turning.{Asks, IsEach, IsFollowed, IsHeld, IsThenSoundly, Keeps, Soundly}
+use Rattle.typed_parts.specs.Limits.{Basis}
 
 -- ---- a `...` follows the second of two arguments
 
@@ -85,12 +86,12 @@ pub data IsSpreadAs (types : Table) (x : Given) (slice : TypeId) : Judged TypedE
   no_text : (result : Judged TypedExpr) → is_string types x.expr.of ≡ false → IsAssigned types x slice result
       → IsSpreadAs types x slice result
 
-abbrev pub IsSpread : Given × TypeId → Table → Table → Judged TypedExpr → Type 0
+abbrev pub IsSpread : Given × TypeId → Basis → Basis → Judged TypedExpr → Type 0
 IsSpread (x, elem) before after result =
     IsThenSoundly (IsHeld (Slice elem)) (λ (slice : TypeId). Keeps (λ types. IsSpreadAs types x slice)) before after
     result
 
-abbrev pub IsBehind : Bool → Option TypeId → Option Given → Table → Table → Judged TypedExpr → Type 0
+abbrev pub IsBehind : Bool → Option TypeId → Option Given → Basis → Basis → Judged TypedExpr → Type 0
 IsBehind true elem x before after result = Soundly IsSpread (option_zip x elem) before after result
 IsBehind false elem x before after result = Keeps (λ types. IsAssignedTo types x elem) before after result
 
@@ -99,7 +100,7 @@ is_zero zero = true
 is_zero (suc number) = false
 
 -- an argument by its number: the slice, and behind it the items, which are assigned to the type of the elements
-abbrev pub IsItem : BuiltInCall → Option TypeId → ℕ → Option Given → Table → Table → Judged TypedExpr → Type 0
+abbrev pub IsItem : BuiltInCall → Option TypeId → ℕ → Option Given → Basis → Basis → Judged TypedExpr → Type 0
 IsItem call elem zero x before after result = Asks (λ types. slice_value x elem) before after result
 IsItem call elem (suc number) x before after result = IsBehind (is_some call.dots) elem x before after result
 
@@ -108,19 +109,19 @@ first_type (Some (slice ∷ items)) = Some slice.of
 first_type _ = None
 
 -- the call is of the type of the slice
-abbrev pub IsAppendNode : BuiltInCall → List TypedExpr → Table → Table → Judged TypedExpr → Type 0
+abbrev pub IsAppendNode : BuiltInCall → List TypedExpr → Basis → Basis → Judged TypedExpr → Type 0
 IsAppendNode call (slice ∷ items) before after result =
     IsCallNode call slice.of None (slice ∷ items) (is_some call.dots) before after result
 IsAppendNode call [] before after result = (after ≡ before) × (result ≡ unsound)
 
-abbrev pub IsAppended : BuiltInCall → List (Option Given) → Option TypeId → Table → Table → Judged TypedExpr → Type 0
+abbrev pub IsAppended : BuiltInCall → List (Option Given) → Option TypeId → Basis → Basis → Judged TypedExpr → Type 0
 IsAppended call values elem before after result =
     IsThenSoundly (IsEach (IsItem call elem) values) (IsAppendNode call) before after result
 
-abbrev pub IsAppendCall : BuiltInCall → List (Option Given) → Table → Table → Judged TypedExpr → Type 0
+abbrev pub IsAppendCall : BuiltInCall → List (Option Given) → Basis → Basis → Judged TypedExpr → Type 0
 IsAppendCall call values before after result =
     IsFollowed (Asks (λ types. slice_asked types values)) (IsAppended call values) before after result
 
-abbrev pub IsAppend : BuiltInCall → List (Option Given) → Table → Table → Judged TypedExpr → Type 0
+abbrev pub IsAppend : BuiltInCall → List (Option Given) → Basis → Basis → Judged TypedExpr → Type 0
 IsAppend call values before after result =
     IsThenSoundly (Asks (λ types. dots_asked call values)) (IsAppendCall call) before after result

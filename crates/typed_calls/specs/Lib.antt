@@ -1,4 +1,3 @@
-pub mod Turning
 pub mod BuiltIns
 pub mod Moving
 pub mod Measuring

@@ -9,7 +9,7 @@ use Rattle.go_tree.specs.declared.exprs.TypedExpr.{TypedExpr}
 use Rattle.go_type.specs.declared.operators.Builtin.{Builtin}
 use Rattle.go_type.specs.declared.operators.Builtin.TheVariants as builtin
 use Rattle.go_type.specs.declared.term.TypeTerm.{TypeTerm}
-use Rattle.go_type.specs.declared.term.TypeTerm.TheVariants.{Slice, Map, Chan}
+use Rattle.go_type.specs.declared.term.TypeTerm.TheVariants.{Pointer, Slice, Map, Chan}
 use Rattle.go_type.specs.Assignable.{underlying_term_of}
 use Rattle.go_type.specs.Table.{Table}
 use Rattle.typed_parts.specs.declared.meaning.Given.{Given}
@@ -22,7 +22,8 @@ use Rattle.typed_parts.specs.Wholes.{IsWhole}
 use Rattle.typed_calls.specs.declared.built_ins.BuiltInCall.{BuiltInCall}
 use Rattle.typed_calls.specs.declared.making.Shaped.{Shaped}
 use Rattle.typed_calls.specs.BuiltIns.{IsCallNode, broken_in, values_in}
-use Rattle.typed_calls.specs.Turning.{Asks, IsEach, IsThenSoundly, Keeps}
+use Rattle.typed_parts.specs.Turning.{Asks, IsEach, IsHeld, IsThenSoundly, Keeps}
+use Rattle.typed_parts.specs.Limits.{Basis, IsLimited}
 
 -- the arguments: first a type, and then values; where none is written there is no place of a type
 pub record Form : Type 0 where
@@ -144,20 +145,32 @@ ordered (Some at) (len ∷ cap ∷ []) = record {
 }
 ordered at sizes = fine sizes
 
-abbrev pub IsSize : ℕ → Option Given → Table → Table → Judged TypedExpr → Type 0
+abbrev pub IsSize : ℕ → Option Given → Basis → Basis → Judged TypedExpr → Type 0
 IsSize number size before after result = Keeps (λ types. IsWhole types size BadBuiltInCall) before after result
 
 -- the sizes are whole numbers in order
-abbrev pub IsMake : BuiltInCall → TypeId → List (Option Given) → Table → Table → Judged TypedExpr → Type 0
+abbrev pub IsMake : BuiltInCall → TypeId → List (Option Given) → Basis → Basis → Judged TypedExpr → Type 0
 IsMake call form sizes before after result =
     IsThenSoundly (IsEach IsSize sizes)
     (λ (exprs : List TypedExpr).
     IsThenSoundly (Asks (λ types. ordered (first_at sizes) exprs))
     (λ (these : List TypedExpr). IsCallNode call form (Some form) these false)) before after result
 
--- `make`, or `new` that is not asked for how large its type is
-abbrev pub IsFormed : BuiltInCall → List Seen → Table → Table → Judged TypedExpr → Type 0
+-- "new(T)": a value of a pointer type, which has to be within the limits
+abbrev pub IsNew : BuiltInCall → TypeId → Basis → Basis → Judged TypedExpr → Type 0
+IsNew call form before after result =
+    IsThenSoundly (IsHeld (Pointer form))
+    (λ (pointer : TypeId).
+    IsThenSoundly (IsLimited call.at pointer)
+    (λ (fits : Unit {0}). IsCallNode call pointer (Some form) [] false)) before after result
+
+abbrev pub IsMadeBy : Bool → BuiltInCall → TypeId → List (Option Given) → Basis → Basis → Judged TypedExpr → Type 0
+IsMadeBy true call form sizes before after result = IsNew call form before after result
+IsMadeBy false call form sizes before after result = IsMake call form sizes before after result
+
+-- `make` or `new`
+abbrev pub IsFormed : BuiltInCall → List Seen → Basis → Basis → Judged TypedExpr → Type 0
 IsFormed call arguments before after result =
     IsThenSoundly (Asks (λ types. formed types call.at arguments))
     (λ (these : Form). IsThenSoundly (Asks (λ types. asked_form types call these))
-    (λ (form : TypeId). IsMake call form these.sizes)) before after result
+    (λ (form : TypeId). IsMadeBy (is_new call.builtin) call form these.sizes)) before after result

@@ -20,7 +20,8 @@ use Rattle.typed_parts.specs.Shapes.{shape_of}
 use Rattle.typed_parts.specs.Wholes.{IsTextTyped}
 use Rattle.typed_calls.specs.declared.built_ins.BuiltInCall.{BuiltInCall}
 use Rattle.typed_calls.specs.BuiltIns.{IsNode}
-use Rattle.typed_calls.specs.Turning.{Asks, IsThenSoundly, Keeps}
+use Rattle.typed_parts.specs.Turning.{Asks, IsThenSoundly, Keeps}
+use Rattle.typed_parts.specs.Limits.{Basis}
 
 abbrev pub is_len : Builtin → Bool
 is_len builtin.Len = true
@@ -51,13 +52,13 @@ IsLengthOf call expr (Some len) result = result ≡ fine (node call.at (basic_id
 IsLengthOf call expr None result = IsFine (IsNode call (basic_id basic.Int) None (expr ∷ []) false) result
 
 -- the length of a value that has one
-abbrev pub IsMeasured : BuiltInCall → Given → Table → Table → Judged TypedExpr → Type 0
+abbrev pub IsMeasured : BuiltInCall → Given → Basis → Basis → Judged TypedExpr → Type 0
 IsMeasured call x before after result =
     IsThenSoundly (Asks (λ types. asked x (has_length call.builtin (shape_of types x.expr.of)) BadBuiltInCall))
     (λ (y : Given). Keeps (λ types. IsLengthOf call y.expr (constant_length (shape_of types y.expr.of) y.expr))) before
     after result
 
 -- an untyped string is one of type `string` first
-abbrev pub IsLength : BuiltInCall → Given → Table → Table → Judged TypedExpr → Type 0
+abbrev pub IsLength : BuiltInCall → Given → Basis → Basis → Judged TypedExpr → Type 0
 IsLength call x before after result =
     IsThenSoundly (Keeps (λ types. IsTextTyped types (Some x))) (IsMeasured call) before after result

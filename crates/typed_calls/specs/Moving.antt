@@ -25,7 +25,8 @@ use Rattle.typed_parts.specs.Wholes.{IsTextTyped}
 use Rattle.typed_parts.specs.Adapting.{IsAssignedTo}
 use Rattle.typed_calls.specs.declared.built_ins.BuiltInCall.{BuiltInCall}
 use Rattle.typed_calls.specs.BuiltIns.{IsAction, IsCallNode}
-use Rattle.typed_calls.specs.Turning.{Asks, IsFollowed, IsThenSoundly, Keeps, Soundly}
+use Rattle.typed_parts.specs.Turning.{Asks, IsFollowed, IsThenSoundly, Keeps, Soundly}
+use Rattle.typed_parts.specs.Limits.{Basis}
 
 -- "takes an argument of map [or] slice .. type"
 abbrev pub cleared_term : Option TypeTerm → Bool
@@ -44,16 +45,16 @@ closed_term (Some (Chan dir elem)) = sends dir
 closed_term _ = false
 
 -- a call of one argument that has to be one that the function takes
-abbrev pub IsTaken : BuiltInCall → Given → (Table → Bool) → Table → Table → Judged TypedExpr → Type 0
+abbrev pub IsTaken : BuiltInCall → Given → (Table → Bool) → Basis → Basis → Judged TypedExpr → Type 0
 IsTaken call x takes before after result =
     IsThenSoundly (Asks (λ types. asked x (takes types) BadBuiltInCall)) (λ (y : Given). IsAction call (y.expr ∷ []))
     before after result
 
-abbrev pub IsClear : BuiltInCall → Given → Table → Table → Judged TypedExpr → Type 0
+abbrev pub IsClear : BuiltInCall → Given → Basis → Basis → Judged TypedExpr → Type 0
 IsClear call x before after result =
     IsTaken call x (λ types. cleared_term (underlying_term_of types x.expr.of)) before after result
 
-abbrev pub IsClose : BuiltInCall → Given → Table → Table → Judged TypedExpr → Type 0
+abbrev pub IsClose : BuiltInCall → Given → Basis → Basis → Judged TypedExpr → Type 0
 IsClose call x before after result =
     IsTaken call x (λ types. closed_term (underlying_term_of types x.expr.of)) before after result
 
@@ -76,16 +77,16 @@ abbrev pub deleted_from : Table → Option Given → Judged Given
 deleted_from types m =
     judged m (λ (given : Given). asked given (is_some (key_of types given.expr.of)) BadBuiltInCall)
 
-abbrev pub IsDeletion : BuiltInCall → Given × TypedExpr → Table → Table → Judged TypedExpr → Type 0
+abbrev pub IsDeletion : BuiltInCall → Given × TypedExpr → Basis → Basis → Judged TypedExpr → Type 0
 IsDeletion call (m, k) before after result = IsAction call (m.expr ∷ k ∷ []) before after result
 
 -- "the value k must be assignable to the key type of m"
-abbrev pub IsDeletedFrom : BuiltInCall → Option Given → Option Given → Table → Table → Judged TypedExpr → Type 0
+abbrev pub IsDeletedFrom : BuiltInCall → Option Given → Option Given → Basis → Basis → Judged TypedExpr → Type 0
 IsDeletedFrom call key m before after result =
     IsFollowed (Keeps (λ types. IsAssignedTo types key (key_type types m)))
     (λ (k : Option TypedExpr). Soundly (IsDeletion call) (option_zip m k)) before after result
 
-abbrev pub IsDelete : BuiltInCall → Option Given → Option Given → Table → Table → Judged TypedExpr → Type 0
+abbrev pub IsDelete : BuiltInCall → Option Given → Option Given → Basis → Basis → Judged TypedExpr → Type 0
 IsDelete call m key before after result =
     IsFollowed (Asks (λ types. deleted_from types m)) (IsDeletedFrom call key) before after result
 
@@ -122,20 +123,20 @@ IsSource types (elem, from) result = IsAsked (MayCopy types elem from.expr.of) f
 abbrev pub IsCopiedFrom : Table → Option Given → Option Given → Judged Given → Type 0
 IsCopiedFrom types to from result = IsRest (option_zip (elem_in types to) from) (IsSource types) result
 
-abbrev pub IsCopyOf : BuiltInCall → Given × Given → Table → Table → Judged TypedExpr → Type 0
+abbrev pub IsCopyOf : BuiltInCall → Given × Given → Basis → Basis → Judged TypedExpr → Type 0
 IsCopyOf call (to, from) before after result =
     IsCallNode call (basic_id basic.Int) None (to.expr ∷ from.expr ∷ []) false before after result
 
-abbrev pub IsCopyTo : BuiltInCall → Option Given → Option Given → Table → Table → Judged TypedExpr → Type 0
+abbrev pub IsCopyTo : BuiltInCall → Option Given → Option Given → Basis → Basis → Judged TypedExpr → Type 0
 IsCopyTo call from to before after result =
     IsFollowed (Keeps (λ types. IsCopiedFrom types to from))
     (λ (source : Option Given). Soundly (IsCopyOf call) (option_zip to source)) before after result
 
-abbrev pub IsCopyAfter : BuiltInCall → Option Given → Option Given → Table → Table → Judged TypedExpr → Type 0
+abbrev pub IsCopyAfter : BuiltInCall → Option Given → Option Given → Basis → Basis → Judged TypedExpr → Type 0
 IsCopyAfter call to source before after result =
     IsFollowed (Asks (λ types. copied_to types to)) (IsCopyTo call source) before after result
 
 -- an untyped string is one of type `string` first
-abbrev pub IsCopy : BuiltInCall → Option Given → Option Given → Table → Table → Judged TypedExpr → Type 0
+abbrev pub IsCopy : BuiltInCall → Option Given → Option Given → Basis → Basis → Judged TypedExpr → Type 0
 IsCopy call to from before after result =
     IsFollowed (Keeps (λ types. IsTextTyped types from)) (IsCopyAfter call to) before after result

@@ -5,7 +5,7 @@ ghost use Rattle.typed_parts.specs.Joining.{items_of, listed, with_last};
 ghost use Rattle.typed_parts.specs.Judged.{reported};
 ghost use Rattle.typed_calls.specs.BuiltIns.{IsAction, IsPanic, IsPrint, IsPrintable, IsRecover, broken_in, built_in_node, is_printed, number_broken, print_asked, takes_call, takes_number, values_in};
 ghost use Rattle.typed_calls.specs.Dispatch.{IsOfOne};
-ghost use Rattle.typed_calls.specs.Turning.{IsEach, Soundly, Turns};
+ghost use Rattle.typed_parts.specs.Turning.{IsEach, Soundly, Turns};
 
 use crate::extremes::extreme_of;
 use crate::growing::append_of;

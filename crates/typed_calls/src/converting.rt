@@ -11,7 +11,7 @@ ghost use Rattle.type_bare.specs.Stripped.{KeepsDefinitions};
 ghost use Rattle.typed_parts.specs.Joining.{items_of, listed};
 ghost use Rattle.typed_parts.specs.Judged.{judged, reported};
 ghost use Rattle.typed_calls.specs.Converting.{AreLike, IsConversion, IsConverted, IsExplicit, IsOneValue, IsThrough, IsTypedConverted, IsUntypedConverted, IsValueOfKind, MayConvert, as_integer, character, constant_conversion, converts_integer, converts_plainly, first_place, have_one_form, integer_kind, is_characters, moved_result, one_form, sole_asked, sole_breach, text_node, text_value, untyped_conversion, value_conversion};
-ghost use Rattle.typed_calls.specs.Turning.{IsEach, Turns};
+ghost use Rattle.typed_parts.specs.Turning.{IsEach, Turns};
 
 use go_base::{Bytes, NoMemory, Pos, Rule, TypeId};
 use go_rules::{Untyped, is_empty_interface, is_nillable, kind_fits, untyped_kind};

@@ -7,7 +7,7 @@ ghost use Rattle.typed_parts.specs.Judged.{Comes, reported};
 ghost use Rattle.typed_parts.specs.Several.{place_of};
 ghost use Rattle.typed_parts.specs.Shapes.{elem_of};
 ghost use Rattle.typed_calls.specs.Growing.{IsAppend, IsAppendCall, IsBytes, IsItem, IsSpread, IsSpreadAs, dots_broken, elem_asked, first_type, fits_dots, is_zero, slice_asked, slice_value};
-ghost use Rattle.typed_calls.specs.Turning.{IsEach, Soundly, Turns};
+ghost use Rattle.typed_parts.specs.Turning.{IsEach, Soundly, Turns};
 
 use crate::built_ins::BuiltInCall;
 use go_base::{NoMemory, Pos, Rule, TypeId};

@@ -4,8 +4,8 @@ ghost use Rattle.std.specs.Prelude.{◌≡◌, IfOk, OnOk, false, is_some, not};
 ghost use Rattle.typed_parts.specs.Joining.{listed};
 ghost use Rattle.typed_parts.specs.Judged.{reported};
 ghost use Rattle.typed_parts.specs.Numbers.{integer_of};
-ghost use Rattle.typed_calls.specs.Making.{IsFormed, IsMake, IsSize, added, added_broken, all_sound, asked_form, exceeds, first_at, form_broken, form_in, form_of, is_new, is_sound, make_asked, new_asked, order_broken, ordered, sizes_of};
-ghost use Rattle.typed_calls.specs.Turning.{IsEach, Turns};
+ghost use Rattle.typed_calls.specs.Making.{IsFormed, IsMake, IsNew, IsSize, added, added_broken, all_sound, asked_form, exceeds, first_at, form_broken, form_in, form_of, is_new, is_sound, make_asked, new_asked, order_broken, ordered, sizes_of};
+ghost use Rattle.typed_parts.specs.Turning.{IsEach, Turns};
 
 use crate::built_ins::BuiltInCall;
 use go_base::{NoMemory, Pos, Rule, TypeId};
@@ -33,14 +33,14 @@ pub fn formed(
     call: BuiltInCall,
     arguments: Vec<Seen>,
 ) -> Result<Option<TypedExpr>, NoMemory>
-    ensures { is_new call.builtin ≡ false → Turns ground.old ground.new result (IsFormed call arguments.items) }
+    ensures { Turns ground.old ground.new result (IsFormed call arguments.items) }
 {
     let formed = formed_arguments(ground, call, arguments)?;
     let form = asked_form(ground, call, &formed);
     let Some((form, sizes)) = form.zip(Some(formed.sizes)) else {
         return Ok(None);
     };
-    if call.builtin == Builtin::New {
+    if is_new(call.builtin) {
         drop(sizes);
         return new_of(ground, call, form);
     }
@@ -152,13 +152,22 @@ fn ask_make(ground: &mut Ground, formed: &Shaped, form: TypeId, sound: bool) -> 
     None
 }
 
+fn is_new(builtin: Builtin) -> bool
+    ensures { result ≡ is_new builtin }
+{
+    matches!(builtin, Builtin::New)
+}
+
 fn new_of(
     ground: &mut Ground,
     call: BuiltInCall,
     form: TypeId,
-) -> Result<Option<TypedExpr>, NoMemory> {
+) -> Result<Option<TypedExpr>, NoMemory>
+    ensures { Turns ground.old ground.new result (IsNew call form) }
+{
     let pointer = ground.hold(TypeTerm::Pointer(form))?;
-    if !ground.within_limits(call.at, pointer)? {
+    let fits = ground.within_limits(call.at, pointer)?;
+    if !fits {
         return Ok(None);
     }
     let none = Vec::new(ground.alloc);

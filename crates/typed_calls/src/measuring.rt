@@ -8,7 +8,7 @@ ghost use Rattle.go_type.specs.Table.{basic_id};
 ghost use Rattle.typed_parts.specs.Judged.{Comes};
 ghost use Rattle.typed_parts.specs.Nodes.{node};
 ghost use Rattle.typed_calls.specs.Measuring.{IsLength, IsLengthOf, array_length, constant_length, has_length};
-ghost use Rattle.typed_calls.specs.Turning.{Turns};
+ghost use Rattle.typed_parts.specs.Turning.{Turns};
 
 use crate::built_ins::{BuiltInCall, one_of};
 use go_base::{NoMemory, Pos, Rule};

@@ -7,7 +7,7 @@ ghost use Rattle.go_type.specs.Table.{Table};
 ghost use Rattle.typed_parts.specs.Joining.{items_of};
 ghost use Rattle.typed_parts.specs.Judged.{Outcome, reported};
 ghost use Rattle.typed_calls.specs.Moving.{IsClear, IsClose, IsCopiedFrom, IsCopy, IsDelete, IsTaken, MayCopy, cleared_term, closed_term, copied_to, deleted_from, elem_in, key_of, key_type};
-ghost use Rattle.typed_calls.specs.Turning.{Turns};
+ghost use Rattle.typed_parts.specs.Turning.{Turns};
 
 use crate::built_ins::{BuiltInCall, one_of};
 use go_base::{NoMemory, Rule, TypeId};

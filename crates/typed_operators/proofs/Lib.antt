@@ -1,3 +1,4 @@
 pub mod Operating
 pub mod Paired
 pub mod Compared
+pub mod Addresses

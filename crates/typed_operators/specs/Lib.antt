@@ -5,3 +5,4 @@ pub mod Shifting
 pub mod Comparing
 pub mod Unary
 pub mod Stating
+pub mod Addressing

@@ -4,18 +4,20 @@
 ghost use Rattle.std.specs.Prelude.{◌≡◌, IfOk};
 ghost use Rattle.go_type.specs.Assignable.{underlying_term_of};
 ghost use Rattle.go_tree.specs.declared.exprs.ExprKind.TheVariants as kinds;
+ghost use Rattle.typed_operators.specs.Addressing.{IsAddress, IsAddressOf, IsIndirection, IsPointerType, addressed, has_address, is_composite, meaning_of};
 ghost use Rattle.typed_operators.specs.Made.{IsOnOne};
 ghost use Rattle.typed_operators.specs.Unary.{IsDereference, IsIndirect, IsNegation, IsOperation, IsPlus, IsReceipt, IsReceive, IsSign, IsSignedAs, boolean, folded, is_plain, receipt, received, signed};
 ghost use Rattle.typed_parts.specs.Judged.{Comes, judged, reported};
 ghost use Rattle.typed_parts.specs.Nodes.{node};
 ghost use Rattle.typed_parts.specs.Numbers.{constant_in};
+ghost use Rattle.typed_parts.specs.Turning.{Turns};
 
 use go_base::{NoMemory, Pos, Rule, TypeId};
 use go_rules::{fold_unary, takes_logic, takes_sign, untyped_kind};
 use go_tree::{ExprKind, TypedExpr};
 use go_type::{Dir, TypeTerm, Types, UnaryOp};
 use typed_parts::{
-    Given, Ground, Seen, asked, both, boxed, is_constant, is_place, node, one_value, pointed,
+    Given, Ground, Seen, asked, beside, boxed, is_constant, is_place, node, one_value, pointed,
     seen_type, sound,
 };
 
@@ -172,7 +174,10 @@ fn boolean(ground: &mut Ground, x: Seen) -> Option<Given>
 
 /// `*x`: a pointer type where `x` is a type, with `TypeTooLarge` at the `*`, and else what the pointer points to, with
 /// `BadOperand` at an operand that is no pointer.
-pub fn indirection(ground: &mut Ground, at: Pos, x: Seen) -> Result<Seen, NoMemory> {
+pub fn indirection(ground: &mut Ground, at: Pos, x: Seen) -> Result<Seen, NoMemory>
+    ensures at { IfOk result (λ part. part.at ≡ at) }
+    ensures is { Turns ground.old ground.new (meaning_of result) (IsIndirection at x) }
+{
     if let Some(of) = seen_type(&x) {
         drop(x);
         let pointer = pointer_type(ground, at, of)?;
@@ -183,7 +188,9 @@ pub fn indirection(ground: &mut Ground, at: Pos, x: Seen) -> Result<Seen, NoMemo
 }
 
 /// The type of pointers to values of a type. `TypeTooLarge` at the place where it is.
-fn pointer_type(ground: &mut Ground, at: Pos, of: TypeId) -> Result<Option<TypeId>, NoMemory> {
+fn pointer_type(ground: &mut Ground, at: Pos, of: TypeId) -> Result<Option<TypeId>, NoMemory>
+    ensures { Turns ground.old ground.new result (IsPointerType at of) }
+{
     let pointer = ground.hold(TypeTerm::Pointer(of))?;
     let fits = ground.within_limits(at, pointer)?;
     Ok(fits.then_some(pointer))
@@ -225,28 +232,61 @@ fn indirection_of(
 }
 
 /// `&x`. `CannotTakeAddress` at an operand that is neither a place nor a composite literal, and `TypeTooLarge` at the `&`.
-pub fn address_of(ground: &mut Ground, at: Pos, x: Seen) -> Result<Option<TypedExpr>, NoMemory> {
-    let Some(x) = one_value(ground, x) else {
-        return Ok(None);
-    };
-    let may = has_address(&x.expr);
-    match asked(ground, x, may, Rule::CannotTakeAddress) {
+pub fn address_of(ground: &mut Ground, at: Pos, x: Seen) -> Result<Option<TypedExpr>, NoMemory>
+    ensures { Turns ground.old ground.new result (IsAddressOf at x) }
+{
+    match addressed(ground, x) {
         Some(x) => address(ground, at, x.expr),
         None => Ok(None),
     }
 }
 
-fn has_address(expr: &TypedExpr) -> bool {
-    matches!(&expr.kind, ExprKind::CompositeOf(_)) || is_place(expr)
+/// An operand of `&`. `CannotTakeAddress` at one that is neither a place nor a composite literal.
+#[tactic(auto, using(typed_parts::proofs::Reports::reported_after))]
+fn addressed(ground: &mut Ground, x: Seen) -> Option<Given>
+    ensures answer { result ≡ (addressed ground.old.types x).sound }
+    ensures broken { ground.new ≡ reported ground.old (addressed ground.old.types x).broken }
+{
+    let x = one_value(ground, x)?;
+    let may = has_address(&x.expr);
+    asked(ground, x, may, Rule::CannotTakeAddress)
 }
 
-fn address(ground: &mut Ground, at: Pos, expr: TypedExpr) -> Result<Option<TypedExpr>, NoMemory> {
-    let pointer = pointer_type(ground, at, expr.of);
-    let Some((pointer, expr)) = both(pointer, Ok(Some(expr)))? else {
-        return Ok(None);
-    };
-    let operand = boxed(ground, expr)?;
-    Ok(Some(node(at, pointer, ExprKind::AddressOf(operand))))
+fn has_address(expr: &TypedExpr) -> bool
+    ensures { result ≡ has_address expr.now }
+{
+    is_composite(&expr.kind) || is_place(expr)
+}
+
+fn is_composite(kind: &ExprKind) -> bool
+    ensures { result ≡ is_composite kind.now }
+{
+    matches!(kind, ExprKind::CompositeOf(_))
+}
+
+fn address(ground: &mut Ground, at: Pos, expr: TypedExpr) -> Result<Option<TypedExpr>, NoMemory>
+    ensures { Turns ground.old ground.new result (IsAddress at expr) }
+{
+    let (pointer, expr) = beside(pointer_type(ground, at, expr.of), expr)?;
+    match pointer {
+        Some(pointer) => sound(pointer_to(ground, at, pointer, expr)),
+        None => {
+            drop(expr);
+            Ok(None)
+        }
+    }
+}
+
+fn pointer_to(
+    ground: &Ground,
+    at: Pos,
+    pointer: TypeId,
+    x: TypedExpr,
+) -> Result<TypedExpr, NoMemory>
+    ensures { IfOk result (IsOnOne at pointer kinds.AddressOf x) }
+{
+    let operand = boxed(ground, x)?;
+    Ok(node(at, pointer, ExprKind::AddressOf(operand)))
 }
 
 /// `<-x`. `BadChannelOperation` at an operand that is no channel, or only one for sending.

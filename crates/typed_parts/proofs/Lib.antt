@@ -6,3 +6,5 @@ pub mod InBoxes
 pub mod Arms
 pub mod Adapts
 pub mod Wholes
+pub mod Turns
+pub mod Told

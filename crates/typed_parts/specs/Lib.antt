@@ -1,4 +1,6 @@
 pub mod Judged
+pub mod Limits
+pub mod Turning
 pub mod Joining
 pub mod Meanings
 pub mod Nodes

@@ -4,6 +4,9 @@ ghost use Rattle.std.specs.Prelude.{◌≡◌, ◌∷◌, [], IfOk, OnOk, OnErr,
 ghost use Rattle.go_type.specs.Table.{term_at, with_term};
 ghost use Rattle.go_type.specs.declared.term.TypeTerm.TheVariants.{Tuple, Interface};
 ghost use Rattle.typed_parts.specs.Judged.{reported};
+ghost use Rattle.typed_parts.specs.Limits.{IsFitting, IsLimited, IsTold, basis, fit_leaves, granted, on_basis};
+ghost use Rattle.typed_parts.specs.Turning.{Turns};
+ghost use Rattle.type_sizes.specs.Known.{IsSizeOf};
 
 use go_base::{NoMemory, Pos, Rule, TypeId};
 use go_faults::{Fault, Least};
@@ -113,7 +116,9 @@ impl Ground {
 
     /// Whether a type is within the limits of types: a nesting of at most 1,000, and at most 1,048,576 leaves.
     /// `TypeTooLarge` is reported at the place where it is not.
-    pub fn within_limits(&mut self, at: Pos, of: TypeId) -> Result<bool, NoMemory> {
+    pub fn within_limits(&mut self, at: Pos, of: TypeId) -> Result<bool, NoMemory>
+        ensures { Turns self.old self.new (granted result) (IsLimited at of) }
+    {
         if self.leaves_within(of)?.is_some() {
             return Ok(true);
         }
@@ -123,11 +128,11 @@ impl Ground {
 
     /// Whether an array of so many elements of a type has at most 1,048,576 leaves. `TypeTooLarge` is reported at the place
     /// where it has more.
-    pub fn fit_many(&mut self, at: Pos, elem: TypeId, len: u64) -> Result<bool, NoMemory> {
-        let fits = match self.leaves_within(elem)? {
-            Some(leaves) => u128::from(leaves) * u128::from(len) <= u128::from(MOST_LEAVES),
-            None => false,
-        };
+    pub fn fit_many(&mut self, at: Pos, elem: TypeId, len: u64) -> Result<bool, NoMemory>
+        ensures { Turns self.old self.new (granted result) (IsFitting at elem len) }
+    {
+        let leaves = self.leaves_within(elem)?;
+        let fits = fit_leaves(leaves, len);
         if !fits {
             self.report(at, Rule::TypeTooLarge);
         }
@@ -135,7 +140,10 @@ impl Ground {
     }
 
     /// The leaves of a type that is within the limits.
-    fn leaves_within(&mut self, of: TypeId) -> Result<Option<u64>, NoMemory> {
+    fn leaves_within(&mut self, of: TypeId) -> Result<Option<u64>, NoMemory>
+        ensures told { IfOk result (λ told. IsTold (basis self.old) of told (basis self.new)) }
+        ensures keeps { OnOk result (self.new ≡ on_basis (basis self.new) self.old) }
+    {
         if let Some(leaves) = self.within.get(&of) {
             return Ok(Some(*leaves));
         }
@@ -148,8 +156,20 @@ impl Ground {
     }
 }
 
+/// Whether so many elements have at most 1,048,576 leaves.
+fn fit_leaves(leaves: Option<u64>, len: u64) -> bool
+    ensures { result ≡ fit_leaves leaves len }
+{
+    match leaves {
+        Some(leaves) => u128::from(leaves) * u128::from(len) <= u128::from(MOST_LEAVES),
+        None => false,
+    }
+}
+
 /// How large a type is.
-fn size_of(alloc: Global, types: &Types, of: TypeId) -> Result<Size, NoMemory> {
+fn size_of(alloc: Global, types: &Types, of: TypeId) -> Result<Size, NoMemory>
+    ensures { IfOk result (IsSizeOf types.now of) }
+{
     let mut sizes = Sizes::new(alloc);
     let size = sizes.of(types, of);
     drop(sizes);

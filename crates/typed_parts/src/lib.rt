@@ -28,7 +28,7 @@ pub use adapting::{
 pub use ground::{Ground, lost};
 pub use holding::holds_call;
 pub use joining::{asked, beside, both, only, sound, with_last};
-pub use laws::reported_in_two_goes;
+pub use laws::{reported_in_two_goes, settled_limits_stay, told_limits_are_right};
 pub use meaning::{
     Given, Meaning, Seen, is_place, is_tuple, one_value, parenthesized, seen_type, single, type_of,
     value_of,

@@ -3,7 +3,7 @@ use Rattle.typed_calls.specs.BuiltIns.{IsPanic}
 use Rattle.typed_calls.specs.Dispatch.{IsOfOne}
 use Rattle.typed_calls.specs.Moving.{IsClear, IsClose}
 use Rattle.typed_calls.proofs.Dispatches.{one_by, one_else}
-use Rattle.typed_calls.proofs.Turns.{weaker}
+use Rattle.typed_parts.proofs.Turns.{weaker}
 use Rattle.typed_calls.proofs.built_ins.of_value.Goals as goal
 
 pub returns-in-Clear : goal.returns-in-Clear

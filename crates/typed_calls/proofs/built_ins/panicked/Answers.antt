@@ -7,10 +7,10 @@ use Rattle.typed_parts.specs.declared.meaning.Given.{Given}
 use Rattle.typed_parts.specs.Adapting.{IsAssignedTo}
 use Rattle.typed_parts.specs.Joining.{beside, items_of}
 use Rattle.typed_parts.specs.Judged.{Outcome}
-use Rattle.typed_calls.specs.BuiltIns.{IsAction, IsHeld, IsPanicOf}
-use Rattle.typed_calls.specs.Turning.{Keeps, Soundly}
-use Rattle.typed_calls.proofs.Asks.{first_came, held, one_listed, second_stays}
-use Rattle.typed_calls.proofs.Turns.{followed, keeps, then_soundly}
+use Rattle.typed_calls.specs.BuiltIns.{IsAction, IsPanicOf}
+use Rattle.typed_parts.specs.Turning.{IsHeld, Keeps, Soundly}
+use Rattle.typed_calls.proofs.Asks.{one_listed}
+use Rattle.typed_parts.proofs.Turns.{first_came, followed, held, keeps, second_stays, then_soundly}
 use Rattle.typed_calls.proofs.built_ins.panicked.Goals as goal
 
 pub returns : goal.returns

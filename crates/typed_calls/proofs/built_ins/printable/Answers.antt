@@ -3,8 +3,8 @@ use Rattle.std.proofs.Common.{Some}
 use Rattle.go_type.specs.Table.{Table}
 use Rattle.typed_parts.specs.Adapting.{IsDefaultFor}
 use Rattle.typed_calls.specs.BuiltIns.{IsPrinted, print_asked}
-use Rattle.typed_calls.specs.Turning.{Asks, Keeps}
-use Rattle.typed_calls.proofs.Turns.{asks, came, keeps, nothing, nothing_came, something, then_nothing, then_soundly}
+use Rattle.typed_parts.specs.Turning.{Asks, Keeps}
+use Rattle.typed_parts.proofs.Turns.{asks, came, keeps, nothing, nothing_came, something, then_nothing, then_soundly}
 use Rattle.typed_calls.proofs.built_ins.printable.Goals as goal
 
 pub returns-in_default : goal.returns-in_default

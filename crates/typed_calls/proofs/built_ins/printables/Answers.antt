@@ -4,8 +4,8 @@ use Rattle.std.proofs.lemmas.List.{nil_from_length}
 use Rattle.typed_parts.specs.declared.meaning.Given.{Given}
 use Rattle.typed_parts.specs.Joining.{items_of}
 use Rattle.typed_calls.specs.BuiltIns.{IsPrintable}
-use Rattle.typed_calls.specs.Turning.{IsEach, Turned}
-use Rattle.typed_calls.proofs.Turns.{each_more, each_none}
+use Rattle.typed_parts.specs.Turning.{IsEach, Turned}
+use Rattle.typed_parts.proofs.Turns.{each_more, each_none}
 use Rattle.typed_calls.proofs.built_ins.printables.Goals as goal
 
 pub loop-argument-init : goal.loop-argument-init

@@ -1,7 +1,7 @@
 use Rattle.typed_parts.specs.Joining.{items_of}
 use Rattle.typed_calls.specs.BuiltIns.{IsAction, IsPrintable}
-use Rattle.typed_calls.specs.Turning.{IsEach, Soundly}
-use Rattle.typed_calls.proofs.Turns.{followed}
+use Rattle.typed_parts.specs.Turning.{IsEach, Soundly}
+use Rattle.typed_parts.proofs.Turns.{followed}
 use Rattle.typed_calls.proofs.built_ins.printed.Goals as goal
 
 pub returns : goal.returns

@@ -1,10 +1,11 @@
 use Rattle.std.proofs.Common.{refl, [], None, false, Some}
 use Rattle.go_base.specs.declared.ids.TypeId.{TypeId}
 use Rattle.go_type.specs.declared.term.TypeTerm.TheVariants.{Interface}
-use Rattle.typed_calls.specs.BuiltIns.{IsCallNode, IsHeld}
-use Rattle.typed_calls.proofs.Asks.{held, node_made}
-use Rattle.typed_calls.proofs.Turns.{came, then_soundly}
+use Rattle.typed_calls.specs.BuiltIns.{IsCallNode}
+use Rattle.typed_calls.proofs.Asks.{node_made}
+use Rattle.typed_parts.proofs.Turns.{came, held, then_soundly}
 use Rattle.typed_calls.proofs.built_ins.recovered.Goals as goal
+use Rattle.typed_parts.specs.Turning.{IsHeld}
 
 pub returns : goal.returns
 returns c =

@@ -1,8 +1,8 @@
 use Rattle.typed_parts.specs.Joining.{items_of}
 use Rattle.typed_calls.specs.Converting.{IsConverted, IsOneValue, sole_asked}
-use Rattle.typed_calls.specs.Turning.{IsEach}
+use Rattle.typed_parts.specs.Turning.{IsEach}
 use Rattle.typed_calls.proofs.Converts.{after_function}
-use Rattle.typed_calls.proofs.Turns.{nothing, nothing_came, something}
+use Rattle.typed_parts.proofs.Turns.{nothing, nothing_came, something}
 use Rattle.typed_calls.proofs.converting.conversion.Goals as goal
 
 pub returns-in-Some : goal.returns-in-Some

@@ -4,7 +4,7 @@ use Rattle.go_type.specs.Table.{Table}
 use Rattle.typed_calls.specs.declared.converting.ConstantConversion.TheVariants as becomes
 use Rattle.typed_calls.specs.Converting.{IsConvertedAs, IsValueOfKind, as_integer, text_constant}
 use Rattle.typed_calls.proofs.Converts.{converted_by, made_by}
-use Rattle.typed_calls.proofs.Turns.{asks, came, weaker}
+use Rattle.typed_parts.proofs.Turns.{asks, came, weaker}
 use Rattle.typed_calls.proofs.converting.converted.Goals as goal
 
 pub returns-in-Integer : goal.returns-in-Integer

@@ -1,9 +1,9 @@
 use Rattle.go_type.specs.Table.{Table}
 use Rattle.typed_parts.specs.Retyping.{IsGiven}
 use Rattle.typed_calls.specs.Converting.{IsExplicitNode}
-use Rattle.typed_calls.specs.Turning.{Keeps}
+use Rattle.typed_parts.specs.Turning.{Keeps}
 use Rattle.typed_calls.proofs.Converts.{explicit_made}
-use Rattle.typed_calls.proofs.Turns.{keeps, then_nothing, then_soundly}
+use Rattle.typed_parts.proofs.Turns.{keeps, then_nothing, then_soundly}
 use Rattle.typed_calls.proofs.converting.converted_through.Goals as goal
 
 pub returns-in-Some : goal.returns-in-Some

@@ -4,10 +4,10 @@ use Rattle.go_tree.specs.declared.exprs.TypedExpr.{TypedExpr}
 use Rattle.typed_parts.specs.Joining.{beside}
 use Rattle.typed_calls.specs.Converting.{MayConvert}
 use Rattle.typed_calls.specs.Converting.{IsTypedConverted}
-use Rattle.typed_calls.specs.Turning.{Turns}
-use Rattle.typed_calls.proofs.Asks.{first_came, second_stays}
+use Rattle.typed_parts.specs.Turning.{Turns}
 use Rattle.typed_calls.proofs.Converts.{if_came, typed_made, typed_refused}
 use Rattle.typed_calls.proofs.converting.converted_typed.Goals as goal
+use Rattle.typed_parts.proofs.Turns.{first_came, second_stays}
 
 pub returns-then-may : goal.returns-then-may
 returns-then-may c =

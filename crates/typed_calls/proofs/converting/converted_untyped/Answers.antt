@@ -5,7 +5,7 @@ use Rattle.typed_parts.specs.Judged.{breaks}
 use Rattle.typed_calls.specs.declared.converting.UntypedConversion.TheVariants as how
 use Rattle.typed_calls.specs.Converting.{IsThrough, IsUntypedAs}
 use Rattle.typed_calls.proofs.Converts.{retyped_placed, untyped_by}
-use Rattle.typed_calls.proofs.Turns.{asks, came, weaker}
+use Rattle.typed_parts.proofs.Turns.{asks, came, weaker}
 use Rattle.typed_calls.proofs.converting.converted_untyped.Goals as goal
 
 pub returns-in-Retyped : goal.returns-in-Retyped

@@ -1,7 +1,7 @@
 use Rattle.std.proofs.Common.{sym, ◌∙◌, Some, None}
 use Rattle.typed_calls.specs.Converting.{IsTypedConverted, IsUntypedConverted, IsValueOfKind}
 use Rattle.typed_calls.proofs.Converts.{value_of_kind}
-use Rattle.typed_calls.proofs.Turns.{weaker}
+use Rattle.typed_parts.proofs.Turns.{weaker}
 use Rattle.typed_calls.proofs.converting.converted_value.Goals as goal
 
 pub returns-in-Some : goal.returns-in-Some

@@ -6,8 +6,8 @@ use Rattle.typed_parts.specs.Meanings.{one_value}
 use Rattle.typed_parts.specs.declared.meaning.Seen.{Seen}
 use Rattle.typed_parts.specs.Joining.{items_of}
 use Rattle.typed_calls.specs.Converting.{IsOneValue}
-use Rattle.typed_calls.specs.Turning.{IsEach, Turned}
-use Rattle.typed_calls.proofs.Turns.{asks, each_more, each_none}
+use Rattle.typed_parts.specs.Turning.{IsEach, Turned}
+use Rattle.typed_parts.proofs.Turns.{asks, each_more, each_none}
 use Rattle.typed_calls.proofs.converting.single_values.Goals as goal
 
 pub loop-argument-init : goal.loop-argument-init

@@ -6,9 +6,9 @@ use Rattle.go_type.specs.Table.{Table}
 use Rattle.typed_parts.specs.Joining.{items_of}
 use Rattle.typed_calls.specs.BuiltIns.{built_in_node}
 use Rattle.typed_calls.specs.Growing.{IsAppendNode, IsAppended, IsItem, first_type, slice_asked}
-use Rattle.typed_calls.specs.Turning.{Asks, IsEach, Soundly}
+use Rattle.typed_parts.specs.Turning.{Asks, IsEach, Soundly}
 use Rattle.typed_calls.proofs.Grows.{append_made, append_nothing}
-use Rattle.typed_calls.proofs.Turns.{asks, came, followed, nothing_came}
+use Rattle.typed_parts.proofs.Turns.{asks, came, followed, nothing_came}
 use Rattle.typed_calls.proofs.growing.append_call.Goals as goal
 
 pub returns-in-Some : goal.returns-in-Some

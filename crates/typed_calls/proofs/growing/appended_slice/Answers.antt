@@ -1,7 +1,7 @@
 use Rattle.std.proofs.Common.{sym, ◌∙◌}
 use Rattle.std.specs.Option.{option_zip}
 use Rattle.typed_calls.specs.Growing.{IsSpread}
-use Rattle.typed_calls.proofs.Turns.{nothing}
+use Rattle.typed_parts.proofs.Turns.{nothing}
 use Rattle.typed_calls.proofs.growing.appended_slice.Goals as goal
 
 pub returns-in-None : goal.returns-in-None

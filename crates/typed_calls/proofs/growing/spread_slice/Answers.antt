@@ -5,11 +5,9 @@ use Rattle.go_type.specs.Table.{Table}
 use Rattle.typed_parts.specs.declared.meaning.Given.{Given}
 use Rattle.typed_parts.specs.Joining.{beside}
 use Rattle.typed_parts.specs.Judged.{Comes}
-use Rattle.typed_calls.specs.BuiltIns.{IsHeld}
 use Rattle.typed_calls.specs.Growing.{IsSpreadAs}
-use Rattle.typed_calls.specs.Turning.{Keeps}
-use Rattle.typed_calls.proofs.Asks.{first_came, held, keeps_comes, second_stays}
-use Rattle.typed_calls.proofs.Turns.{then_soundly}
+use Rattle.typed_parts.specs.Turning.{IsHeld, Keeps}
+use Rattle.typed_parts.proofs.Turns.{first_came, held, keeps_comes, second_stays, then_soundly}
 use Rattle.typed_calls.proofs.growing.spread_slice.Goals as goal
 
 pub returns : goal.returns

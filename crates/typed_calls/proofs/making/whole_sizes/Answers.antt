@@ -7,8 +7,8 @@ use Rattle.typed_parts.specs.Wholes.{IsWhole}
 use Rattle.typed_parts.specs.declared.meaning.Given.{Given}
 use Rattle.typed_parts.specs.Joining.{items_of}
 use Rattle.typed_calls.specs.Making.{IsSize}
-use Rattle.typed_calls.specs.Turning.{IsEach, Turned}
-use Rattle.typed_calls.proofs.Turns.{each_more, each_none, keeps}
+use Rattle.typed_parts.specs.Turning.{IsEach, Turned}
+use Rattle.typed_parts.proofs.Turns.{each_more, each_none, keeps}
 use Rattle.typed_calls.proofs.making.whole_sizes.Goals as goal
 
 pub loop-size-init : goal.loop-size-init

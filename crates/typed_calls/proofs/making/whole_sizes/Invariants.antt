@@ -2,7 +2,7 @@ use Rattle.std.proofs.Common.{◌≡◌, ◌++◌, length}
 use Rattle.std.specs.Vec.Iter.{into_iter_items, into_iter_len}
 use Rattle.typed_parts.specs.Joining.{items_of}
 use Rattle.typed_calls.specs.Making.{IsSize}
-use Rattle.typed_calls.specs.Turning.{IsEach, Turned}
+use Rattle.typed_parts.specs.Turning.{IsEach, Turned}
 use Rattle.typed_calls.proofs.making.whole_sizes.Given as goal
 
 abbrev pub invariant-loop-size : goal.invariant-loop-size

@@ -6,10 +6,9 @@ use Rattle.typed_parts.specs.Joining.{asked}
 use Rattle.typed_parts.specs.Shapes.{shape_of}
 use Rattle.typed_parts.specs.Wholes.{IsTextTyped}
 use Rattle.typed_calls.specs.Measuring.{IsLengthOf, IsMeasured, constant_length, has_length}
-use Rattle.typed_calls.specs.Turning.{Asks, Keeps}
-use Rattle.typed_calls.proofs.Asks.{asked_test}
+use Rattle.typed_parts.specs.Turning.{Asks, Keeps}
 use Rattle.typed_calls.proofs.Moves.{measured}
-use Rattle.typed_calls.proofs.Turns.{keeps, nothing_came, then_nothing, then_soundly}
+use Rattle.typed_parts.proofs.Turns.{asked_test, keeps, nothing_came, then_nothing, then_soundly}
 use Rattle.typed_calls.proofs.measuring.length_of.Goals as goal
 
 pub returns-in_default : goal.returns-in_default

@@ -9,10 +9,10 @@ use Rattle.typed_parts.specs.Joining.{beside}
 use Rattle.typed_parts.specs.Wholes.{IsTextTyped}
 use Rattle.typed_calls.specs.BuiltIns.{built_in_node}
 use Rattle.typed_calls.specs.Moving.{IsCopy, IsCopyOf}
-use Rattle.typed_calls.specs.Turning.{Turns}
-use Rattle.typed_calls.proofs.Asks.{first_came, node_made, outcome_of, second_stays, vec_items}
+use Rattle.typed_parts.specs.Turning.{Turns}
+use Rattle.typed_calls.proofs.Asks.{node_made, vec_items}
 use Rattle.typed_calls.proofs.Moves.{copies}
-use Rattle.typed_calls.proofs.Turns.{came, nothing, nothing_came, something}
+use Rattle.typed_parts.proofs.Turns.{came, first_came, nothing, nothing_came, outcome_of, second_stays, something}
 use Rattle.typed_calls.proofs.moving.copied.Goals as goal
 
 pub returns-in_default : goal.returns-in_default

@@ -6,7 +6,7 @@ use Rattle.typed_calls.specs.BuiltIns.{IsAction}
 use Rattle.typed_calls.specs.Moving.{IsDeletion}
 use Rattle.typed_calls.proofs.Asks.{listed_rule}
 use Rattle.typed_calls.proofs.Moves.{deletes}
-use Rattle.typed_calls.proofs.Turns.{nothing, nothing_came, something}
+use Rattle.typed_parts.proofs.Turns.{nothing, nothing_came, something}
 use Rattle.typed_calls.proofs.moving.deleted.Goals as goal
 
 pub returns-in_default : goal.returns-in_default

@@ -4,9 +4,8 @@ use Rattle.go_type.specs.Table.{Table}
 use Rattle.typed_parts.specs.declared.meaning.Given.{Given}
 use Rattle.typed_parts.specs.Joining.{asked}
 use Rattle.typed_calls.specs.BuiltIns.{IsAction}
-use Rattle.typed_calls.specs.Turning.{Asks}
-use Rattle.typed_calls.proofs.Asks.{asked_test}
-use Rattle.typed_calls.proofs.Turns.{then_nothing}
+use Rattle.typed_parts.specs.Turning.{Asks}
+use Rattle.typed_parts.proofs.Turns.{asked_test, then_nothing}
 use Rattle.typed_calls.proofs.moving.of_value.Goals as goal
 
 pub returns-in-None : goal.returns-in-None

@@ -1,7 +1,7 @@
 use Rattle.typed_parts.specs.Joining.{items_of}
 use Rattle.std.proofs.Common.{ap}
 use Rattle.typed_calls.specs.BuiltIns.{IsAction}
-use Rattle.typed_calls.proofs.Turns.{nothing}
+use Rattle.typed_parts.proofs.Turns.{nothing}
 use Rattle.typed_calls.proofs.built_ins.BuiltInCall.action.Goals as goal
 
 pub returns-in-None : goal.returns-in-None

@@ -2,10 +2,11 @@ use Rattle.std.proofs.Common.{◌≡◌, sym, ◌∙◌, refl, ap, [], None, fal
 use Rattle.go_base.specs.declared.ids.TypeId.{TypeId}
 use Rattle.go_type.specs.declared.term.TypeTerm.TheVariants.{Tuple}
 use Rattle.typed_parts.specs.Joining.{beside}
-use Rattle.typed_calls.specs.BuiltIns.{IsCallNode, IsHeld, built_in_node}
-use Rattle.typed_calls.proofs.Asks.{first_came, held, node_made, second_stays}
-use Rattle.typed_calls.proofs.Turns.{came, then_soundly}
+use Rattle.typed_calls.specs.BuiltIns.{IsCallNode, built_in_node}
+use Rattle.typed_calls.proofs.Asks.{node_made}
+use Rattle.typed_parts.proofs.Turns.{came, first_came, held, second_stays, then_soundly}
 use Rattle.typed_calls.proofs.built_ins.BuiltInCall.without_value.Goals as goal
+use Rattle.typed_parts.specs.Turning.{IsHeld}
 
 pub returns : goal.returns
 returns c =
