@@ -1,12 +1,12 @@
 //! What the rules look at, and the rules themselves, in the order in which they are asked.
 
-use crate::cycles::{blame_cycles, holding, incomparable};
+use crate::cycles::{blame_cycles, incomparable};
 use crate::denoting::denote;
 use crate::extent::{find_leaves, find_nestings};
 use crate::rows::{Facts, blame_methods, blame_types};
 use crate::shapes::find_shapes;
 use crate::values::find_values;
-use decl_nodes::{Nodes, Order, Tables, TypeFact, order_of, reach_marked};
+use decl_nodes::{Order, Tables, TypeFact, order_of};
 use go_base::NoMemory;
 use std::alloc::Global;
 
@@ -46,7 +46,7 @@ fn find_facts(
     let shapes = find_shapes(alloc, &tables.nodes, &mut tables.types, &values, &denoting)?;
     let leaves = find_leaves(alloc, &tables.nodes, &values, holds)?;
     let nestings = find_nestings(alloc, &tables.nodes, &tables.types, &denoting)?;
-    let incomparable = find_incomparable(alloc, &tables.nodes)?;
+    let incomparable = incomparable(alloc, &tables.nodes)?;
     Ok(Facts {
         denoting,
         values,
@@ -55,11 +55,4 @@ fn find_facts(
         nestings,
         incomparable,
     })
-}
-
-/// Which types have values that are not compared.
-fn find_incomparable(alloc: Global, nodes: &Nodes) -> Result<Vec<bool>, NoMemory> {
-    let marks = incomparable(alloc, nodes)?;
-    let graph = holding(alloc, nodes)?;
-    reach_marked(alloc, graph.as_slice(), marks.as_slice())
 }

@@ -5,7 +5,9 @@
 mod asking;
 mod cycles;
 mod denoting;
+mod edges;
 mod extent;
+mod receivers;
 mod rows;
 mod runes;
 mod shapes;
@@ -14,6 +16,7 @@ mod values;
 pub use asking::ask_rules;
 pub use cycles::holding;
 pub use denoting::{Denoted, Denoting};
-pub use rows::{Facts, Receiver, receiver_base};
+pub use receivers::{Receiver, receiver_base};
+pub use rows::Facts;
 pub use shapes::Shapes;
 pub use values::{Value, Values};

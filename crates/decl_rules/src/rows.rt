@@ -2,11 +2,12 @@
 
 use crate::denoting::{Denoted, Denoting};
 use crate::extent::number_at;
+use crate::receivers::{is_bad_embedded, is_bad_receiver, is_interface, receiver_base};
 use crate::shapes::{MethodKey, Shapes};
 use crate::values::{Values, length_at};
 use decl_nodes::{ElementNode, InNode, Kind, MethodNode, Tables, is_marked};
 use go_base::{NoMemory, Rule, TypeId};
-use go_type::{MAX_LEAVES, MAX_NESTING, TypeTerm};
+use go_type::{MAX_LEAVES, MAX_NESTING};
 use indexmap::{IndexMap, IndexSet};
 
 /// What the rules look at.
@@ -68,9 +69,19 @@ fn blame_parts(tables: &mut Tables, facts: &Facts, node: usize) -> Result<(), No
     let blamed = match tables.nodes.kind(node) {
         Some(Kind::Map { key, .. }) => bad_key(facts, *key),
         Some(Kind::Array { length, .. }) => bad_length(facts, *length),
-        Some(Kind::Embedded { name, pointer }) => bad_embedded(
-            tables, facts, node, *name, *pointer,
-        ),
+        Some(Kind::Embedded { name, pointer }) => {
+            if is_bad_embedded(
+                &tables.nodes,
+                &tables.types,
+                &facts.denoting,
+                *name,
+                *pointer,
+            ) {
+                Some((node, Rule::BadEmbeddedType))
+            } else {
+                None
+            }
+        }
         _ => None,
     };
     if let Some((part, rule)) = blamed {
@@ -98,37 +109,6 @@ fn bad_length(facts: &Facts, length: usize) -> Option<(usize, Rule)> {
         Some((length, Rule::BadArrayLength))
     } else {
         None
-    }
-}
-
-/// No pointer is embedded, nor a pointer to a pointer or an interface.
-fn bad_embedded(
-    tables: &Tables,
-    facts: &Facts,
-    node: usize,
-    name: usize,
-    pointer: bool,
-) -> Option<(usize, Rule)> {
-    let under = facts.denoting.under(name)?;
-    if is_pointer(tables, under) || (pointer && is_interface(tables, under)) {
-        Some((node, Rule::BadEmbeddedType))
-    } else {
-        None
-    }
-}
-
-fn is_pointer(tables: &Tables, under: Denoted) -> bool {
-    match under {
-        Denoted::Form(form) => matches!(tables.nodes.kind(form), Some(Kind::Pointer(_))),
-        Denoted::Declared(_) | Denoted::Predeclared(_) => false,
-    }
-}
-
-fn is_interface(tables: &Tables, under: Denoted) -> bool {
-    match under {
-        Denoted::Form(form) => matches!(tables.nodes.kind(form), Some(Kind::Interface(_))),
-        Denoted::Predeclared(of) => !matches!(tables.types.get(of), Some(TypeTerm::Basic(_))),
-        Denoted::Declared(_) => false,
     }
 }
 
@@ -188,7 +168,7 @@ fn bad_interface(
     let Some(under) = facts.denoting.under(name) else {
         return Ok(None);
     };
-    if !is_interface(tables, under) {
+    if !is_interface(&tables.nodes, &tables.types, under) {
         return Ok(Some(Rule::BadEmbeddedType));
     }
     let Some(methods) = facts
@@ -250,34 +230,6 @@ fn later(earlier: Earlier, of: TypeId, embedded: bool) -> Earlier {
     next
 }
 
-/// The declared type of a receiver, and whether the receiver is a pointer to it.
-#[derive(Clone, Copy)]
-pub struct Receiver {
-    pub declared: usize,
-    pub pointer: bool,
-}
-
-/// The declared type that a receiver's type is, or points to.
-pub fn receiver_base(tables: &Tables, denoting: &Denoting, form: usize) -> Option<Receiver> {
-    match denoting.denoted(form)? {
-        Denoted::Declared(declared) => Some(Receiver {
-            declared,
-            pointer: false,
-        }),
-        Denoted::Form(form) => match tables.nodes.kind(form)? {
-            Kind::Pointer(to) => match denoting.denoted(*to)? {
-                Denoted::Declared(declared) => Some(Receiver {
-                    declared,
-                    pointer: true,
-                }),
-                _ => None,
-            },
-            _ => None,
-        },
-        Denoted::Predeclared(_) => None,
-    }
-}
-
 /// Asks the rules of methods and their receivers.
 pub fn blame_methods(tables: &mut Tables, facts: &Facts) -> Result<(), NoMemory> {
     let mut seen = IndexSet::new(tables.alloc);
@@ -293,33 +245,19 @@ pub fn blame_methods(tables: &mut Tables, facts: &Facts) -> Result<(), NoMemory>
 
 /// A receiver is a declared type of the package that is no pointer and no interface, or a pointer to one.
 fn blame_receiver(tables: &mut Tables, facts: &Facts, method: MethodNode) -> Result<(), NoMemory> {
-    if facts.denoting.denoted(method.form).is_none() {
-        return Ok(());
-    }
-    let is_bad = match receiver_base(tables, &facts.denoting, method.form) {
-        None => true,
-        Some(base) => is_bad_base(tables, facts, method, base.declared),
-    };
+    let is_bad = is_bad_receiver(
+        &tables.nodes,
+        &tables.types,
+        &facts.denoting,
+        method.receiver,
+        method.form,
+    );
     if is_bad {
         tables
             .violations
             .push(&tables.nodes, method.receiver, Rule::BadReceiver)?;
     }
     Ok(())
-}
-
-fn is_bad_base(tables: &Tables, facts: &Facts, method: MethodNode, declared: usize) -> bool {
-    let own = match (
-        tables.nodes.get(declared),
-        tables.nodes.get(method.receiver),
-    ) {
-        (Some(declared), Some(receiver)) => declared.package == receiver.package,
-        _ => false,
-    };
-    match facts.denoting.under(declared) {
-        None => false,
-        Some(under) => !own || is_pointer(tables, under) || is_interface(tables, under),
-    }
 }
 
 /// A method has not the name of an earlier one of its type, nor that of a field.
@@ -332,7 +270,7 @@ fn blame_method(
     if method.name == tables.known.blank {
         return Ok(());
     }
-    let Some(base) = receiver_base(tables, &facts.denoting, method.form) else {
+    let Some(base) = receiver_base(&tables.nodes, &facts.denoting, method.form) else {
         return Ok(());
     };
     let part = InNode {

@@ -464,7 +464,7 @@ impl Finisher {
         id: FuncId,
         signature: TypeId,
     ) -> Result<(), NoMemory> {
-        let Some(base) = receiver_base(tables, &facts.denoting, receiver) else {
+        let Some(base) = receiver_base(&tables.nodes, &facts.denoting, receiver) else {
             return Err(lost());
         };
         let Some(of) = facts.shapes.get(base.declared) else {

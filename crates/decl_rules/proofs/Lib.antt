@@ -1,0 +1,4 @@
+pub mod Bases
+pub mod Circles
+pub mod Following
+pub mod Loops
