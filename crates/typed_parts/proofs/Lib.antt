@@ -7,3 +7,4 @@ pub mod Arms
 pub mod Adapts
 pub mod Wholes
 pub mod Turns
+pub mod Told

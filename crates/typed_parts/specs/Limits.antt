@@ -1,6 +1,6 @@
 -- The limits of types: a nesting of at most 1,000, and at most 1,048,576 leaves. What was found of a type is known from
 -- then on, and is told when the type is asked for again.
-use Rattle.std.specs.Prelude.{◌≡◌, ℕ, ◌*◌, ◌<◌, ◌≤◌, true, false, Bool, Option, Some, None, Result, Ok, Err}
+use Rattle.std.specs.Prelude.{◌≡◌, ℕ, ◌*◌, ◌<◌, ◌≤◌, nat_le, true, false, Bool, Option, Some, None, Result, Ok, Err}
 use Rattle.std.specs.declared.hash.BuildHasherDefault.{BuildHasherDefault}
 use Rattle.std.specs.declared.hash.FoldHasher.{FoldHasher}
 use Rattle.indexmap.specs.IndexMap.{get, IndexMap}
@@ -20,11 +20,11 @@ pub record Basis : Type 0 where
   pub within : IndexMap TypeId ℕ (BuildHasherDefault FoldHasher)
 
 abbrev pub basis : Ground → Basis
-basis ground = record { types = ground.types; within = ground.within }
+basis g = record { types = g.types; within = g.within }
 
 -- the ground with another basis
 abbrev pub on_basis : Basis → Ground → Ground
-on_basis base ground = record ground { types = base.types; within = base.within }
+on_basis base g = record g { types = base.types; within = base.within }
 
 -- ---- the limits, by the types alone
 
@@ -36,7 +36,7 @@ pub record IsWithinLimits (types : Table) (id : TypeId) (leaves : ℕ) : Type 0 
 
 pub data IsTooLarge (types : Table) (id : TypeId) : Type 0 where
   nested : IsNestedAbove 1000 types id → IsTooLarge types id
-  leaves : 1048576 < leaves_to 1000 types id → IsTooLarge types id
+  too_many : 1048576 < leaves_to 1000 types id → IsTooLarge types id
 
 -- ---- what is known
 
@@ -75,6 +75,11 @@ pub data IsFitting (at : Pos) (elem : TypeId) (len : ℕ) (before after : Basis)
   too_many : (leaves : ℕ) → IsTold before elem (Some leaves) after → 1048576 < leaves * len
       → IsFitting at elem len before after (breaks at TypeTooLarge)
   too_large : IsTold before elem None after → IsFitting at elem len before after (breaks at TypeTooLarge)
+
+-- whether so many elements have few enough leaves
+abbrev pub fit_leaves : Option ℕ → ℕ → Bool
+fit_leaves (Some leaves) len = nat_le (leaves * len) 1048576
+fit_leaves None len = false
 
 -- an answer that is yes or no
 abbrev pub granted : {E : Type 0} → Result Bool E → Result (Option (Unit {0})) E

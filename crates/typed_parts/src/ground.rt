@@ -4,7 +4,7 @@ ghost use Rattle.std.specs.Prelude.{◌≡◌, ◌∷◌, [], IfOk, OnOk, OnErr,
 ghost use Rattle.go_type.specs.Table.{term_at, with_term};
 ghost use Rattle.go_type.specs.declared.term.TypeTerm.TheVariants.{Tuple, Interface};
 ghost use Rattle.typed_parts.specs.Judged.{reported};
-ghost use Rattle.typed_parts.specs.Limits.{IsFitting, IsLimited, IsTold, basis, granted, on_basis};
+ghost use Rattle.typed_parts.specs.Limits.{IsFitting, IsLimited, IsTold, basis, fit_leaves, granted, on_basis};
 ghost use Rattle.typed_parts.specs.Turning.{Turns};
 ghost use Rattle.type_sizes.specs.Known.{IsSizeOf};
 
@@ -131,10 +131,8 @@ impl Ground {
     pub fn fit_many(&mut self, at: Pos, elem: TypeId, len: u64) -> Result<bool, NoMemory>
         ensures { Turns self.old self.new (granted result) (IsFitting at elem len) }
     {
-        let fits = match self.leaves_within(elem)? {
-            Some(leaves) => u128::from(leaves) * u128::from(len) <= u128::from(MOST_LEAVES),
-            None => false,
-        };
+        let leaves = self.leaves_within(elem)?;
+        let fits = fit_leaves(leaves, len);
         if !fits {
             self.report(at, Rule::TypeTooLarge);
         }
@@ -155,6 +153,16 @@ impl Ground {
         }
         self.within.insert(of, size.leaves)?;
         Ok(Some(size.leaves))
+    }
+}
+
+/// Whether so many elements have at most 1,048,576 leaves.
+fn fit_leaves(leaves: Option<u64>, len: u64) -> bool
+    ensures { result ≡ fit_leaves leaves len }
+{
+    match leaves {
+        Some(leaves) => u128::from(leaves) * u128::from(len) <= u128::from(MOST_LEAVES),
+        None => false,
     }
 }
 
