@@ -15,7 +15,8 @@ use Rattle.go_type.specs.Table.{Table}
 use Rattle.typed_parts.specs.Judged.{IsFine, Judged, fine}
 use Rattle.typed_parts.specs.Shapes.{pointed}
 use Rattle.typed_primaries.specs.Made.{IsOnOne}
-use Rattle.typed_parts.specs.Turning.{Asks, Basis, IsHeld, IsThenSoundly, Keeps}
+use Rattle.typed_parts.specs.Limits.{Basis}
+use Rattle.typed_parts.specs.Turning.{Asks, IsHeld, IsThenSoundly, Keeps}
 
 abbrev pub fields_in : Option TypeTerm → List Field
 fields_in (Some (Struct fields)) = fields

@@ -58,10 +58,10 @@ fn field_type(types: &Types, of: TypeId, field: u32) -> Result<TypeId, NoMemory>
 pub fn addressed(ground: &mut Ground, expr: TypedExpr) -> Result<TypedExpr, NoMemory>
     ensures { Turns ground.old ground.new (sound result) (IsAddressed expr) }
 {
-    if pointed(ground, expr.of).is_some() {
-        return Ok(expr);
+    match pointed(ground, expr.of) {
+        Some(_base) => Ok(expr),
+        None => address(ground, expr),
     }
-    address(ground, expr)
 }
 
 /// The address of a place, as an implicit node.
