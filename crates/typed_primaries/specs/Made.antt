@@ -12,7 +12,8 @@ abbrev pub IsOnOne : Pos → TypeId → (Box TypedExpr → ExprKind) → TypedEx
 IsOnOne at of form x made = (b : Box TypedExpr) × ((b.value ≡ x) × (made ≡ node at of (form b)))
 
 -- of two operands
-abbrev pub IsOnTwo : Pos → TypeId → (Box TypedExpr → Box TypedExpr → ExprKind) → TypedExpr → TypedExpr → TypedExpr → Type 0
+abbrev pub IsOnTwo : Pos → TypeId → (Box TypedExpr → Box TypedExpr → ExprKind) → TypedExpr → TypedExpr → TypedExpr
+    → Type 0
 IsOnTwo at of form x y made =
     (b : Box TypedExpr) × ((c : Box TypedExpr)
     × ((b.value ≡ x) × ((c.value ≡ y) × (made ≡ node at of (form b c)))))
