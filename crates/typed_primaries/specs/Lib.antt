@@ -1,1 +1,4 @@
 pub mod Composing
+pub mod Made
+pub mod Steps
+pub mod Indexing
