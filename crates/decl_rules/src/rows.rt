@@ -9,6 +9,7 @@ use decl_nodes::{ElementNode, InNode, Kind, MethodNode, Tables, is_marked};
 use go_base::{NoMemory, Rule, TypeId};
 use go_type::{MAX_LEAVES, MAX_NESTING};
 use indexmap::{IndexMap, IndexSet};
+use std::alloc::Global;
 
 /// What the rules look at.
 #[derive(Drop)]
@@ -66,34 +67,51 @@ fn is_written_type(kind: &Kind) -> bool {
 
 /// Keys of maps, lengths of arrays, what is embedded.
 fn blame_parts(tables: &mut Tables, facts: &Facts, node: usize) -> Result<(), NoMemory> {
-    let blamed = match tables.nodes.kind(node) {
-        Some(Kind::Map { key, .. }) => bad_key(facts, *key),
-        Some(Kind::Array { length, .. }) => bad_length(facts, *length),
-        Some(Kind::Embedded { name, pointer }) => {
-            if is_bad_embedded(
-                &tables.nodes,
-                &tables.types,
-                &facts.denoting,
-                *name,
-                *pointer,
-            ) {
-                Some((node, Rule::BadEmbeddedType))
-            } else {
-                None
-            }
-        }
-        _ => None,
-    };
-    if let Some((part, rule)) = blamed {
-        tables.violations.push(&tables.nodes, part, rule)?;
-    }
-    if let Some(Kind::Interface(elements)) = tables.nodes.kind(node) {
-        let blamed = bad_elements(tables, facts, elements.as_slice())?;
-        for (part, rule) in blamed.as_slice() {
-            tables.violations.push(&tables.nodes, *part, *rule)?;
-        }
+    let blamed = bad_parts(tables, facts, node)?;
+    for (part, rule) in blamed.as_slice() {
+        tables.violations.push(&tables.nodes, *part, *rule)?;
     }
     Ok(())
+}
+
+/// The parts of a node that are bad.
+fn bad_parts(tables: &Tables, facts: &Facts, node: usize) -> Result<Vec<(usize, Rule)>, NoMemory> {
+    match tables.nodes.kind(node) {
+        Some(Kind::Map { key, .. }) => one_or_none(tables.alloc, bad_key(facts, *key)),
+        Some(Kind::Array { length, .. }) => one_or_none(tables.alloc, bad_length(facts, *length)),
+        Some(Kind::Embedded { name, pointer }) => one_or_none(
+            tables.alloc,
+            bad_embedded(tables, facts, node, *name, *pointer),
+        ),
+        Some(Kind::Interface(elements)) => bad_elements(tables, facts, elements.as_slice()),
+        _ => Ok(Vec::new(tables.alloc)),
+    }
+}
+
+fn one_or_none(
+    alloc: Global,
+    blamed: Option<(usize, Rule)>,
+) -> Result<Vec<(usize, Rule)>, NoMemory> {
+    let mut all = Vec::new(alloc);
+    if let Some(one) = blamed {
+        all.push(one)?;
+    }
+    Ok(all)
+}
+
+/// No pointer is embedded, nor a pointer to a pointer or an interface.
+fn bad_embedded(
+    tables: &Tables,
+    facts: &Facts,
+    node: usize,
+    name: usize,
+    pointer: bool,
+) -> Option<(usize, Rule)> {
+    if is_bad_embedded(&tables.nodes, &tables.types, &facts.denoting, name, pointer) {
+        Some((node, Rule::BadEmbeddedType))
+    } else {
+        None
+    }
 }
 
 fn bad_key(facts: &Facts, key: usize) -> Option<(usize, Rule)> {
