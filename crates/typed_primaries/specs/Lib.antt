@@ -1,1 +1,4 @@
+pub mod Made
+pub mod Steps
+pub mod Indexing
 pub mod Composing
