@@ -3,3 +3,5 @@ pub mod Follows
 pub mod Indexes
 pub mod Gathering
 pub mod Composes
+pub mod Structures
+pub mod Keys
