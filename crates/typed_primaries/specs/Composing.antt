@@ -1,7 +1,8 @@
 -- Composite literals: what they are of, and their nodes. Go specification, "Composite literals".
-use Rattle.std.specs.Prelude.{◌≡◌, List, Option, Some, None}
+use Rattle.std.specs.Prelude.{◌≡◌, Bool, true, false, List, [], ◌∷◌, Option, Some, None}
 use Rattle.std.specs.Global.{Box}
 use Rattle.std.specs.List.{flat_map}
+use Rattle.std.specs.Option.{option_map}
 use Rattle.go_base.specs.declared.ids.TypeId.{TypeId}
 use Rattle.go_base.specs.declared.place.Pos.{Pos}
 use Rattle.go_base.specs.declared.rule.Rule.TheVariants.{BadCompositeLiteral}
@@ -102,6 +103,10 @@ IsNode literal of elements before after result =
     IsNodeFor literal.pointer literal.brace (composite literal.brace of elements) before after result
 
 -- ---- elements
+
+abbrev pub broken_where : Pos → Bool → List Broken
+broken_where at true = record { at = at; rule = BadCompositeLiteral } ∷ []
+broken_where at false = []
 
 -- what is broken in the values, which are asked where the type is unsound too
 abbrev pub values_broken : Table → List Entry → List Broken

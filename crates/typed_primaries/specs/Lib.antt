@@ -2,3 +2,4 @@ pub mod Composing
 pub mod Made
 pub mod Steps
 pub mod Indexing
+pub mod Structs

@@ -1,11 +1,11 @@
 //! Composite literals. Go specification, "Composite literals".
 
-ghost use Rattle.std.specs.Prelude.{◌≡◌};
+ghost use Rattle.std.specs.Prelude.{◌≡◌, not};
 ghost use Rattle.std.specs.Option.{option_map};
 ghost use Rattle.typed_parts.specs.Joining.{sound};
 ghost use Rattle.typed_parts.specs.Judged.{reported};
 ghost use Rattle.typed_parts.specs.Turning.{Turns};
-ghost use Rattle.typed_primaries.specs.Composing.{IsNode, elided, key_hint, literal_kind, open_array, value_hint, values_broken, written};
+ghost use Rattle.typed_primaries.specs.Composing.{IsNode, broken_where, elided, key_hint, literal_kind, open_array, value_hint, values_broken, written};
 
 use go_base::{NameId, NoMemory, Pos, Rule, TypeId};
 use go_tree::{Elements, ExprKind, TypedExpr};
@@ -201,6 +201,17 @@ pub fn literal_node(
         node(literal.brace, pointer, ExprKind::AddressOf(operand)),
         to,
     )
+}
+
+/// Whether what is asked of an element holds. `BadCompositeLiteral` at it where it does not.
+pub fn ask_at(ground: &mut Ground, at: Pos, holds: bool) -> bool
+    ensures told { result ≡ holds }
+    ensures broken { ground.new ≡ reported ground.old (broken_where at (not holds)) }
+{
+    if !holds {
+        ground.report(at, Rule::BadCompositeLiteral);
+    }
+    holds
 }
 
 /// Asks values alone, of a literal whose type is unsound.
