@@ -16,7 +16,7 @@ returns-in-Some-address-clause-does c =
     let fits : FitsSigned w128 c.in-Some.number = search rules in
     let s = state_of c.args.regs.now c.args.store.now in
     put_as c.put_int_at.result (int_assigned c.args.function.now s c.args.at.now c.args.value.now)
-    (stored c.args.store.now) (stored c.put_int_at.new.store) c.in-Some-address.at.now c.in-Some.number
+    (stored c.args.store.now) (stored c.put_int_at.new.self) c.in-Some-address.at.now c.in-Some.number
     (value_of (values.Int (to_z w128 (of_z w128 c.in-Some.number))))
     (int_is _ ∙ ap number (to_z-of_z w128 c.in-Some.number fits))
     (assigned_is c.args.function.now s c.args.at.now c.args.value.now c.in-Some-address.at.now c.in-Some.number
