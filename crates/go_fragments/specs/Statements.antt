@@ -17,11 +17,8 @@ use Rattle.go_grammar.specs.View.{view_expr, view_stmt, view_binding, view_case_
 use Rattle.go_grammar.specs.View.{tree, if_some, each, token_if}
 use Rattle.go_fragments.specs.declared.simples.Guard.{Guard}
 use Rattle.go_fragments.specs.declared.simples.GuardSuffix.{GuardSuffix}
-use Rattle.go_fragments.specs.declared.simples.HeaderParts.{HeaderParts}
-use Rattle.go_fragments.specs.declared.simples.Init.{Init}
 use Rattle.go_fragments.specs.declared.simples.Simple.{Simple}
 use Rattle.go_fragments.specs.declared.simples.Simple.TheVariants as simples
-use Rattle.go_fragments.specs.declared.simples.SwitchBody.{SwitchBody}
 
 -- ---- views
 
@@ -40,14 +37,9 @@ view_simple (simples.Assign targets operator values) =
 view_simple (simples.Define targets operator values) =
     tree forms.DefineForm (each view_listed_expr targets.items ⊕ one operator ⊕ each view_listed_expr values.items)
 
-abbrev pub view_init : Init → Forest
-view_init x = if_some boxed_stmt x.stmt ⊕ token_if x.semicolon
-
-abbrev pub view_header : HeaderParts → readings.HeaderParts
-view_header x = record { init = view_init x.init; last = if_some view_simple x.last }
-
-abbrev pub view_body : SwitchBody → Forest
-view_body x = one x.«open» ⊕ each view_case_clause x.clauses.items ⊕ one x.close
+-- the parts of a header, of which these two are the first statement and its semicolon
+abbrev pub header_of : Forest → Forest → Forest → readings.HeaderParts
+header_of stmt semicolon last = record { init = stmt ⊕ semicolon; last = last }
 
 abbrev pub view_guard : Guard → Forest
 view_guard x = if_some view_binding x.binding ⊕ boxed_expr x.operand
@@ -56,10 +48,12 @@ abbrev pub view_suffix : GuardSuffix → Forest
 view_suffix x = one x.dot ⊕ one x.open_paren ⊕ one x.type_word ⊕ one x.close_paren
 
 -- what stands behind the targets of an assignment, where no target ends in another token than a comma
+abbrev pub IsSplitBehind : Forest → Token → Forest → Type 0
+IsSplitBehind targets operator values = behind_list (targets ⊕ one operator ⊕ values) ≡ Some (operator, values)
+
 abbrev pub IsSplitAt : Vec ListedExpr → Token → Vec ListedExpr → Type 0
 IsSplitAt targets operator values =
-    behind_list (each view_listed_expr targets.items ⊕ one operator ⊕ each view_listed_expr values.items)
-    ≡ Some (operator, each view_listed_expr values.items)
+    IsSplitBehind (each view_listed_expr targets.items) operator (each view_listed_expr values.items)
 
 abbrev pub IsSplit : Simple → Type 0
 IsSplit (simples.Assign targets operator values) = IsSplitAt targets operator values

@@ -9,3 +9,4 @@ pub mod parts;
 pub mod simples;
 pub mod stop;
 pub mod tokens;
+pub mod trees;

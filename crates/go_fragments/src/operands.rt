@@ -1,6 +1,6 @@
 //! What an expression that was read may be used as, and where it stands.
 
-ghost use Rattle.std.specs.Prelude.{◌≡◌, Some};
+ghost use Rattle.std.specs.Prelude.{◌≡◌, IfOk};
 ghost use Rattle.go_ast.specs.declared.token.Kind.TheVariants.{OpenBrace, OpenBracket, Ellipsis};
 ghost use Rattle.go_grammar.specs.ExprReading as exprs;
 ghost use Rattle.go_grammar.specs.ExprReading.{begins_suffix};
@@ -8,7 +8,7 @@ ghost use Rattle.go_grammar.specs.StmtReading as stmts;
 ghost use Rattle.go_grammar.specs.Tests.{begins, begins_both, word_in};
 ghost use Rattle.go_grammar.specs.View.{each, one, view_expr, view_listed_expr, view_named, view_type_expr};
 ghost use Rattle.go_fragments.specs.Expressions.{name_token, single_of, type_named, view_context};
-ghost use Rattle.go_fragments.specs.Giving.{Gives, GivesOption};
+ghost use Rattle.go_fragments.specs.Giving.{Gives, Reads};
 ghost use Rattle.go_fragments.specs.Words.{begins_operand_type};
 ghost use Rattle.go_fragments.specs.Operands.{star_at, sign_at};
 ghost use Rattle.go_ast.specs.declared.token.Kind.TheVariants as kinds;
@@ -20,7 +20,7 @@ use crate::stop::Stop;
 use crate::tokens::{begins_with, begins_with_bare_type, begins_with_both, begins_with_sign, skip};
 use go_ast::{Kind, Token};
 use go_syntax::{Expr, ListedExpr, NamedType, TypeExpr};
-use std::alloc::Global;
+use std::alloc::{AllocError, Global};
 
 /// Where an expression stands.
 #[derive(Clone, Copy)]
@@ -94,7 +94,7 @@ fn is_name(expr: &Expr) -> bool
 
 /// Whether braces behind this are those of a literal.
 #[tactic(auto, using(go_grammar::proofs::Views::view_expr_type_form, go_grammar::proofs::Views::view_expr_name, go_grammar::proofs::Views::view_expr_selector, crate::proofs::Variants::name_before))]
-fn is_literal_type(context: Context, expr: &Expr) -> bool
+pub fn is_literal_type(context: Context, expr: &Expr) -> bool
     ensures { result ≡ exprs.is_literal_type (view_context context) (view_expr expr.now) }
 {
     match expr {
@@ -102,21 +102,6 @@ fn is_literal_type(context: Context, expr: &Expr) -> bool
         Expr::Name(_) => !context.is_header(),
         Expr::Selector { operand, .. } => !context.is_header() && is_name(operand),
         _ => false,
-    }
-}
-
-/// Whether an operand goes on here. `.(type)` is no part of it.
-pub fn begins_with_suffix(context: Context, left: &Expr, tokens: &[Token]) -> bool
-    ensures { result ≡ begins_suffix (view_context context) (view_expr left.now) tokens.now }
-{
-    match tokens {
-        [] => false,
-        [first, rest @ ..] => match first.kind {
-            Kind::Dot => !begins_with_both(rest, Kind::OpenParen, Kind::TypeWord),
-            Kind::OpenBracket | Kind::OpenParen => true,
-            Kind::OpenBrace => is_literal_type(context, left),
-            _ => false,
-        },
     }
 }
 
@@ -137,7 +122,9 @@ pub fn literal_type(alloc: Global, left: Box<Expr>) -> Result<Box<TypeExpr>, Sto
     match Box::into_inner(left).into_type() {
         Ok(form) => Ok(form),
         Err(other) => {
-            let name = type_name_of(&other)?;
+            let Some(name) = type_name_of(&other) else {
+                return Err(Stop::Unexpected);
+            };
             Ok(boxed(alloc, TypeExpr::Name(name))?)
         }
     }
@@ -145,92 +132,90 @@ pub fn literal_type(alloc: Global, left: Box<Expr>) -> Result<Box<TypeExpr>, Sto
 
 /// The name of a type, of what was read as an expression.
 #[tactic(auto, using(go_grammar::proofs::Views::view_expr_name, go_grammar::proofs::Views::view_expr_selector, crate::proofs::Variants::imported_none, crate::proofs::Variants::imported_some))]
-fn type_name_of(expr: &Expr) -> Result<NamedType, Stop>
-    ensures { Gives view_named result (type_named (view_expr expr.now)) }
+fn type_name_of(expr: &Expr) -> Option<NamedType>
+    ensures { Reads view_named result (type_named (view_expr expr.now)) }
 {
     match expr {
-        Expr::Name(name) => Ok(NamedType::Local(*name)),
+        Expr::Name(name) => Some(NamedType::Local(*name)),
         Expr::Selector { operand, dot, name } => {
             let package = token_of_name(operand)?;
-            Ok(NamedType::Imported {
+            Some(NamedType::Imported {
                 package,
                 dot: *dot,
                 name: *name,
             })
         }
-        _ => Err(Stop::Unexpected),
+        _ => None,
     }
 }
 
 /// `*` before an expression, or before a type that is none.
 #[tactic(auto, using(go_grammar::proofs::Views::view_expr_type_form, go_grammar::proofs::Views::view_type_expr_pointer, crate::proofs::Variants::starred_plain, crate::proofs::Variants::starred_type))]
-pub fn starred(alloc: Global, star: Token, operand: Box<Expr>) -> Result<Box<Expr>, Stop>
-    ensures { Gives (λ x. view_expr x.value) result (Some (exprs.starred star (view_expr operand.value))) }
+pub fn starred(alloc: Global, star: Token, operand: Box<Expr>) -> Result<Box<Expr>, AllocError>
+    ensures { IfOk result (λ x. view_expr x.value ≡ exprs.starred star (view_expr operand.value)) }
 {
     if !is_type_only(&operand) {
-        return with_sign(alloc, star, operand);
+        return Ok(with_sign(alloc, star, operand)?);
     }
     match Box::into_inner(operand).into_type() {
         Ok(base) => {
             let form = boxed(alloc, TypeExpr::Pointer { star, base })?;
             Ok(boxed(alloc, Expr::TypeForm(form))?)
         }
-        Err(_other) => Err(Stop::Unexpected),
+        Err(other) => Ok(boxed(alloc, other)?),
     }
 }
 
 /// An operand with a sign before the whole of it.
 #[tactic(auto, using(go_grammar::proofs::Views::view_expr_unary))]
-fn with_sign(alloc: Global, operator: Token, operand: Box<Expr>) -> Result<Box<Expr>, Stop>
-    ensures { Gives (λ x. view_expr x.value) result (Some (exprs.unary_of operator (view_expr operand.value))) }
+fn with_sign(alloc: Global, operator: Token, operand: Box<Expr>) -> Result<Box<Expr>, AllocError>
+    ensures { IfOk result (λ x. view_expr x.value ≡ exprs.unary_of operator (view_expr operand.value)) }
 {
     Ok(boxed(alloc, Expr::Unary { operator, operand })?)
 }
 
 /// The expression of a list of one, which no comma follows.
-pub fn single(list: Vec<ListedExpr>) -> Result<Box<Expr>, Stop>
-    ensures { Gives (λ x. view_expr x.value) result (single_of (each view_listed_expr list.items)) }
+pub fn single(list: Vec<ListedExpr>) -> Option<Box<Expr>>
+    ensures { Reads (λ x. view_expr x.value) result (single_of (each view_listed_expr list.items)) }
 {
     let mut list = list;
-    let Some(last) = list.pop() else {
-        return Err(Stop::Unexpected);
-    };
+    let last = list.pop()?;
     if !list.is_empty() {
-        return Err(Stop::Unexpected);
+        return None;
     }
     let (expr, comma) = last.into_parts();
     if comma.is_some() {
-        return Err(Stop::Unexpected);
+        return None;
     }
-    Ok(expr)
+    Some(expr)
 }
 
 /// The token of a name.
-pub fn name_of(expr: Box<Expr>) -> Result<Token, Stop>
-    ensures { Gives one result (name_token (view_expr expr.value)) }
+pub fn name_of(expr: Box<Expr>) -> Option<Token>
+    ensures { Reads one result (name_token (view_expr expr.value)) }
 {
     token_of_name(&expr)
 }
 
 /// The token of a name.
 #[tactic(auto, using(go_grammar::proofs::Views::view_expr_name))]
-fn token_of_name(expr: &Expr) -> Result<Token, Stop>
-    ensures { Gives one result (name_token (view_expr expr.now)) }
+fn token_of_name(expr: &Expr) -> Option<Token>
+    ensures { Reads one result (name_token (view_expr expr.now)) }
 {
     match expr {
-        Expr::Name(name) => Ok(*name),
-        _ => Err(Stop::Unexpected),
+        Expr::Name(name) => Some(*name),
+        _ => None,
     }
 }
 
 /// An operand and what follows it, as against one with operators.
-pub fn primary_of(expr: Box<Expr>) -> Result<Box<Expr>, Stop>
-    ensures { Gives (λ x. view_expr x.value) result (stmts.primary_of (view_expr expr.value)) }
+pub fn primary_of(expr: Box<Expr>) -> Option<Box<Expr>>
+    ensures { Reads (λ x. view_expr x.value) result (stmts.primary_of (view_expr expr.value)) }
 {
     if is_primary(&expr) {
-        return Ok(expr);
+        return Some(expr);
     }
-    Err(Stop::Unexpected)
+    None
 }
 
 /// Whether this is no operator with its operands.
@@ -258,45 +243,9 @@ pub fn begins_with_braces(tokens: &[Token]) -> bool
     begins_with(tokens, Kind::OpenBrace)
 }
 
-/// An integer literal. Go specification, "Integer literals".
-#[tactic(auto, using(go_grammar::proofs::Views::view_expr_int))]
-pub fn int_literal(alloc: Global, tokens: &[Token]) -> Result<(Box<Expr>, &[Token]), Stop>
-    ensures { Gives (λ x. (view_expr x.0.value, x.1.now)) result (node_in forms.IntForm (word_in kinds.Int) tokens.now) }
-{
-    let (token, rest) = skip(tokens, Kind::Int)?;
-    Ok((boxed(alloc, Expr::Int(token))?, rest))
-}
-
-/// A rune literal. Go specification, "Rune literals".
-#[tactic(auto, using(go_grammar::proofs::Views::view_expr_rune))]
-pub fn rune_literal(alloc: Global, tokens: &[Token]) -> Result<(Box<Expr>, &[Token]), Stop>
-    ensures { Gives (λ x. (view_expr x.0.value, x.1.now)) result (node_in forms.RuneForm (word_in kinds.Rune) tokens.now) }
-{
-    let (token, rest) = skip(tokens, Kind::Rune)?;
-    Ok((boxed(alloc, Expr::Rune(token))?, rest))
-}
-
-/// A string literal. Go specification, "String literals".
-#[tactic(auto, using(go_grammar::proofs::Views::view_expr_text))]
-pub fn text_literal(alloc: Global, tokens: &[Token]) -> Result<(Box<Expr>, &[Token]), Stop>
-    ensures { Gives (λ x. (view_expr x.0.value, x.1.now)) result (node_in forms.TextForm (word_in kinds.Text) tokens.now) }
-{
-    let (token, rest) = skip(tokens, Kind::Text)?;
-    Ok((boxed(alloc, Expr::Text(token))?, rest))
-}
-
-/// A name as an operand. Go specification, "Operands".
-#[tactic(auto, using(go_grammar::proofs::Views::view_expr_name))]
-pub fn name(alloc: Global, tokens: &[Token]) -> Result<(Box<Expr>, &[Token]), Stop>
-    ensures { Gives (λ x. (view_expr x.0.value, x.1.now)) result (node_in forms.NameForm (word_in kinds.Name) tokens.now) }
-{
-    let (token, rest) = skip(tokens, Kind::Name)?;
-    Ok((boxed(alloc, Expr::Name(token))?, rest))
-}
-
 /// A star, and the tokens behind it.
 pub fn star(tokens: &[Token]) -> Option<(Token, &[Token])>
-    ensures { GivesOption (λ x. (x.0, x.1.now)) result (star_at tokens.now) }
+    ensures { Reads (λ x. (x.0, x.1.now)) result (star_at tokens.now) }
 {
     match tokens {
         [first, rest @ ..] if first.kind == Kind::Star => Some((*first, rest)),
@@ -306,7 +255,7 @@ pub fn star(tokens: &[Token]) -> Option<(Token, &[Token])>
 
 /// A sign, and the tokens behind it. Before `chan`, `<-` is none.
 pub fn sign(tokens: &[Token]) -> Option<(Token, &[Token])>
-    ensures { GivesOption (λ x. (x.0, x.1.now)) result (sign_at tokens.now) }
+    ensures { Reads (λ x. (x.0, x.1.now)) result (sign_at tokens.now) }
 {
     match tokens {
         [first, rest @ ..] if begins_with_sign(tokens) => Some((*first, rest)),

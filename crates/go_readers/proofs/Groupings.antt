@@ -4,9 +4,6 @@ use Rattle.std.specs.Prelude.{if◌then◌else◌}
 use Rattle.go_ast.specs.declared.token.Kind.{Kind}
 use Rattle.go_ast.specs.declared.token.Kind.TheVariants as kinds
 use Rattle.go_ast.specs.declared.token.Token.{Token}
-use Rattle.go_syntax.specs.declared.exprs.Expr.{Expr}
-use Rattle.go_syntax.specs.declared.exprs.Expr.TheVariants as exprs
-use Rattle.std.specs.Global.{Box}
 use Rattle.go_grammar.specs.Shapes.{is}
 use Rattle.go_grammar.specs.Forests as forms
 use Rattle.go_grammar.specs.Forests.{Forest, empty, node, append}
@@ -15,9 +12,7 @@ use Rattle.go_grammar.specs.Reading.{Reader, Either, Before, ◌>>=◌, is_next,
 use Rattle.go_grammar.specs.Tests.{begins, begins_both, not_closed, word, word_in}
 use Rattle.go_grammar.specs.TypeReading.{Parsers}
 use Rattle.go_grammar.specs.ExprReading.{element_in, separated_in}
-use Rattle.go_grammar.specs.View.{one, if_some, view_expr}
 use Rattle.go_grammar.proofs.Forests.{append-assoc}
-use Rattle.go_grammar.proofs.Views.{view_expr_slice}
 use Rattle.go_fragments.specs.Words.{comma_in}
 use Rattle.go_fragments.proofs.Words.{before_braces}
 
@@ -37,13 +32,3 @@ element_alone p tokens after rest value comma seen v b c s = rw (s, v, b, comma_
 pub element_with_key : (p : Parsers) (tokens after next last rest : List Token) (key colon value comma seen : Forest) → p.value tokens ≡ Some (key, after) → begins kinds.Colon after ≡ true → word_in kinds.Colon after ≡ Some (colon, next) → p.value next ≡ Some (value, last) → comma_in kinds.CloseBrace last ≡ Some (comma, rest)
     → seen ≡ node forms.ElementForm (append key (append colon value)) comma → separated_in (element_in p) tokens ≡ Some (seen, rest)
 element_with_key p tokens after next last rest key colon value comma seen k b w v c s = rw (s, k, b, w, v, comma_of_element last, c) refl
-
--- ---- slices, without an upper bound and with one
-
-pub view_low_slice : (operand : Box Expr) («open» : Token) (low : Option (Box Expr)) (colon close : Token) → view_expr (exprs.Slice operand «open» low colon None close) ≡ node forms.SliceExprForm (append (view_expr operand.value) (append (one «open») (append (if_some (λ (y : Box Expr). view_expr y.value) low) (append (one colon) (one close))))) empty
-view_low_slice operand «open» low colon close = view_expr_slice operand «open» low colon None close
-
-pub view_high_slice : (operand : Box Expr) («open» : Token) (low : Option (Box Expr)) (colon : Token) (high : Box Expr) (close : Token) → view_expr (exprs.Slice operand «open» low colon (Some high) close) ≡ node forms.SliceExprForm (append (view_expr operand.value) (append (one «open») (append (if_some (λ (y : Box Expr). view_expr y.value) low) (append (one colon) (append (view_expr high.value) (one close)))))) empty
-view_high_slice operand «open» low colon high close = view_expr_slice operand «open» low colon (Some high) close
-
-pub ruleset slices = (view_low_slice, view_high_slice)

@@ -5,10 +5,9 @@ use Rattle.go_ast.specs.declared.token.Kind.TheVariants as kinds
 use Rattle.go_grammar.specs.Reading.{◌>>=◌}
 use Rattle.go_grammar.specs.Tests.{begins}
 use Rattle.go_grammar.specs.TypeReading.{Parsers, Entry, entry_in, entries_in}
-use Rattle.go_fragments.specs.declared.groups.Entry.{Entry as Read}
 use Rattle.go_fragments.specs.declared.stop.Stop.{Stop}
 use Rattle.go_fragments.specs.declared.stop.Stop.TheVariants as stops
-use Rattle.go_fragments.specs.Entries.{entries, view_entry}
+use Rattle.std.specs.Prelude.{map}
 use Rattle.go_fragments.specs.Giving.{Fails}
 
 -- what was read before, with what is read behind it
@@ -23,9 +22,9 @@ behind_one : (front : List Entry) (x : Entry) (read : Option (List Entry × List
 behind_one front x None = refl
 behind_one front x (Some more) = ap (λ (list : List Entry). Some (list, more.1)) (sym (append_assoc front (x ∷ []) more.0))
 
-pub entries_push : (xs : List Read) (x : Read) → entries (xs ++ x ∷ []) ≡ entries xs ++ view_entry x ∷ []
-entries_push [] x = refl
-entries_push (y ∷ ys) x = ap (λ (list : List Entry). view_entry y ∷ list) (entries_push ys x)
+pub entries_push : {A : Type 0} (seen : A → Entry) (xs : List A) (x : A) → map seen (xs ++ x ∷ []) ≡ map seen xs ++ seen x ∷ []
+entries_push seen [] x = refl
+entries_push seen (y ∷ ys) x = ap (λ (list : List Entry). seen y ∷ list) (entries_push seen ys x)
 
 abbrev unless_ended : Bool → List Token → Option (List Entry × List Token) → Option (List Entry × List Token)
 unless_ended is_end tokens more = if is_end then Some ([], tokens) else more

@@ -1,10 +1,8 @@
 -- What readers of simple statements read.
 use Rattle.std.proofs.Common.{◌≡◌, Bool, true, false, List, [], ◌∷◌, Option, Some, None, refl, sym, ap, ◌∙◌}
 use Rattle.std.specs.Prelude.{if◌then◌else◌}
-use Rattle.std.specs.Global.{Vec}
 use Rattle.go_ast.specs.declared.token.Token.{Token}
 use Rattle.go_ast.specs.declared.token.Kind.TheVariants as kinds
-use Rattle.go_syntax.specs.declared.exprs.ListedExpr.{ListedExpr}
 use Rattle.go_grammar.specs.Forests as forms
 use Rattle.go_grammar.specs.Forests.{Forest, empty, leaf, node, append}
 use Rattle.go_grammar.specs.Grammar.{is_assign, is_step}
@@ -15,12 +13,11 @@ use Rattle.go_grammar.specs.Tests.{begins, word_in}
 use Rattle.go_grammar.specs.TypeReading.{Parsers, Place, Plain, Header, Item}
 use Rattle.go_grammar.specs.ExprReading.{Left, context_of, is_item}
 use Rattle.go_grammar.specs.StmtReading.{at_part, expr, behind_list, is_single, simple_rest_in, exprs_in}
-use Rattle.go_grammar.specs.View.{one, tree, ◌⊕◌, each, view_listed_expr}
+use Rattle.go_grammar.specs.View.{one, tree, ◌⊕◌}
 use Rattle.go_grammar.proofs.Forests.{append-assoc}
-use Rattle.go_grammar.proofs.Views.{view_stmt_send, view_stmt_step, view_stmt_assign, view_stmt_define, view_stmt_expr}
 use Rattle.go_fragments.specs.Expressions.{single_of}
 use Rattle.go_readers.specs.Expressions.{list_in}
-use Rattle.go_fragments.specs.Statements.{IsSplitAt}
+use Rattle.go_fragments.specs.Statements.{IsSplitBehind}
 use Rattle.go_readers.specs.Statements.{IsList}
 use Rattle.go_fragments.proofs.Loops.{behind}
 use Rattle.go_fragments.proofs.SimpleStmts.{single_by, single_not}
@@ -89,17 +86,17 @@ module _ (p : Parsers) (place : Place) (targets : Forest) (tokens : List Token) 
   defines_nothing stops.Memory operator after i n d h e = tt
   defines_nothing stops.Unexpected operator after i n d h e = rest_define operator after i n d h ∙ ap (below_node forms.DefineForm (append targets (one operator))) e
 
-pub ruleset rests = (rest_assign, rest_define, rest_many, rest_send, rest_step, rest_expr, append-assoc, view_stmt_assign, view_stmt_define, view_stmt_send, view_stmt_step, view_stmt_expr)
+pub ruleset rests = (rest_assign, rest_define, rest_many, rest_send, rest_step, rest_expr, append-assoc)
 
 -- an operator is no comma
 no_comma : (kind : Kind) → is_assign kind ≡ true → is kind kinds.Comma ≡ false
 no_comma kinds.Comma h = absurd cc
 no_comma _ h = refl
 
-pub split_at : (targets : Vec ListedExpr) (operator : Token) (values : Vec ListedExpr) → IsList (each view_listed_expr targets.items) → is operator.kind kinds.Comma ≡ false → IsSplitAt targets operator values
+pub split_at : (targets : Forest) (operator : Token) (values : Forest) → IsList targets → is operator.kind kinds.Comma ≡ false → IsSplitBehind targets operator values
 split_at targets operator values list h =
-    let one_more : behind_list (one operator ⊕ each view_listed_expr values.items) ≡ Some (operator, each view_listed_expr values.items) = rw h refl in
-    list (one operator ⊕ each view_listed_expr values.items) ∙ one_more
+    let one_more : behind_list (one operator ⊕ values) ≡ Some (operator, values) = rw h refl in
+    list (one operator ⊕ values) ∙ one_more
 
 abbrev front_by : Bool → Token → List Token → Option Left
 front_by b token tokens = if b then Some (one token, tokens) else None
@@ -124,8 +121,8 @@ same_kind : (kind : Kind) → is kind kinds.Define ≡ true → is kind kinds.Co
 same_kind kinds.Comma h = absurd cc
 same_kind _ h = refl
 
-pub split_assign : (targets : Vec ListedExpr) (operator : Token) (values : Vec ListedExpr) (tokens after : List Token) → sign_in is_assign tokens ≡ Some (one operator, after) → IsList (each view_listed_expr targets.items) → IsSplitAt targets operator values
+pub split_assign : (targets : Forest) (operator : Token) (values : Forest) (tokens after : List Token) → sign_in is_assign tokens ≡ Some (one operator, after) → IsList targets → IsSplitBehind targets operator values
 split_assign targets operator values tokens after h list = split_at targets operator values list (no_comma operator.kind (sign_front is_assign tokens after operator h))
 
-pub split_define : (targets : Vec ListedExpr) (operator : Token) (values : Vec ListedExpr) (tokens after : List Token) → word_in kinds.Define tokens ≡ Some (one operator, after) → IsList (each view_listed_expr targets.items) → IsSplitAt targets operator values
+pub split_define : (targets : Forest) (operator : Token) (values : Forest) (tokens after : List Token) → word_in kinds.Define tokens ≡ Some (one operator, after) → IsList targets → IsSplitBehind targets operator values
 split_define targets operator values tokens after h list = split_at targets operator values list (same_kind operator.kind (sign_front (λ kind. is kind kinds.Define) tokens after operator h))

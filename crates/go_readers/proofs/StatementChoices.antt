@@ -3,12 +3,6 @@ use Rattle.std.proofs.Common.{◌≡◌, List, [], Option, Some, None, Bool, tru
 use Rattle.std.specs.Prelude.{not}
 use Rattle.go_ast.specs.declared.token.Kind.TheVariants as kinds
 use Rattle.go_ast.specs.declared.token.Token.{Token}
-use Rattle.std.specs.Global.{Box, Vec}
-use Rattle.go_syntax.specs.declared.exprs.ListedExpr.{ListedExpr}
-use Rattle.go_syntax.specs.declared.decls.Decl.TheViews.{roll-StmtLine}
-use Rattle.go_syntax.specs.declared.stmts.Label.{Label}
-use Rattle.go_syntax.specs.declared.stmts.Stmt.{Stmt}
-use Rattle.go_syntax.specs.declared.stmts.Stmt.TheVariants as stmts
 use Rattle.go_grammar.specs.Forests as forms
 use Rattle.go_grammar.specs.Forests.{Form, Forest, empty, node, append}
 use Rattle.go_grammar.specs.Grammar as sorts
@@ -18,14 +12,13 @@ use Rattle.go_grammar.specs.Tests.{begins, begins_both, begins_semicolon, word_i
 use Rattle.go_grammar.specs.TypeReading.{Parsers, Header}
 use Rattle.go_grammar.specs.ExprReading.{Left, block_in}
 use Rattle.go_grammar.specs.StmtReading.{switch_in, for_in, simple_in, simple_rest_in, range_in, for_clauses_in, while_in, for_rest_in, begins_range, is_range_assign, expr_of, exprs_in, goes_on, unlabeled_in}
-use Rattle.go_grammar.specs.View.{each, if_some, token_if, view_label, view_listed_expr, view_stmt, view_stmt_line}
+use Rattle.go_grammar.specs.View.{each}
 use Rattle.go_grammar.proofs.Forests.{append-empty}
-use Rattle.go_grammar.proofs.Views.{view_stmt_labeled, view_stmt_line_made}
 use Rattle.go_fragments.specs.declared.stop.Stop.{Stop}
 use Rattle.go_fragments.specs.declared.stop.Stop.TheVariants as stops
 use Rattle.go_readers.specs.Expressions.{list_in}
 use Rattle.go_fragments.specs.Giving.{Fails}
-use Rattle.go_fragments.specs.Statements.{boxed_stmt, labels_in}
+use Rattle.go_fragments.specs.Statements.{labels_in}
 use Rattle.go_readers.specs.Statements.{arms_in, compound_in, if_in, line_in, select_in, statement_in}
 use Rattle.go_fragments.specs.Words.{line_end_in}
 use Rattle.go_readers.proofs.Statements.{if_by_arms, labeled_by}
@@ -120,9 +113,6 @@ module _ (p : Parsers) (tokens : List Token) where
       ap as_line (if_not (begins_semicolon tokens) (then_in (statement_in p) end_of_stmt tokens) (sign_in is_semicolon tokens) b
       ∙ then_is (statement_in p) end_of_stmt tokens rest after stmt mark h (stmt_ended rest ∙ k))
 
-pub line_seen : (stmt : Option (Box Stmt)) (semicolon : Option Token) → node forms.LineForm (append (if_some boxed_stmt stmt) (token_if semicolon)) empty ≡ view_stmt_line (roll-StmtLine (record { stmt = stmt; semicolon = semicolon }))
-line_seen stmt semicolon = sym (view_stmt_line_made (record { stmt = stmt; semicolon = semicolon }))
-
 -- ---- statements with labels
 
 -- a statement behind labels, or nothing
@@ -150,9 +140,6 @@ module _ (p : Parsers) (tokens : List Token) where
     labels_wrong stops.Unexpected g h =
         labeled_by p tokens b ∙ node_then_none forms.LabeledForm labels_in (behind_labels p) tokens rest labels l (if_true (goes_on rest) (unlabeled_in p rest) (Some (empty, rest)) g ∙ h)
 
-pub seen_labeled : (labels : Vec Label) (stmt : Option (Box Stmt)) (seen : Stmt) → seen ≡ stmts.Labeled labels stmt → node forms.LabeledForm (append (each view_label labels.items) (if_some boxed_stmt stmt)) empty ≡ view_stmt seen
-seen_labeled labels stmt seen e = sym (ap view_stmt e ∙ view_stmt_labeled labels stmt)
-
 -- ---- for
 
 abbrev behind_for : Parsers → Left → Option Left
@@ -170,8 +157,8 @@ module _ (p : Parsers) (tokens rest : List Token) (opened : Forest) (w : word_in
   for_opened : for_in p tokens ≡ behind_for p (opened, rest)
   for_opened = ap (λ (read : Option Left). read >>= behind_for p) w
 
-  pub for_range : (items : List ListedExpr) → items ≡ [] → begins kinds.RangeWord rest ≡ true → for_in p tokens ≡ range_in p opened (append (each view_listed_expr items) empty) rest
-  for_range items n r = for_opened ∙ if_true (begins kinds.RangeWord rest) (range_in p opened empty rest) _ r ∙ ap (λ (none : List ListedExpr). range_in p opened (append (each view_listed_expr none) empty) rest) (sym n)
+  pub for_range : {A : Type 0} (seen : A → Forest) (items : List A) → items ≡ [] → begins kinds.RangeWord rest ≡ true → for_in p tokens ≡ range_in p opened (append (each seen items) empty) rest
+  for_range {A} seen items n r = for_opened ∙ if_true (begins kinds.RangeWord rest) (range_in p opened empty rest) _ r ∙ ap (λ (none : List A). range_in p opened (append (each seen none) empty) rest) (sym n)
 
   pub for_empty : begins kinds.RangeWord rest ≡ false → begins_semicolon rest ≡ true → for_in p tokens ≡ for_clauses_in p opened empty rest
   for_empty r s = for_opened ∙ if_false (begins kinds.RangeWord rest) (range_in p opened empty rest) _ r ∙ if_true (begins_semicolon rest) (for_clauses_in p opened empty rest) _ s

@@ -3,32 +3,6 @@ use Rattle.std.proofs.Common.{◌≡◌, ℕ, Bool, true, false, List, [], ◌�
 use Rattle.std.specs.Prelude.{◌||◌, if◌then◌else◌}
 use Rattle.go_ast.specs.declared.token.Token.{Token}
 use Rattle.go_ast.specs.declared.token.Kind.TheVariants as kinds
-use Rattle.go_syntax.specs.declared.decls.Decl.{Decl}
-use Rattle.go_syntax.specs.declared.exprs.Expr.{Expr}
-use Rattle.go_syntax.specs.declared.stmts.Stmt.{Stmt}
-use Rattle.go_syntax.specs.declared.type_exprs.ElementLine.{ElementLine}
-use Rattle.go_syntax.specs.declared.type_exprs.FieldLine.{FieldLine}
-use Rattle.go_syntax.specs.declared.type_exprs.ResultForm.{ResultForm}
-use Rattle.go_syntax.specs.declared.type_exprs.TypeExpr.{TypeExpr}
-use Rattle.go_syntax.specs.declared.decls.FuncDecl.{FuncDecl}
-use Rattle.go_syntax.specs.declared.decls.TypeSpec.{TypeSpec}
-use Rattle.go_syntax.specs.declared.decls.ValueSpec.{ValueSpec}
-use Rattle.go_syntax.specs.declared.exprs.Element.{Element}
-use Rattle.go_syntax.specs.declared.exprs.ListedExpr.{ListedExpr}
-use Rattle.go_syntax.specs.declared.stmts.Block.{Block}
-use Rattle.go_syntax.specs.declared.stmts.CaseClause.{CaseClause}
-use Rattle.go_syntax.specs.declared.stmts.CommClause.{CommClause}
-use Rattle.go_syntax.specs.declared.stmts.ForStmt.{ForStmt}
-use Rattle.go_syntax.specs.declared.stmts.IfArm.{IfArm}
-use Rattle.go_syntax.specs.declared.stmts.RangeStmt.{RangeStmt}
-use Rattle.go_syntax.specs.declared.stmts.StmtLine.{StmtLine}
-use Rattle.go_syntax.specs.declared.stmts.SwitchStmt.{SwitchStmt}
-use Rattle.go_syntax.specs.declared.stmts.TypeSwitchStmt.{TypeSwitchStmt}
-use Rattle.go_syntax.specs.declared.type_exprs.Param.{Param}
-use Rattle.go_syntax.specs.declared.type_exprs.Params.{Params}
-use Rattle.go_syntax.specs.declared.type_exprs.Signature.{Signature}
-use Rattle.go_syntax.specs.declared.decls.Decl.TheOpen.{IfArm-F, ForStmt-F, RangeStmt-F}
-use Rattle.go_syntax.specs.declared.decls.Decl.TheViews.{roll-IfArm, roll-ForStmt, roll-RangeStmt}
 use Rattle.go_grammar.specs.Forests as forms
 use Rattle.go_grammar.specs.Forests.{Form, Forest, empty, node, append}
 use Rattle.go_grammar.specs.Shapes.{is}
@@ -38,16 +12,15 @@ use Rattle.go_grammar.specs.Tests.{begins, begins_both, word_in}
 use Rattle.go_grammar.specs.TypeReading.{Parsers, Place, Plain, Header, Item}
 use Rattle.go_grammar.specs.ExprReading.{Left, block_in, context_of, is_item}
 use Rattle.go_grammar.specs.StmtReading.{at_part, begins_decl, items, if_rest_in, unlabeled_in, decl_in, exprs_in, goes_on}
-use Rattle.go_grammar.specs.View.{one, tree, ◌⊕◌, if_some, each, token_if, view_block, view_listed_expr, view_if_arm, view_for_stmt, view_range_stmt}
+use Rattle.go_grammar.specs.View.{one}
 use Rattle.go_grammar.proofs.Forests.{append-assoc}
-use Rattle.go_grammar.proofs.Views.{view_if_arm_made, view_stmt_decl, view_stmt_labeled, view_stmt_line_made, view_stmt_return, view_case_clause_made, view_stmt_for, view_for_stmt_made, view_stmt_range, view_range_stmt_made}
 use Rattle.go_grammar.specs.FileReading.{parsers}
 use Rattle.go_grammar.proofs.Nodes.{behind_exprs}
 use Rattle.go_grammar.proofs.ParamTakes.{params_takes, results_takes}
 use Rattle.go_grammar.proofs.SoundReading.{all_sound}
 use Rattle.go_grammar.proofs.StmtTakes.{exprs_takes}
 use Rattle.go_readers.specs.Expressions.{list_in}
-use Rattle.go_fragments.specs.Statements.{boxed_expr, boxed_stmt, label_in, labels_in, branch_in, begins_branch, begins_decl_at}
+use Rattle.go_fragments.specs.Statements.{label_in, labels_in, branch_in, begins_branch, begins_decl_at}
 use Rattle.go_readers.specs.Statements.{statement_in, arm_in, arms_in, else_arm_in, if_in, IsList, compound_in, go_in, defer_in, return_in}
 use Rattle.go_fragments.proofs.Loops.{behind, behind_both}
 use Rattle.go_fragments.proofs.Words.{before_braces}
@@ -73,23 +46,6 @@ below_node form front read = read >>= λ x. Some (node form (append front x.0) e
 pub below_both : (form : Form) (front next : Forest) (read : Option Left) → below_node form front (behind next read) ≡ below_node form (append front next) read
 below_both form front next None = refl
 below_both form front next (Some x) = ap (λ (tree : Forest). Some (node form tree empty, x.1)) (sym (append-assoc front next x.0))
-
--- ---- views
-
-pub arm_made : (x : IfArm-F Decl Expr Stmt ElementLine FieldLine ResultForm TypeExpr FuncDecl TypeSpec ValueSpec Element ListedExpr Block CaseClause CommClause ForStmt IfArm RangeStmt StmtLine SwitchStmt TypeSwitchStmt Param Params Signature) → view_if_arm (roll-IfArm x) ≡ tree forms.ArmForm (token_if x.else_word ⊕ one x.word ⊕ (if_some boxed_stmt x.init ⊕ token_if x.semicolon) ⊕ boxed_expr x.condition ⊕ view_block x.body)
-arm_made x = view_if_arm_made x ∙ ap (λ (seen : Forest). tree forms.ArmForm (token_if x.else_word ⊕ one x.word ⊕ seen)) (sym (append-assoc (if_some boxed_stmt x.init) (token_if x.semicolon) (boxed_expr x.condition ⊕ view_block x.body)))
-
-pub ruleset arms = (arm_made)
-
-pub for_made : (x : ForStmt-F Decl Expr Stmt ElementLine FieldLine ResultForm TypeExpr FuncDecl TypeSpec ValueSpec Element ListedExpr Block CaseClause CommClause ForStmt IfArm RangeStmt StmtLine SwitchStmt TypeSwitchStmt Param Params Signature) → view_for_stmt (roll-ForStmt x) ≡ tree forms.ForForm (one x.word ⊕ if_some boxed_stmt x.init ⊕ one x.first ⊕ (if_some boxed_expr x.condition ⊕ one x.second) ⊕ if_some boxed_stmt x.post ⊕ view_block x.body)
-for_made x = view_for_stmt_made x ∙ ap (λ (seen : Forest). tree forms.ForForm (one x.word ⊕ if_some boxed_stmt x.init ⊕ one x.first ⊕ seen)) (sym (append-assoc (if_some boxed_expr x.condition) (one x.second) (if_some boxed_stmt x.post ⊕ view_block x.body)))
-
-pub range_made : (x : RangeStmt-F Decl Expr Stmt ElementLine FieldLine ResultForm TypeExpr FuncDecl TypeSpec ValueSpec Element ListedExpr Block CaseClause CommClause ForStmt IfArm RangeStmt StmtLine SwitchStmt TypeSwitchStmt Param Params Signature) → view_range_stmt (roll-RangeStmt x) ≡ tree forms.RangeForm (one x.word ⊕ (each view_listed_expr x.targets.items ⊕ token_if x.operator) ⊕ one x.range ⊕ boxed_expr x.operand ⊕ view_block x.body)
-range_made x = view_range_stmt_made x ∙ ap (λ (seen : Forest). tree forms.RangeForm (one x.word ⊕ seen)) (sym (append-assoc (each view_listed_expr x.targets.items) (token_if x.operator) (one x.range ⊕ boxed_expr x.operand ⊕ view_block x.body)))
-
-pub ruleset fors = (view_stmt_for, for_made)
-
-pub ruleset ranges = (view_stmt_range, range_made)
 
 -- ---- statements
 
@@ -134,7 +90,7 @@ module _ (p : Parsers) (tokens : List Token) where
   pub compound_last : begins_decl_at tokens ≡ false → begins kinds.GoWord tokens ≡ false → begins kinds.DeferWord tokens ≡ false → begins kinds.ReturnWord tokens ≡ false → begins_branch tokens ≡ false → unlabeled_in p tokens ≡ compound_in p tokens
   compound_last h g f r b = let d : is_next begins_decl tokens ≡ false = next_decl tokens ∙ h in rw (d, g, f, r) (none_of_three (begins kinds.BreakWord tokens) (begins kinds.ContinueWord tokens) (begins kinds.FallthroughWord tokens) _ _ _ (compound_in p tokens) b)
 
-pub ruleset unlabeled = (view_stmt_decl, decl_first, go_first, defer_first, return_first, branch_first, compound_last)
+pub ruleset unlabeled = (decl_first, go_first, defer_first, return_first, branch_first, compound_last)
 
 pub else_arm_by : (p : Parsers) (tokens rest : List Token) (else_word : Token) → word_in kinds.ElseWord tokens ≡ Some (one else_word, rest) → else_arm_in p tokens ≡ arm_in p (one else_word) rest
 else_arm_by p tokens rest else_word h = rw h (below_both forms.ArmForm empty (one else_word) (if_rest_in p rest))
@@ -145,14 +101,14 @@ labeled_by p tokens h =
     rw h (ap (below_node forms.LabeledForm empty)
     (then_assoc label_in (λ behind. many_in (begins_both kinds.Name kinds.Colon) label_in (length behind) behind) inner tokens))
 
-pub ruleset labeled = (labeled_by, view_stmt_labeled)
+pub ruleset labeled = (labeled_by)
 
 pub if_by_arms : (p : Parsers) (tokens : List Token) → if_in p tokens ≡ node_in forms.IfForm (then_in (arms_in p) (either_in (begins kinds.ElseWord) (then_in (word_in kinds.ElseWord) (block_in p)) (λ rest. Some (empty, rest)))) tokens
 if_by_arms p tokens =
     ap (below_node forms.IfForm empty)
     (then_assoc (arm_in p empty) (λ behind. many_in (begins_both kinds.ElseWord kinds.IfWord) (else_arm_in p) (length behind) behind) (either_in (begins kinds.ElseWord) (then_in (word_in kinds.ElseWord) (block_in p)) (λ rest. Some (empty, rest))) tokens)
 
-pub ruleset lines = (view_stmt_line_made, before_braces)
+pub ruleset lines = (before_braces)
 
 -- ---- lists of expressions
 
@@ -174,6 +130,4 @@ exprs_list depth place tokens rest trees i e =
 
 pub ruleset listed = (exprs_listed)
 
-pub ruleset cases = (items_listed, view_case_clause_made)
-
-pub ruleset returned = (view_stmt_return)
+pub ruleset cases = (items_listed)

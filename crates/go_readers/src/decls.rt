@@ -6,132 +6,138 @@ ghost use Rattle.go_grammar.specs.Forests.{append};
 ghost use Rattle.go_grammar.specs.Forests as forms;
 ghost use Rattle.go_grammar.specs.Grammar as sorts;
 ghost use Rattle.go_grammar.specs.StmtReading.{decl_in, at_spec};
-ghost use Rattle.go_grammar.specs.View.{view_decl, view_func_decl, view_type_spec, view_value_spec, view_listed_expr, view_params, view_block, each, if_some, token_if};
+ghost use Rattle.go_grammar.specs.View.{view_listed_name, each, if_some, one, token_if};
 ghost use Rattle.go_grammar.specs.FileReading.{parsers};
 ghost use Rattle.go_fragments.specs.Giving.{Gives};
 ghost use Rattle.go_readers.specs.Funcs.{func_in};
-ghost use Rattle.go_fragments.specs.Specs.{view_values, view_named_form};
+ghost use Rattle.go_fragments.specs.Specs.{values_of, named_form_of};
 ghost use Rattle.go_readers.specs.Specs.{view_group, optional_values_in, value_sort, group_in, spec_line_in, spec_lines_in, parens_in, declaration_in, receiver_in, optional_receiver_in, optional_body_in};
 
 use crate::exprs::expr_list;
+use crate::parts::{Group, NamedForm, ValueParts};
 use crate::stmts::block;
 use crate::types::{optional_type, signature, type_expr};
 use go_ast::{Kind, Token};
 use go_fragments::operands::Context;
-use go_fragments::parts::{
-    NamedForm, ValueParts, alone, func_of, listed_names, params_of, receiver_name, receiver_param,
-    type_spec_of, value_spec_of,
-};
+use go_fragments::parts::{alone, listed_names, receiver_name};
 use go_fragments::stop::Stop;
-use go_fragments::tokens::{begins_with, begins_with_type, line_end, names, optional, skip};
-use go_syntax::{Block, Decl, FuncDecl, ListedExpr, Params, TypeSpec, ValueSpec};
+use go_fragments::tokens::{
+    begins_with, begins_with_type, line_end, names, next_if, optional, skip,
+};
+use go_fragments::trees::Trees;
 use std::alloc::Global;
 
 /// A declaration of constants, types or variables.
 #[cycle(parser)]
-pub fn decl(alloc: Global, depth: usize, tokens: &[Token]) -> Result<(Decl, &[Token]), Stop>
-    ensures { Gives (λ x. (view_decl x.0, x.1.now)) result (decl_in (parsers depth) tokens.now) }
+pub fn decl<T: Trees>(
+    alloc: Global,
+    depth: usize,
+    tokens: &[Token],
+) -> Result<(T::Decl, &[Token]), Stop>
+    ensures { Gives (λ x. (T.seen_decl x.0, x.1.now)) result (decl_in (parsers depth) tokens.now) }
 {
     let is_const = begins_with(tokens, Kind::ConstWord);
     if is_const {
-        return const_decl(alloc, depth, tokens);
+        return const_decl::<T>(alloc, depth, tokens);
     }
     let is_type = begins_with(tokens, Kind::TypeWord);
     if is_type {
-        return type_decl(alloc, depth, tokens);
+        return type_decl::<T>(alloc, depth, tokens);
     }
-    var_decl(alloc, depth, tokens)
+    var_decl::<T>(alloc, depth, tokens)
 }
 
 /// A declaration of constants. Go specification, "Constant declarations".
 #[cycle(parser)]
-#[tactic(auto, using(go_grammar::proofs::Views::view_decl_const))]
-fn const_decl(alloc: Global, depth: usize, tokens: &[Token]) -> Result<(Decl, &[Token]), Stop>
-    ensures { Gives (λ x. (view_decl x.0, x.1.now)) result (declaration_in (parsers depth) forms.ConstForm kinds.ConstWord sorts.ConstSpec tokens.now) }
+fn const_decl<T: Trees>(
+    alloc: Global,
+    depth: usize,
+    tokens: &[Token],
+) -> Result<(T::Decl, &[Token]), Stop>
+    ensures { Gives (λ x. (T.seen_decl x.0, x.1.now)) result (declaration_in (parsers depth) forms.ConstForm kinds.ConstWord sorts.ConstSpec tokens.now) }
 {
-    let (word, rest) = skip(tokens, Kind::ConstWord)?;
-    let (group, rest) = value_specs(alloc, depth, true, rest)?;
-    let decl = Decl::Const {
-        word,
-        open: group.opening,
-        specs: group.specs,
-        close: group.closing,
+    let Some((word, rest)) = skip(tokens, Kind::ConstWord) else {
+        return Err(Stop::Unexpected);
     };
-    Ok((decl, rest))
+    let (group, rest) = value_specs::<T>(alloc, depth, true, rest)?;
+    Ok((
+        T::const_decl(word, group.opening, group.specs, group.closing),
+        rest,
+    ))
 }
 
 /// A declaration of types. Go specification, "Type declarations".
 #[cycle(parser)]
-#[tactic(auto, using(go_grammar::proofs::Views::view_decl_type_decl))]
-fn type_decl(alloc: Global, depth: usize, tokens: &[Token]) -> Result<(Decl, &[Token]), Stop>
-    ensures { Gives (λ x. (view_decl x.0, x.1.now)) result (declaration_in (parsers depth) forms.TypeDeclForm kinds.TypeWord sorts.TypeSpec tokens.now) }
+fn type_decl<T: Trees>(
+    alloc: Global,
+    depth: usize,
+    tokens: &[Token],
+) -> Result<(T::Decl, &[Token]), Stop>
+    ensures { Gives (λ x. (T.seen_decl x.0, x.1.now)) result (declaration_in (parsers depth) forms.TypeDeclForm kinds.TypeWord sorts.TypeSpec tokens.now) }
 {
-    let (word, rest) = skip(tokens, Kind::TypeWord)?;
-    let (group, rest) = type_specs(alloc, depth, rest)?;
-    let decl = Decl::TypeDecl {
-        word,
-        open: group.opening,
-        specs: group.specs,
-        close: group.closing,
+    let Some((word, rest)) = skip(tokens, Kind::TypeWord) else {
+        return Err(Stop::Unexpected);
     };
-    Ok((decl, rest))
+    let (group, rest) = type_specs::<T>(alloc, depth, rest)?;
+    Ok((
+        T::type_decl(word, group.opening, group.specs, group.closing),
+        rest,
+    ))
 }
 
 /// A declaration of variables. Go specification, "Variable declarations".
 #[cycle(parser)]
-#[tactic(auto, using(go_grammar::proofs::Views::view_decl_var))]
-fn var_decl(alloc: Global, depth: usize, tokens: &[Token]) -> Result<(Decl, &[Token]), Stop>
-    ensures { Gives (λ x. (view_decl x.0, x.1.now)) result (declaration_in (parsers depth) forms.VarForm kinds.VarWord sorts.VarSpec tokens.now) }
+fn var_decl<T: Trees>(
+    alloc: Global,
+    depth: usize,
+    tokens: &[Token],
+) -> Result<(T::Decl, &[Token]), Stop>
+    ensures { Gives (λ x. (T.seen_decl x.0, x.1.now)) result (declaration_in (parsers depth) forms.VarForm kinds.VarWord sorts.VarSpec tokens.now) }
 {
-    let (word, rest) = skip(tokens, Kind::VarWord)?;
-    let (group, rest) = value_specs(alloc, depth, false, rest)?;
-    let decl = Decl::Var {
-        word,
-        open: group.opening,
-        specs: group.specs,
-        close: group.closing,
+    let Some((word, rest)) = skip(tokens, Kind::VarWord) else {
+        return Err(Stop::Unexpected);
     };
-    Ok((decl, rest))
-}
-
-/// Specifications: one, or any number of them in parentheses.
-#[derive(Drop)]
-struct Group<T> {
-    opening: Option<Token>,
-    specs: Vec<T>,
-    closing: Option<Token>,
+    let (group, rest) = value_specs::<T>(alloc, depth, false, rest)?;
+    Ok((
+        T::var_decl(word, group.opening, group.specs, group.closing),
+        rest,
+    ))
 }
 
 /// What a declaration of constants or variables declares.
 #[cycle(parser)]
-fn value_specs(
+fn value_specs<T: Trees>(
     alloc: Global,
     depth: usize,
     constant: bool,
     tokens: &[Token],
-) -> Result<(Group<ValueSpec>, &[Token]), Stop>
-    ensures { Gives (λ x. (view_group view_value_spec x.0.opening x.0.specs.items x.0.closing, x.1.now)) result (group_in (parsers depth) (value_sort constant) tokens.now) }
+) -> Result<(Group<T::ValueSpec>, &[Token]), Stop>
+    ensures { Gives (λ x. (view_group T.seen_value_spec x.0.opening x.0.specs.items x.0.closing, x.1.now)) result (group_in (parsers depth) (value_sort constant) tokens.now) }
 {
     let has_parens = begins_with(tokens, Kind::OpenParen);
     if has_parens {
-        return value_group(alloc, depth, constant, tokens);
+        return value_group::<T>(alloc, depth, constant, tokens);
     }
-    lone_value(alloc, depth, constant, tokens)
+    lone_value::<T>(alloc, depth, constant, tokens)
 }
 
 /// Constants or variables in parentheses.
 #[cycle(parser)]
-fn value_group(
+fn value_group<T: Trees>(
     alloc: Global,
     depth: usize,
     constant: bool,
     tokens: &[Token],
-) -> Result<(Group<ValueSpec>, &[Token]), Stop>
-    ensures { Gives (λ x. (view_group view_value_spec x.0.opening x.0.specs.items x.0.closing, x.1.now)) result (parens_in (parsers depth) (value_sort constant) tokens.now) }
+) -> Result<(Group<T::ValueSpec>, &[Token]), Stop>
+    ensures { Gives (λ x. (view_group T.seen_value_spec x.0.opening x.0.specs.items x.0.closing, x.1.now)) result (parens_in (parsers depth) (value_sort constant) tokens.now) }
 {
-    let (opening, rest) = skip(tokens, Kind::OpenParen)?;
-    let (specs, rest) = value_lines(alloc, depth, constant, rest)?;
-    let (closing, rest) = skip(rest, Kind::CloseParen)?;
+    let Some((opening, rest)) = skip(tokens, Kind::OpenParen) else {
+        return Err(Stop::Unexpected);
+    };
+    let (specs, rest) = value_lines::<T>(alloc, depth, constant, rest)?;
+    let Some((closing, rest)) = skip(rest, Kind::CloseParen) else {
+        return Err(Stop::Unexpected);
+    };
     let group = Group {
         opening: Some(opening),
         specs,
@@ -143,16 +149,19 @@ fn value_group(
 /// Constants or variables of one line.
 #[cycle(parser)]
 #[tactic(auto, using(go_fragments::proofs::Receivers::each_alone))]
-fn lone_value(
+fn lone_value<T: Trees>(
     alloc: Global,
     depth: usize,
     constant: bool,
     tokens: &[Token],
-) -> Result<(Group<ValueSpec>, &[Token]), Stop>
-    ensures { Gives (λ x. (view_group view_value_spec x.0.opening x.0.specs.items x.0.closing, x.1.now)) result (at_spec (parsers depth) (value_sort constant) tokens.now) }
+) -> Result<(Group<T::ValueSpec>, &[Token]), Stop>
+    ensures { Gives (λ x. (view_group T.seen_value_spec x.0.opening x.0.specs.items x.0.closing, x.1.now)) result (at_spec (parsers depth) (value_sort constant) tokens.now) }
 {
-    let (spec, rest) = values(alloc, depth, constant, tokens)?;
-    let specs = alone(alloc, value_spec_of(spec, None))?;
+    let (spec, rest) = values::<T>(alloc, depth, constant, tokens)?;
+    let specs = alone(
+        alloc,
+        T::value_spec_of(spec.names, spec.form, spec.assign, spec.values, None),
+    )?;
     let group = Group {
         opening: None,
         specs,
@@ -163,32 +172,36 @@ fn lone_value(
 
 /// What a declaration of types declares.
 #[cycle(parser)]
-fn type_specs(
+fn type_specs<T: Trees>(
     alloc: Global,
     depth: usize,
     tokens: &[Token],
-) -> Result<(Group<TypeSpec>, &[Token]), Stop>
-    ensures { Gives (λ x. (view_group view_type_spec x.0.opening x.0.specs.items x.0.closing, x.1.now)) result (group_in (parsers depth) sorts.TypeSpec tokens.now) }
+) -> Result<(Group<T::TypeSpec>, &[Token]), Stop>
+    ensures { Gives (λ x. (view_group T.seen_type_spec x.0.opening x.0.specs.items x.0.closing, x.1.now)) result (group_in (parsers depth) sorts.TypeSpec tokens.now) }
 {
     let has_parens = begins_with(tokens, Kind::OpenParen);
     if has_parens {
-        return type_group(alloc, depth, tokens);
+        return type_group::<T>(alloc, depth, tokens);
     }
-    lone_type(alloc, depth, tokens)
+    lone_type::<T>(alloc, depth, tokens)
 }
 
 /// Types in parentheses.
 #[cycle(parser)]
-fn type_group(
+fn type_group<T: Trees>(
     alloc: Global,
     depth: usize,
     tokens: &[Token],
-) -> Result<(Group<TypeSpec>, &[Token]), Stop>
-    ensures { Gives (λ x. (view_group view_type_spec x.0.opening x.0.specs.items x.0.closing, x.1.now)) result (parens_in (parsers depth) sorts.TypeSpec tokens.now) }
+) -> Result<(Group<T::TypeSpec>, &[Token]), Stop>
+    ensures { Gives (λ x. (view_group T.seen_type_spec x.0.opening x.0.specs.items x.0.closing, x.1.now)) result (parens_in (parsers depth) sorts.TypeSpec tokens.now) }
 {
-    let (opening, rest) = skip(tokens, Kind::OpenParen)?;
-    let (specs, rest) = type_lines(alloc, depth, rest)?;
-    let (closing, rest) = skip(rest, Kind::CloseParen)?;
+    let Some((opening, rest)) = skip(tokens, Kind::OpenParen) else {
+        return Err(Stop::Unexpected);
+    };
+    let (specs, rest) = type_lines::<T>(alloc, depth, rest)?;
+    let Some((closing, rest)) = skip(rest, Kind::CloseParen) else {
+        return Err(Stop::Unexpected);
+    };
     let group = Group {
         opening: Some(opening),
         specs,
@@ -200,15 +213,18 @@ fn type_group(
 /// One type.
 #[cycle(parser)]
 #[tactic(auto, using(go_fragments::proofs::Receivers::each_alone))]
-fn lone_type(
+fn lone_type<T: Trees>(
     alloc: Global,
     depth: usize,
     tokens: &[Token],
-) -> Result<(Group<TypeSpec>, &[Token]), Stop>
-    ensures { Gives (λ x. (view_group view_type_spec x.0.opening x.0.specs.items x.0.closing, x.1.now)) result (at_spec (parsers depth) sorts.TypeSpec tokens.now) }
+) -> Result<(Group<T::TypeSpec>, &[Token]), Stop>
+    ensures { Gives (λ x. (view_group T.seen_type_spec x.0.opening x.0.specs.items x.0.closing, x.1.now)) result (at_spec (parsers depth) sorts.TypeSpec tokens.now) }
 {
-    let (spec, rest) = named_form(alloc, depth, tokens)?;
-    let specs = alone(alloc, type_spec_of(spec, None))?;
+    let (spec, rest) = named_form::<T>(alloc, depth, tokens)?;
+    let specs = alone(
+        alloc,
+        T::type_spec_of(spec.name, spec.assign, spec.form, None),
+    )?;
     let group = Group {
         opening: None,
         specs,
@@ -218,93 +234,105 @@ fn lone_type(
 }
 
 /// A function or a method. Go specification, "Function declarations", "Method declarations".
-pub fn func_decl(
+pub fn func_decl<T: Trees>(
     alloc: Global,
     depth: usize,
     tokens: &[Token],
-) -> Result<(FuncDecl, &[Token]), Stop>
-    ensures { Gives (λ x. (view_func_decl x.0, x.1.now)) result (func_in (parsers depth) tokens.now) }
+) -> Result<(T::FuncDecl, &[Token]), Stop>
+    ensures { Gives (λ x. (T.seen_func x.0, x.1.now)) result (func_in (parsers depth) tokens.now) }
 {
-    let (word, rest) = skip(tokens, Kind::FuncWord)?;
-    let (receiver, rest) = optional_receiver(alloc, depth, rest)?;
-    let (name, rest) = skip(rest, Kind::Name)?;
-    let (signature, rest) = signature(alloc, depth, rest)?;
-    let (body, rest) = optional_block(alloc, depth, rest)?;
-    let func = func_of(word, receiver, name, signature, body);
+    let Some((word, rest)) = skip(tokens, Kind::FuncWord) else {
+        return Err(Stop::Unexpected);
+    };
+    let (receiver, rest) = optional_receiver::<T>(alloc, depth, rest)?;
+    let Some((name, rest)) = skip(rest, Kind::Name) else {
+        return Err(Stop::Unexpected);
+    };
+    let (signature, rest) = signature::<T>(alloc, depth, rest)?;
+    let (body, rest) = optional_block::<T>(alloc, depth, rest)?;
+    let func = T::func_of(word, receiver, name, signature, body);
     Ok((func, rest))
 }
 
 /// The body of a function, where it has one.
-fn optional_block(
+fn optional_block<T: Trees>(
     alloc: Global,
     depth: usize,
     tokens: &[Token],
-) -> Result<(Option<Block>, &[Token]), Stop>
-    ensures { Gives (λ x. (if_some view_block x.0, x.1.now)) result (optional_body_in (parsers depth) tokens.now) }
+) -> Result<(Option<T::Block>, &[Token]), Stop>
+    ensures { Gives (λ x. (if_some T.seen_block x.0, x.1.now)) result (optional_body_in (parsers depth) tokens.now) }
 {
     if !begins_with(tokens, Kind::OpenBrace) {
         return Ok((None, tokens));
     }
-    let (body, rest) = block(alloc, depth, tokens)?;
+    let (body, rest) = block::<T>(alloc, depth, tokens)?;
     Ok((Some(body), rest))
 }
 
 /// The receiver of a method, where there is one.
-fn optional_receiver(
+fn optional_receiver<T: Trees>(
     alloc: Global,
     depth: usize,
     tokens: &[Token],
-) -> Result<(Option<Params>, &[Token]), Stop>
-    ensures { Gives (λ x. (if_some view_params x.0, x.1.now)) result (optional_receiver_in (parsers depth) tokens.now) }
+) -> Result<(Option<T::Params>, &[Token]), Stop>
+    ensures { Gives (λ x. (if_some T.seen_params x.0, x.1.now)) result (optional_receiver_in (parsers depth) tokens.now) }
 {
     if !begins_with(tokens, Kind::OpenParen) {
         return Ok((None, tokens));
     }
-    let (receiver, rest) = receiver(alloc, depth, tokens)?;
+    let (receiver, rest) = receiver::<T>(alloc, depth, tokens)?;
     Ok((Some(receiver), rest))
 }
 
 /// One parameter in parentheses, with a name or without one.
 #[tactic(auto, using(go_fragments::proofs::Receivers::each_alone))]
-fn receiver(alloc: Global, depth: usize, tokens: &[Token]) -> Result<(Params, &[Token]), Stop>
-    ensures { Gives (λ x. (view_params x.0, x.1.now)) result (receiver_in (parsers depth) tokens.now) }
+fn receiver<T: Trees>(
+    alloc: Global,
+    depth: usize,
+    tokens: &[Token],
+) -> Result<(T::Params, &[Token]), Stop>
+    ensures { Gives (λ x. (T.seen_params x.0, x.1.now)) result (receiver_in (parsers depth) tokens.now) }
 {
-    let (open, rest) = skip(tokens, Kind::OpenParen)?;
+    let Some((open, rest)) = skip(tokens, Kind::OpenParen) else {
+        return Err(Stop::Unexpected);
+    };
     let (name, rest) = receiver_name(rest);
-    let (form, rest) = type_expr(alloc, depth, rest)?;
+    let (form, rest) = type_expr::<T>(alloc, depth, rest)?;
     let (comma, rest) = optional(rest, Kind::Comma);
-    let (close, rest) = skip(rest, Kind::CloseParen)?;
+    let Some((close, rest)) = skip(rest, Kind::CloseParen) else {
+        return Err(Stop::Unexpected);
+    };
     let names = listed_names(alloc, name)?;
-    let params = alone(alloc, receiver_param(names, form, comma))?;
-    Ok((params_of(open, params, close), rest))
+    let params = alone(alloc, T::receiver_of(names, form, comma))?;
+    Ok((T::params_of(open, params, close), rest))
 }
 
 /// Names of constants, or of variables, with their type and values.
 #[cycle(parser)]
-fn values(
+fn values<T: Trees>(
     alloc: Global,
     depth: usize,
     constant: bool,
     tokens: &[Token],
-) -> Result<(ValueParts, &[Token]), Stop>
-    ensures { Gives (λ x. (view_values x.0, x.1.now)) result (at_spec (parsers depth) (value_sort constant) tokens.now) }
+) -> Result<(ValueParts<T::TypeExpr, T::ListedExpr>, &[Token]), Stop>
+    ensures { Gives (λ x. (values_of (each view_listed_name x.0.names.items) (if_some T.seen_type x.0.form) (token_if x.0.assign) (each T.seen_listed x.0.values.items), x.1.now)) result (at_spec (parsers depth) (value_sort constant) tokens.now) }
 {
     if constant {
-        let (spec, rest) = const_values(alloc, depth, tokens)?;
+        let (spec, rest) = const_values::<T>(alloc, depth, tokens)?;
         return Ok((spec, rest));
     }
-    let (spec, rest) = var_values(alloc, depth, tokens)?;
+    let (spec, rest) = var_values::<T>(alloc, depth, tokens)?;
     Ok((spec, rest))
 }
 
 /// Names of constants with their type and values.
 #[cycle(parser)]
-fn const_values(
+fn const_values<T: Trees>(
     alloc: Global,
     depth: usize,
     tokens: &[Token],
-) -> Result<(ValueParts, &[Token]), Stop>
-    ensures { Gives (λ x. (view_values x.0, x.1.now)) result (at_spec (parsers depth) sorts.ConstSpec tokens.now) }
+) -> Result<(ValueParts<T::TypeExpr, T::ListedExpr>, &[Token]), Stop>
+    ensures { Gives (λ x. (values_of (each view_listed_name x.0.names.items) (if_some T.seen_type x.0.form) (token_if x.0.assign) (each T.seen_listed x.0.values.items), x.1.now)) result (at_spec (parsers depth) sorts.ConstSpec tokens.now) }
 {
     let (names, rest) = names(alloc, tokens)?;
     if !begins_with_type(rest) && !begins_with(rest, Kind::Assign) {
@@ -316,9 +344,11 @@ fn const_values(
         };
         return Ok((spec, rest));
     }
-    let (form, rest) = optional_type(alloc, depth, rest)?;
-    let (assign, rest) = skip(rest, Kind::Assign)?;
-    let (values, rest) = expr_list(alloc, depth, Context::Plain, rest)?;
+    let (form, rest) = optional_type::<T>(alloc, depth, rest)?;
+    let Some((assign, rest)) = skip(rest, Kind::Assign) else {
+        return Err(Stop::Unexpected);
+    };
+    let (values, rest) = expr_list::<T>(alloc, depth, Context::Plain, rest)?;
     let spec = ValueParts {
         names,
         form,
@@ -330,13 +360,19 @@ fn const_values(
 
 /// Names of variables with their type, their values or both.
 #[cycle(parser)]
-fn var_values(alloc: Global, depth: usize, tokens: &[Token]) -> Result<(ValueParts, &[Token]), Stop>
-    ensures { Gives (λ x. (view_values x.0, x.1.now)) result (at_spec (parsers depth) sorts.VarSpec tokens.now) }
+fn var_values<T: Trees>(
+    alloc: Global,
+    depth: usize,
+    tokens: &[Token],
+) -> Result<(ValueParts<T::TypeExpr, T::ListedExpr>, &[Token]), Stop>
+    ensures { Gives (λ x. (values_of (each view_listed_name x.0.names.items) (if_some T.seen_type x.0.form) (token_if x.0.assign) (each T.seen_listed x.0.values.items), x.1.now)) result (at_spec (parsers depth) sorts.VarSpec tokens.now) }
 {
     let (names, rest) = names(alloc, tokens)?;
     if !begins_with_type(rest) {
-        let (assign, rest) = skip(rest, Kind::Assign)?;
-        let (values, rest) = expr_list(alloc, depth, Context::Plain, rest)?;
+        let Some((assign, rest)) = skip(rest, Kind::Assign) else {
+            return Err(Stop::Unexpected);
+        };
+        let (values, rest) = expr_list::<T>(alloc, depth, Context::Plain, rest)?;
         let spec = ValueParts {
             names,
             form: None,
@@ -345,8 +381,8 @@ fn var_values(alloc: Global, depth: usize, tokens: &[Token]) -> Result<(ValuePar
         };
         return Ok((spec, rest));
     }
-    let (form, rest) = type_expr(alloc, depth, rest)?;
-    let (assign, values, rest) = optional_values(alloc, depth, rest)?;
+    let (form, rest) = type_expr::<T>(alloc, depth, rest)?;
+    let (assign, values, rest) = optional_values::<T>(alloc, depth, rest)?;
     let spec = ValueParts {
         names,
         form: Some(form),
@@ -358,29 +394,34 @@ fn var_values(alloc: Global, depth: usize, tokens: &[Token]) -> Result<(ValuePar
 
 /// `=` and values, or nothing.
 #[cycle(parser)]
-fn optional_values(
+fn optional_values<T: Trees>(
     alloc: Global,
     depth: usize,
     tokens: &[Token],
-) -> Result<(Option<Token>, Vec<ListedExpr>, &[Token]), Stop>
-    ensures { Gives (λ x. (append (token_if x.0) (each view_listed_expr x.1.items), x.2.now)) result (optional_values_in (parsers depth) tokens.now) }
+) -> Result<(Option<Token>, Vec<T::ListedExpr>, &[Token]), Stop>
+    ensures { Gives (λ x. (append (token_if x.0) (each T.seen_listed x.1.items), x.2.now)) result (optional_values_in (parsers depth) tokens.now) }
 {
-    if !begins_with(tokens, Kind::Assign) {
+    let Some((assign, rest)) = next_if(tokens, Kind::Assign) else {
         return Ok((None, Vec::new(alloc), tokens));
-    }
-    let (assign, rest) = skip(tokens, Kind::Assign)?;
-    let (values, rest) = expr_list(alloc, depth, Context::Plain, rest)?;
+    };
+    let (values, rest) = expr_list::<T>(alloc, depth, Context::Plain, rest)?;
     Ok((Some(assign), values, rest))
 }
 
 /// A name and its type.
 #[cycle(parser)]
-fn named_form(alloc: Global, depth: usize, tokens: &[Token]) -> Result<(NamedForm, &[Token]), Stop>
-    ensures { Gives (λ x. (view_named_form x.0, x.1.now)) result (at_spec (parsers depth) sorts.TypeSpec tokens.now) }
+fn named_form<T: Trees>(
+    alloc: Global,
+    depth: usize,
+    tokens: &[Token],
+) -> Result<(NamedForm<T::TypeExpr>, &[Token]), Stop>
+    ensures { Gives (λ x. (named_form_of (one x.0.name) (token_if x.0.assign) (T.seen_type x.0.form), x.1.now)) result (at_spec (parsers depth) sorts.TypeSpec tokens.now) }
 {
-    let (name, rest) = skip(tokens, Kind::Name)?;
+    let Some((name, rest)) = skip(tokens, Kind::Name) else {
+        return Err(Stop::Unexpected);
+    };
     let (assign, rest) = optional(rest, Kind::Assign);
-    let (form, rest) = type_expr(alloc, depth, rest)?;
+    let (form, rest) = type_expr::<T>(alloc, depth, rest)?;
     let spec = NamedForm { name, assign, form };
     Ok((spec, rest))
 }
@@ -388,28 +429,31 @@ fn named_form(alloc: Global, depth: usize, tokens: &[Token]) -> Result<(NamedFor
 /// Constants or variables, and the semicolon behind them.
 #[cycle(parser)]
 #[tactic(auto, using(go_fragments::proofs::Lines::parens_end))]
-fn value_line(
+fn value_line<T: Trees>(
     alloc: Global,
     depth: usize,
     constant: bool,
     tokens: &[Token],
-) -> Result<(ValueSpec, &[Token]), Stop>
-    ensures { Gives (λ x. (view_value_spec x.0, x.1.now)) result (spec_line_in (parsers depth) (value_sort constant) tokens.now) }
+) -> Result<(T::ValueSpec, &[Token]), Stop>
+    ensures { Gives (λ x. (T.seen_value_spec x.0, x.1.now)) result (spec_line_in (parsers depth) (value_sort constant) tokens.now) }
 {
-    let (spec, rest) = values(alloc, depth, constant, tokens)?;
-    let (semicolon, rest) = line_end(rest, Kind::CloseParen)?;
-    Ok((value_spec_of(spec, semicolon), rest))
+    let (spec, rest) = values::<T>(alloc, depth, constant, tokens)?;
+    let Some((semicolon, rest)) = line_end(rest, Kind::CloseParen) else {
+        return Err(Stop::Unexpected);
+    };
+    let spec = T::value_spec_of(spec.names, spec.form, spec.assign, spec.values, semicolon);
+    Ok((spec, rest))
 }
 
 /// Constants or variables up to a closing parenthesis.
 #[cycle(parser)]
-fn value_lines(
+fn value_lines<T: Trees>(
     alloc: Global,
     depth: usize,
     constant: bool,
     tokens: &[Token],
-) -> Result<(Vec<ValueSpec>, &[Token]), Stop>
-    ensures { Gives (λ x. (each view_value_spec x.0.items, x.1.now)) result (spec_lines_in (parsers depth) (value_sort constant) tokens.now) }
+) -> Result<(Vec<T::ValueSpec>, &[Token]), Stop>
+    ensures { Gives (λ x. (each T.seen_value_spec x.0.items, x.1.now)) result (spec_lines_in (parsers depth) (value_sort constant) tokens.now) }
 {
     let mut lines = Vec::new(alloc);
     let mut rest = tokens;
@@ -417,7 +461,7 @@ fn value_lines(
         if begins_with(rest, Kind::CloseParen) {
             return Ok((lines, rest));
         }
-        let (line, after) = value_line(alloc, depth, constant, rest)?;
+        let (line, after) = value_line::<T>(alloc, depth, constant, rest)?;
         lines.push(line)?;
         rest = after;
     }
@@ -427,22 +471,29 @@ fn value_lines(
 /// A type, and the semicolon behind it.
 #[cycle(parser)]
 #[tactic(auto, using(go_fragments::proofs::Lines::parens_end))]
-fn type_line(alloc: Global, depth: usize, tokens: &[Token]) -> Result<(TypeSpec, &[Token]), Stop>
-    ensures { Gives (λ x. (view_type_spec x.0, x.1.now)) result (spec_line_in (parsers depth) sorts.TypeSpec tokens.now) }
+fn type_line<T: Trees>(
+    alloc: Global,
+    depth: usize,
+    tokens: &[Token],
+) -> Result<(T::TypeSpec, &[Token]), Stop>
+    ensures { Gives (λ x. (T.seen_type_spec x.0, x.1.now)) result (spec_line_in (parsers depth) sorts.TypeSpec tokens.now) }
 {
-    let (spec, rest) = named_form(alloc, depth, tokens)?;
-    let (semicolon, rest) = line_end(rest, Kind::CloseParen)?;
-    Ok((type_spec_of(spec, semicolon), rest))
+    let (spec, rest) = named_form::<T>(alloc, depth, tokens)?;
+    let Some((semicolon, rest)) = line_end(rest, Kind::CloseParen) else {
+        return Err(Stop::Unexpected);
+    };
+    let spec = T::type_spec_of(spec.name, spec.assign, spec.form, semicolon);
+    Ok((spec, rest))
 }
 
 /// Types up to a closing parenthesis.
 #[cycle(parser)]
-fn type_lines(
+fn type_lines<T: Trees>(
     alloc: Global,
     depth: usize,
     tokens: &[Token],
-) -> Result<(Vec<TypeSpec>, &[Token]), Stop>
-    ensures { Gives (λ x. (each view_type_spec x.0.items, x.1.now)) result (spec_lines_in (parsers depth) sorts.TypeSpec tokens.now) }
+) -> Result<(Vec<T::TypeSpec>, &[Token]), Stop>
+    ensures { Gives (λ x. (each T.seen_type_spec x.0.items, x.1.now)) result (spec_lines_in (parsers depth) sorts.TypeSpec tokens.now) }
 {
     let mut lines = Vec::new(alloc);
     let mut rest = tokens;
@@ -450,7 +501,7 @@ fn type_lines(
         if begins_with(rest, Kind::CloseParen) {
             return Ok((lines, rest));
         }
-        let (line, after) = type_line(alloc, depth, rest)?;
+        let (line, after) = type_line::<T>(alloc, depth, rest)?;
         lines.push(line)?;
         rest = after;
     }

@@ -8,6 +8,8 @@
 
 mod decls;
 mod exprs;
+mod leaves;
+mod parts;
 mod stmts;
 mod types;
 

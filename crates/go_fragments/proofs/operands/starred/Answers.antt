@@ -6,8 +6,8 @@ use Rattle.go_grammar.proofs.Views.{view_expr_type_form, view_type_expr_pointer}
 use Rattle.go_fragments.proofs.Variants.{starred_plain, starred_type}
 use Rattle.go_fragments.proofs.operands.starred.Goals as goal
 
-pub returns-in-Err : goal.returns-in-Err
-returns-in-Err c =
+pub returns-in_ok-boxed-in-Err : goal.returns-in_ok-boxed-in-Err
+returns-in_ok-boxed-in-Err c =
     let plain : is_type_only (view_expr c.into_inner.result) ≡ false = not_type_form c.into_inner.result c.in-Err.ensures.other in
     absurd cc
 

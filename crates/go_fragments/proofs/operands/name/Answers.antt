@@ -1,6 +1,0 @@
-use Rattle.std.proofs.Common.{arith}
-use Rattle.go_grammar.proofs.Views.{view_expr_name}
-use Rattle.go_fragments.proofs.operands.name.Goals as goal
-
-pub returns : goal.returns
-returns c = grind (arith, view_expr_name)
