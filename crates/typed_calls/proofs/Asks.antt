@@ -1,24 +1,21 @@
 -- What becomes of values of which something is asked, and of types that are held.
-use Rattle.std.proofs.Common.{◌≡◌, ℕ, refl, sym, ap, ◌∙◌, subst, List, [], ◌∷◌, ◌++◌, Bool, true, false}
-use Rattle.std.proofs.Common.{Option, Some, None, Result, Ok, Err}
-use Rattle.std.specs.Prelude.{IfOk, OnOk, IsTrue, ◌↔◌}
+use Rattle.std.proofs.Common.{◌≡◌, refl, sym, ap, ◌∙◌, subst, List, [], ◌∷◌, Bool, true, false}
+use Rattle.std.proofs.Common.{Option, Some, None, Result}
+use Rattle.std.specs.Prelude.{IsTrue, ◌↔◌}
 use Rattle.std.specs.Global.{Vec}
 use Rattle.go_base.specs.declared.ids.TypeId.{TypeId}
 use Rattle.go_base.specs.declared.memory.NoMemory.{NoMemory}
 use Rattle.go_base.specs.declared.rule.Rule.{Rule}
-use Rattle.go_base.specs.declared.rule.Rule.TheVariants.{BadBuiltInCall}
 use Rattle.go_tree.specs.declared.exprs.TypedExpr.{TypedExpr}
-use Rattle.go_type.specs.declared.term.TypeTerm.{TypeTerm}
-use Rattle.go_type.specs.Table.{Table, term_at, with_term}
 use Rattle.typed_parts.specs.declared.ground.Ground.{Ground}
 use Rattle.typed_parts.specs.declared.meaning.Given.{Given}
-use Rattle.typed_parts.specs.Joining.{asked, beside, items_of, with_last}
-use Rattle.typed_parts.specs.Judged.{Comes, Judged, Outcome, fine, reported}
+use Rattle.typed_parts.specs.Joining.{asked, items_of, with_last}
+use Rattle.typed_parts.specs.Judged.{Judged}
 use Rattle.typed_calls.specs.declared.built_ins.BuiltInCall.{BuiltInCall}
-use Rattle.typed_calls.specs.BuiltIns.{IsCallNode, IsNode, built_in_node}
+use Rattle.typed_calls.specs.BuiltIns.{IsCallNode, built_in_node}
 use Rattle.typed_calls.specs.Moving.{IsAsked}
-use Rattle.typed_parts.specs.Turning.{Asks, IsHeld, Keeps, Soundly, Turned, Turns}
-use Rattle.typed_parts.proofs.Turns.{asks, came, keeps, of_some, stays}
+use Rattle.typed_parts.specs.Turning.{Soundly, Turns}
+use Rattle.typed_parts.proofs.Turns.{came, of_some, stays}
 use Rattle.typed_parts.specs.Limits.{Basis}
 
 -- the node of a call

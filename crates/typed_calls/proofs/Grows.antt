@@ -1,6 +1,6 @@
 -- What becomes of calls of `append`.
 use Rattle.std.proofs.Common.{◌≡◌, ℕ, zero, suc, refl, sym, ap, ◌∙◌, subst, List, [], ◌∷◌, ◌++◌, length, Bool, true, false}
-use Rattle.std.proofs.Common.{Option, Some, None, Result, Ok, Err}
+use Rattle.std.proofs.Common.{Option, Some, None, Result}
 use Rattle.std.specs.Global.{Vec}
 use Rattle.std.specs.Option.{option_zip}
 use Rattle.std.specs.Prelude.{is_some, ◌||◌}
@@ -16,7 +16,7 @@ use Rattle.typed_parts.specs.Judged.{Broken, Judged, reported}
 use Rattle.typed_calls.specs.declared.built_ins.BuiltInCall.{BuiltInCall}
 use Rattle.typed_calls.specs.BuiltIns.{built_in_node}
 use Rattle.typed_calls.specs.Growing.{IsAppendNode, IsBehind, IsItem, first_type, is_zero, slice_value}
-use Rattle.typed_parts.specs.Turning.{Asks, IsThenSoundly, Soundly, Turned, Turns}
+use Rattle.typed_parts.specs.Turning.{Asks, IsThenSoundly, Soundly, Turns}
 use Rattle.typed_calls.proofs.Asks.{node_made}
 use Rattle.typed_parts.proofs.Turns.{asks, came, nothing, nothing_came, nothing_made, something, then_nothing, then_soundly}
 use Rattle.typed_parts.specs.Limits.{Basis}

@@ -1,6 +1,6 @@
 -- What becomes of calls of `make`, and of arguments that are each asked of.
-use Rattle.std.proofs.Common.{◌≡◌, refl, sym, ap, ◌∙◌, subst, List, [], ◌∷◌, ◌++◌, map, Bool, true, false, append-nil}
-use Rattle.std.proofs.Common.{append_assoc, Option, Some, None, Result, Ok, Err}
+use Rattle.std.proofs.Common.{◌≡◌, refl, sym, ap, ◌∙◌, subst, List, [], ◌∷◌, ◌++◌, Bool, true, false, append-nil}
+use Rattle.std.proofs.Common.{append_assoc, Option, Some, None, Result, Ok}
 use Rattle.std.specs.Global.{Vec}
 use Rattle.std.specs.Prelude.{is_some, not}
 use Rattle.std.proofs.lemmas.Bool.{false≢true}

@@ -1,6 +1,6 @@
 -- What becomes of calls of `clear`, `close`, `copy`, `delete`, `len` and `cap`.
-use Rattle.std.proofs.Common.{◌≡◌, ℤ, refl, sym, ap, ◌∙◌, subst, List, [], ◌∷◌, ◌++◌, Bool, true, false}
-use Rattle.std.proofs.Common.{Option, Some, None, Result, Ok, Err}
+use Rattle.std.proofs.Common.{◌≡◌, ℤ, refl, sym, ap, ◌∙◌, subst, [], ◌∷◌, Bool, true, false}
+use Rattle.std.proofs.Common.{Option, Some, None, Result, Ok}
 use Rattle.std.specs.Global.{Vec}
 use Rattle.std.specs.Prelude.{IsTrue, ◌↔◌}
 use Rattle.std.specs.Option.{option_zip}
@@ -16,17 +16,17 @@ use Rattle.typed_parts.specs.declared.ground.Ground.{Ground}
 use Rattle.typed_parts.specs.declared.meaning.Given.{Given}
 use Rattle.typed_parts.specs.declared.shapes.Shape.{Shape}
 use Rattle.typed_parts.specs.Adapting.{IsAssignedTo}
-use Rattle.typed_parts.specs.Joining.{asked, beside, items_of}
-use Rattle.typed_parts.specs.Judged.{Comes, IsRest, Judged, Outcome, fine, reported, unsound}
+use Rattle.typed_parts.specs.Joining.{asked, beside}
+use Rattle.typed_parts.specs.Judged.{Comes, IsRest, Outcome, fine, reported, unsound}
 use Rattle.typed_parts.specs.Nodes.{node}
 use Rattle.typed_parts.specs.Shapes.{shape_of}
 use Rattle.typed_parts.specs.Wholes.{IsTextTyped}
 use Rattle.typed_calls.specs.declared.built_ins.BuiltInCall.{BuiltInCall}
-use Rattle.typed_calls.specs.BuiltIns.{IsAction, built_in_node}
+use Rattle.typed_calls.specs.BuiltIns.{built_in_node}
 use Rattle.typed_calls.specs.Measuring.{IsLengthOf, IsMeasured, constant_length, has_length}
 use Rattle.typed_calls.specs.Moving.{IsCopiedFrom, IsCopy, IsCopyAfter, IsCopyOf, IsCopyTo, IsDelete, IsDeletedFrom}
 use Rattle.typed_calls.specs.Moving.{IsDeletion, IsSource, MayCopy, copied_to, deleted_from, key_type}
-use Rattle.typed_parts.specs.Turning.{Asks, Keeps, Soundly, Turned, Turns}
+use Rattle.typed_parts.specs.Turning.{Asks, Keeps, Soundly, Turns}
 use Rattle.typed_calls.proofs.Asks.{asked_fact}
 use Rattle.typed_parts.proofs.Turns.{asked_test, asks, first_came, followed, keeps, keeps_comes, outcome_of, second_stays, then_soundly}
 

@@ -1,5 +1,5 @@
 -- The built-in functions `make` and `new`. Go specification, "Making slices, maps and channels" and "Allocation".
-use Rattle.std.specs.Prelude.{◌≡◌, ℕ, ℤ, ◌&&◌, ◌||◌, not, nat_le, nat_eq, int_lt, Bool, true, false, is_some}
+use Rattle.std.specs.Prelude.{ℕ, ℤ, ◌&&◌, ◌||◌, not, nat_le, nat_eq, int_lt, Bool, true, false, is_some}
 use Rattle.std.specs.Prelude.{if◌then◌else◌, List, [], ◌∷◌, ◌++◌, length, Option, Some, None}
 use Rattle.std.specs.List.{list_all}
 use Rattle.go_base.specs.declared.ids.TypeId.{TypeId}

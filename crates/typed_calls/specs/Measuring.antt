@@ -7,7 +7,7 @@ use Rattle.go_type.specs.declared.constants.Const.TheVariants as constant
 use Rattle.go_type.specs.declared.operators.Builtin.{Builtin}
 use Rattle.go_type.specs.declared.operators.Builtin.TheVariants as builtin
 use Rattle.go_type.specs.declared.term.Basic.TheVariants as basic
-use Rattle.go_type.specs.Table.{Table, basic_id}
+use Rattle.go_type.specs.Table.{basic_id}
 use Rattle.typed_parts.specs.declared.meaning.Given.{Given}
 use Rattle.typed_parts.specs.declared.shapes.Shape.{Shape}
 use Rattle.typed_parts.specs.declared.shapes.Shape.TheVariants as shape

@@ -1,6 +1,6 @@
 -- The built-in functions `clear`, `close`, `copy` and `delete`. Go specification, "Clear", "Close", "Appending to and
 -- copying slices" and "Deletion of map elements".
-use Rattle.std.specs.Prelude.{◌≡◌, Bool, true, false, is_some, [], ◌∷◌, Option, Some, None, IsTrue}
+use Rattle.std.specs.Prelude.{Bool, true, false, is_some, [], ◌∷◌, Option, Some, None, IsTrue}
 use Rattle.std.specs.Option.{option_zip}
 use Rattle.go_base.specs.declared.ids.TypeId.{TypeId}
 use Rattle.go_base.specs.declared.rule.Rule.{Rule}

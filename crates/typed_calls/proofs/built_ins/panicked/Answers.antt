@@ -1,5 +1,4 @@
-use Rattle.std.proofs.Common.{◌≡◌, refl, sym, ap, ◌∙◌, subst, [], ◌∷◌, Some, Ok}
-use Rattle.go_base.specs.declared.ids.TypeId.{TypeId}
+use Rattle.std.proofs.Common.{◌≡◌, refl, sym, ◌∙◌, subst, [], ◌∷◌, Some, Ok}
 use Rattle.go_tree.specs.declared.exprs.TypedExpr.{TypedExpr}
 use Rattle.go_type.specs.declared.term.TypeTerm.TheVariants.{Interface}
 use Rattle.go_type.specs.Table.{Table}

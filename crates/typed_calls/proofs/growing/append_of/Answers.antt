@@ -1,5 +1,4 @@
 use Rattle.std.proofs.Common.{length}
-use Rattle.go_tree.specs.declared.exprs.TypedExpr.{TypedExpr}
 use Rattle.typed_parts.specs.Several.{place_of}
 use Rattle.typed_calls.specs.Growing.{IsAppendCall, dots_broken, fits_dots}
 use Rattle.typed_calls.proofs.Grows.{kept_list, no_list}

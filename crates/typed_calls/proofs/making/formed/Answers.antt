@@ -1,4 +1,4 @@
-use Rattle.std.proofs.Common.{◌≡◌, ap, sym, ◌∙◌, subst, true, false, Some, None, Option}
+use Rattle.std.proofs.Common.{sym, ◌∙◌, subst, true, false, Some, Option}
 use Rattle.std.specs.Global.{Vec}
 use Rattle.typed_parts.specs.declared.meaning.Given.{Given}
 use Rattle.typed_calls.specs.Making.{IsMake, form_of}

@@ -1,4 +1,4 @@
-use Rattle.std.proofs.Common.{◌≡◌, sym, ◌∙◌}
+use Rattle.std.proofs.Common.{sym, ◌∙◌}
 use Rattle.typed_calls.proofs.Makes.{makes, makes_nothing, no_sizes}
 use Rattle.typed_calls.proofs.making.make_of.Goals as goal
 

@@ -1,4 +1,4 @@
-use Rattle.std.proofs.Common.{◌≡◌, ap, sym, ◌∙◌, ℤ, Some, None, [], ◌∷◌, false, arith}
+use Rattle.std.proofs.Common.{◌≡◌, ap, sym, ◌∙◌, ℤ, None, [], ◌∷◌, false, arith}
 use Rattle.std.proofs.lemmas.Int.{to_z-of_z, ints}
 use Rattle.std.proofs.Common.{of_z, to_z}
 use Rattle.std.specs.Int.{w128}

@@ -1,4 +1,4 @@
-use Rattle.std.proofs.Common.{◌≡◌, sym, ◌∙◌, Some}
+use Rattle.std.proofs.Common.{◌≡◌, Some}
 use Rattle.go_type.specs.Table.{Table}
 use Rattle.go_base.specs.declared.rule.Rule.TheVariants.{BadBuiltInCall}
 use Rattle.typed_parts.specs.declared.meaning.Given.{Given}

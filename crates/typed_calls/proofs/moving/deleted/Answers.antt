@@ -1,6 +1,4 @@
-use Rattle.std.proofs.Common.{◌≡◌, sym, ◌∙◌, Ok, [], ◌∷◌}
-use Rattle.go_tree.specs.declared.exprs.TypedExpr.{TypedExpr}
-use Rattle.typed_parts.specs.Joining.{beside}
+use Rattle.std.proofs.Common.{sym, ◌∙◌, [], ◌∷◌}
 use Rattle.std.specs.Option.{option_zip}
 use Rattle.typed_calls.specs.BuiltIns.{IsAction}
 use Rattle.typed_calls.specs.Moving.{IsDeletion}

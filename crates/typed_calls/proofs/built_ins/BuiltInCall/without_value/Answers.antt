@@ -2,7 +2,7 @@ use Rattle.std.proofs.Common.{◌≡◌, sym, ◌∙◌, refl, ap, [], None, fal
 use Rattle.go_base.specs.declared.ids.TypeId.{TypeId}
 use Rattle.go_type.specs.declared.term.TypeTerm.TheVariants.{Tuple}
 use Rattle.typed_parts.specs.Joining.{beside}
-use Rattle.typed_calls.specs.BuiltIns.{IsCallNode, built_in_node}
+use Rattle.typed_calls.specs.BuiltIns.{IsCallNode}
 use Rattle.typed_calls.proofs.Asks.{node_made}
 use Rattle.typed_parts.proofs.Turns.{came, first_came, held, second_stays, then_soundly}
 use Rattle.typed_calls.proofs.built_ins.BuiltInCall.without_value.Goals as goal
