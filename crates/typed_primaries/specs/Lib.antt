@@ -1,2 +1,6 @@
 pub mod Made
 pub mod Steps
+pub mod Indexing
+pub mod Slicing
+pub mod Asserting
+pub mod Selecting
