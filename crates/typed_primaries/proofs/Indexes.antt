@@ -19,16 +19,16 @@ use Rattle.typed_parts.specs.declared.shapes.Shape.TheVariants as shape
 use Rattle.typed_parts.specs.Adapting.{IsAssignedTo}
 use Rattle.typed_parts.specs.Joining.{beside}
 use Rattle.typed_parts.specs.Judged.{Comes, Judged, judged, reported, unsound}
-use Rattle.typed_parts.specs.Limits.{Basis}
+use Rattle.typed_parts.specs.Limits.{Basis, basis}
 use Rattle.typed_parts.specs.Meanings.{one_value}
 use Rattle.typed_parts.specs.Nodes.{node}
 use Rattle.typed_parts.specs.Turning.{Asks, Keeps, Soundly, Turned, Turns}
 use Rattle.typed_parts.specs.Wholes.{IsTextTyped, IsWhole}
 use Rattle.typed_parts.proofs.Turns.{asks, came, first_came, followed, keeps, nothing, nothing_came, outcome_of, second_stays, something}
 use Rattle.typed_parts.proofs.Turns.{stays}
-use Rattle.typed_primaries.specs.Indexing.{IsAt, IsElement, IsElementAt, IsElementOf, IsIndex, IsIndexExpression, IsIndexed, IsIndexedAfter}
+use Rattle.typed_primaries.specs.Indexing.{IsAt, IsElement, IsElementAt, IsElementBy, IsElementOf, IsIndex, IsIndexExpression, IsIndexed, IsIndexedAfter}
 use Rattle.typed_primaries.specs.Indexing.{IsIndexedBy, IsMapElement, IsNumbered, IsOfMap, index_below, index_form, indexed}
-use Rattle.typed_primaries.specs.Indexing.{known_length, map_form, numbered}
+use Rattle.typed_primaries.specs.Indexing.{known_length, map_form, map_types, numbered}
 use Rattle.typed_primaries.specs.Made.{IsOnTwo}
 use Rattle.typed_primaries.specs.Steps.{IsDereferenced}
 use Rattle.typed_primaries.proofs.Follows.{asks_then, fine_stays}
@@ -77,6 +77,32 @@ indexes old one two three four new x i ox oi tx ti of came result ax rx ai ri te
     (keeps two three (λ (types : Table). IsTextTyped types ox) tx
     (outcome_of two three (IsTextTyped two.types ox) came tx (first_came tx ti came oi b) text))
     (after_text three four new tx oi of result a r here)))
+
+-- ---- by the shape
+
+pub by_key : (old new : Ground) (x i : Given) (of : Shape) (o : Option (TypeId × TypeId)) (key elem : TypeId)
+    (result : Result (Option TypedExpr) NoMemory) → o ≡ map_types of → o ≡ Some (key, elem)
+    → Turns old new result (IsOfMap x key elem i) → Turns old new result (IsElementAt x of i)
+by_key old new x i of o key elem (Err error) e is h = tt
+by_key old new x i of o key elem (Ok answer) e is h =
+    record {
+      judged = h.judged;
+      is = subst (λ (p : Option (TypeId × TypeId)). IsElementBy p x of i (basis old) (basis new) h.judged) (sym is ∙ e) h.is;
+      answers = h.answers;
+      reports = h.reports;
+    }
+
+pub by_number : (old new : Ground) (x i : Given) (of : Shape) (o : Option (TypeId × TypeId))
+    (result : Result (Option TypedExpr) NoMemory) → o ≡ map_types of → o ≡ None
+    → Turns old new result (IsNumbered x of i) → Turns old new result (IsElementAt x of i)
+by_number old new x i of o (Err error) e is h = tt
+by_number old new x i of o (Ok answer) e is h =
+    record {
+      judged = h.judged;
+      is = subst (λ (p : Option (TypeId × TypeId)). IsElementBy p x of i (basis old) (basis new) h.judged) (sym is ∙ e) h.is;
+      answers = h.answers;
+      reports = h.reports;
+    }
 
 -- ---- maps
 
@@ -166,7 +192,7 @@ pub element_made : (types : Table) (at : Pos) (expr : TypedExpr) (of : Shape) (i
     (first : Result (IndexBase × TypeId) NoMemory) (base : IndexBase) (elem : TypeId) (operand other : TypedExpr) (index1 index2 : TypedExpr)
     (second : Result TypedExpr NoMemory) (b c : Box TypedExpr) (made : TypedExpr)
     → IfOk first (λ (p : IndexBase × TypeId). numbered of ≡ Some p)
-    → beside first (expr, index) ≡ Ok ((base, elem), (operand, index1))
+    → beside {B = TypedExpr × TypedExpr} first (expr, index) ≡ Ok ((base, elem), (operand, index1))
     → IfOk second (IsDereferenced types operand)
     → beside second index1 ≡ Ok (other, index2)
     → b.value ≡ other → c.value ≡ index2 → made ≡ node at elem (IndexOf base b c)

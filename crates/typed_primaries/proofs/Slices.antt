@@ -19,7 +19,7 @@ use Rattle.typed_parts.specs.declared.meaning.Seen.{Seen}
 use Rattle.typed_parts.specs.declared.shapes.Shape.{Shape}
 use Rattle.typed_parts.specs.Joining.{beside, only, sound}
 use Rattle.typed_parts.specs.Judged.{Comes, Judged, fine, judged, reported}
-use Rattle.typed_parts.specs.Limits.{Basis}
+use Rattle.typed_parts.specs.Limits.{Basis, basis}
 use Rattle.typed_parts.specs.Meanings.{one_value}
 use Rattle.typed_parts.specs.Nodes.{node}
 use Rattle.typed_parts.specs.Turning.{Asks, IsHeld, Keeps, Soundly, Turned, Turns}
@@ -33,9 +33,9 @@ use Rattle.typed_primaries.specs.declared.slicing.Bounds.{Bounds}
 use Rattle.typed_primaries.specs.Indexing.{known_length}
 use Rattle.typed_primaries.specs.Slicing.{AreBounds, IsArraySlice, IsBound, IsBoxedBound, IsOfBounds, IsSliceBounded, IsSliceExpression}
 use Rattle.typed_primaries.specs.Slicing.{IsSliceMade, IsSliceNode, IsSliceOf, IsSliceOperand, IsSliceOrdered, IsSliceTo, IsSliceType}
-use Rattle.typed_primaries.specs.Slicing.{IsSliceTyped, IsSliceWithin, IsSliced, IsUpToHigh, IsUpToMax, IsValueBound, IsWholeBound}
-use Rattle.typed_primaries.specs.Slicing.{are_sound, bound_at, bounds_asked, full_broken, full_text, may_slice, order_asked, order_broken}
-use Rattle.typed_primaries.specs.Slicing.{sliced, unbroken, within_broken}
+use Rattle.typed_primaries.specs.Slicing.{IsSliceOperandBy, IsSliceTypeBy, IsSliceTyped, IsSliceWithin, IsSliced, IsUpToHigh, IsUpToMax, IsValueBound}
+use Rattle.typed_primaries.specs.Slicing.{bound_at, bounds_asked, full_broken, may_slice, order_asked, order_broken}
+use Rattle.typed_primaries.specs.Slicing.{array_elem, is_array, plain_base, sliced, within_broken}
 use Rattle.typed_primaries.proofs.Follows.{asks_then, fine_came, turned_sound}
 
 -- ---- bounds
@@ -76,9 +76,9 @@ whole_bound old mid new part p o x at value made e a r is h m =
 
 pub bounds_come : (old one two three : Ground) (low high max high1 max1 max2 : Option Seen) (l l2 l3 h h3 m : Bound)
     (first second third : Result Bound NoMemory)
-    → Turns old one (sound first) (IsBound low) → beside first (high, max) ≡ Ok (l, (high1, max1))
-    → Turns one two (sound second) (IsBound high1) → beside second (l, max1) ≡ Ok (h, (l2, max2))
-    → Turns two three (sound third) (IsBound max2) → beside third (l2, h) ≡ Ok (m, (l3, h3))
+    → Turns old one (sound first) (IsBound low) → beside {B = Option Seen × Option Seen} first (high, max) ≡ Ok (l, (high1, max1))
+    → Turns one two (sound second) (IsBound high1) → beside {B = Bound × Option Seen} second (l, max1) ≡ Ok (h, (l2, max2))
+    → Turns two three (sound third) (IsBound max2) → beside {B = Bound × Bound} third (l2, h) ≡ Ok (m, (l3, h3))
     → Turns old three (came (Some (record { low = l3; high = h3; max = m }))) (AreBounds low high max)
 bounds_come old one two three low high max high1 max1 max2 l l2 l3 h h3 m first second third t1 e1 t2 e2 t3 e3 =
     let p1 : (high, max) ≡ (high1, max1) = second_stays l (high1, max1) first (high, max) e1 in
@@ -205,7 +205,7 @@ array_slice_held old new elem slice first e n h =
 
 pub slice_comes : (old one two : Ground) (at : Pos) (expr expr1 operand : TypedExpr) (of : Shape) (b b1 b2 : Bounds)
     (typed : SliceBase × TypeId) (first : Result (SliceBase × TypeId) NoMemory) (second third : Result TypedExpr NoMemory)
-    → Turns old one (sound first) (IsSliceType of expr.of) → beside first (expr, b) ≡ Ok (typed, (expr1, b1))
+    → Turns old one (sound first) (IsSliceType of expr.of) → beside {B = TypedExpr × Bounds} first (expr, b) ≡ Ok (typed, (expr1, b1))
     → Turns one two (sound second) (IsSliceOperand of expr1) → beside second b1 ≡ Ok (operand, b2)
     → IfOk third (IsSliceNode at typed b2 operand)
     → Turns old two (sound third) (IsSliced (record { at = at; expr = expr }) of b)
@@ -241,3 +241,70 @@ slice_node_made at typed x made b b1 operand operand1 low high max first v e il 
       is_max = subst (λ (d : Bounds). IsBoxedBound d.max max) same im;
       is = m;
     }
+
+by_type : (old new : Ground) (of : Shape) (id : TypeId) (o : Option TypeId) (result : Result (Option (SliceBase × TypeId)) NoMemory)
+    → o ≡ array_elem of → Turns old new result (IsSliceTypeBy o of id) → Turns old new result (IsSliceType of id)
+by_type old new of id o (Err error) e h = tt
+by_type old new of id o (Ok answer) e h =
+    record {
+      judged = h.judged;
+      is = subst (λ (p : Option TypeId). IsSliceTypeBy p of id (basis old) (basis new) h.judged) e h.is;
+      answers = h.answers;
+      reports = h.reports;
+    }
+
+pub array_type : (old new : Ground) (of : Shape) (id elem : TypeId) (o : Option TypeId) (result : Result (Option (SliceBase × TypeId)) NoMemory)
+    → o ≡ array_elem of → o ≡ Some elem → Turns old new result (IsArraySlice elem) → Turns old new result (IsSliceType of id)
+array_type old new of id elem o result e is h = by_type old new of id (Some elem) result (sym is ∙ e) h
+
+pub plain_type : (old : Ground) (of : Shape) (id : TypeId) (o : Option TypeId) (base : SliceBase)
+    → o ≡ array_elem of → o ≡ None → base ≡ plain_base of → Turns old old (came (Some (base, id))) (IsSliceType of id)
+plain_type old of id o base e is b =
+    by_type old old of id None (came (Some (base, id))) (sym is ∙ e)
+    (asks old old (λ (types : Table). fine (plain_base of, id)) (Some (base, id))
+    (ap (λ (s : SliceBase). Some (s, id)) b) refl)
+
+by_operand : (old new : Ground) (of : Shape) (expr : TypedExpr) (b : Bool) (result : Result (Option TypedExpr) NoMemory)
+    → b ≡ is_array of → Turns old new result (IsSliceOperandBy b expr) → Turns old new result (IsSliceOperand of expr)
+by_operand old new of expr b (Err error) e h = tt
+by_operand old new of expr b (Ok answer) e h =
+    record {
+      judged = h.judged;
+      is = subst (λ (p : Bool). IsSliceOperandBy p expr (basis old) (basis new) h.judged) e h.is;
+      answers = h.answers;
+      reports = h.reports;
+    }
+
+pub array_operand : (old new : Ground) (of : Shape) (expr : TypedExpr) (b : Bool) (result : Result (Option TypedExpr) NoMemory)
+    → b ≡ is_array of → b ≡ true → Turns old new result (IsAddress expr) → Turns old new result (IsSliceOperand of expr)
+array_operand old new of expr b result e is h = by_operand old new of expr true result (sym is ∙ e) h
+
+pub plain_operand : (old : Ground) (of : Shape) (expr : TypedExpr) (b : Bool) → b ≡ is_array of → b ≡ false
+    → Turns old old (came (Some expr)) (IsSliceOperand of expr)
+plain_operand old of expr b e is =
+    by_operand old old of expr false (came (Some expr)) (sym is ∙ e)
+    (asks old old (λ (types : Table). fine expr) (Some expr) refl refl)
+
+-- ---- bounds in their boxes
+
+pub bounds_boxed : (low high max high1 max1 max2 : Bound) (l h m l2 l3 h3 : Option (Box TypedExpr))
+    (first second third : Result (Option (Box TypedExpr)) NoMemory)
+    → IfOk first (IsBoxedBound low) → beside {B = Bound × Bound} first (high, max) ≡ Ok (l, (high1, max1))
+    → IfOk second (IsBoxedBound high1) → beside {B = Option (Box TypedExpr) × Bound} second (l, max1) ≡ Ok (h, (l2, max2))
+    → IfOk third (IsBoxedBound max2) → beside {B = Option (Box TypedExpr) × Option (Box TypedExpr)} third (l2, h) ≡ Ok (m, (l3, h3))
+    → IsBoxedBound low l3 × IsBoxedBound high h3 × IsBoxedBound max m
+bounds_boxed low high max high1 max1 max2 l h m l2 l3 h3 first second third i1 e1 i2 e2 i3 e3 =
+    let p1 : (high, max) ≡ (high1, max1) = second_stays l (high1, max1) first (high, max) e1 in
+    let p2 : (l, max1) ≡ (l2, max2) = second_stays h (l2, max2) second (l, max1) e2 in
+    let p3 : (l2, h) ≡ (l3, h3) = second_stays m (l3, h3) third (l2, h) e3 in
+    let high_same : high1 ≡ high = sym (ap (λ (p : Bound × Bound). p.0) p1) in
+    let max_same : max2 ≡ max = sym (ap (λ (p : Bound × Bound). p.1) p1 ∙ ap (λ (p : Option (Box TypedExpr) × Bound). p.1) p2) in
+    let low_is : l ≡ l3 = ap (λ (p : Option (Box TypedExpr) × Bound). p.0) p2 ∙ ap (λ (p : Option (Box TypedExpr) × Option (Box TypedExpr)). p.0) p3 in
+    let high_is : h ≡ h3 = ap (λ (p : Option (Box TypedExpr) × Option (Box TypedExpr)). p.1) p3 in
+    let is_low = subst (λ (r : Result (Option (Box TypedExpr)) NoMemory). IfOk r (IsBoxedBound low)) (first_came l (high1, max1) first (high, max) e1) i1 in
+    let is_high = subst (λ (r : Result (Option (Box TypedExpr)) NoMemory). IfOk r (IsBoxedBound high1)) (first_came h (l2, max2) second (l, max1) e2) i2 in
+    let is_max = subst (λ (r : Result (Option (Box TypedExpr)) NoMemory). IfOk r (IsBoxedBound max2)) (first_came m (l3, h3) third (l2, h) e3) i3 in (
+      subst (λ (o : Option (Box TypedExpr)). IsBoxedBound low o) low_is is_low,
+      subst (λ (o : Option (Box TypedExpr)). IsBoxedBound high o) high_is (subst (λ (b : Bound). IsBoxedBound b h) high_same is_high),
+      subst (λ (b : Bound). IsBoxedBound b m) max_same is_max,
+    )

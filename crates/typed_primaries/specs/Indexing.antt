@@ -1,5 +1,5 @@
 -- Index expressions. Go specification, "Index expressions".
-use Rattle.std.specs.Prelude.{◌≡◌, ℤ, pos, int_lt, Bool, true, if◌then◌else◌, Option, Some, None}
+use Rattle.std.specs.Prelude.{◌≡◌, ℤ, pos, int_lt, Bool, true, false, if◌then◌else◌, Option, Some, None}
 use Rattle.std.specs.Global.{Box}
 use Rattle.go_base.specs.declared.ids.TypeId.{TypeId}
 use Rattle.go_base.specs.declared.place.Pos.{Pos}
@@ -101,9 +101,17 @@ IsNumbered x of i before after result =
 
 -- ---- all
 
+-- the types of the keys and the elements of a map
+abbrev pub map_types : Shape → Option (TypeId × TypeId)
+map_types (shape.Map key elem) = Some (key, elem)
+map_types _ = None
+
+abbrev pub IsElementBy : Option (TypeId × TypeId) → Given → Shape → Given → Basis → Basis → Judged TypedExpr → Type 0
+IsElementBy (Some (key, elem)) x of i before after result = IsOfMap x key elem i before after result
+IsElementBy None x of i before after result = IsNumbered x of i before after result
+
 abbrev pub IsElementAt : Given → Shape → Given → Basis → Basis → Judged TypedExpr → Type 0
-IsElementAt x (shape.Map key elem) i before after result = IsOfMap x key elem i before after result
-IsElementAt x other i before after result = IsNumbered x other i before after result
+IsElementAt x of i before after result = IsElementBy (map_types of) x of i before after result
 
 abbrev pub IsAt : Option Given → Given → Shape → Basis → Basis → Judged TypedExpr → Type 0
 IsAt i x of before after result = Soundly (IsElementAt x of) i before after result

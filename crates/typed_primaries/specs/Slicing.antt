@@ -178,18 +178,35 @@ IsArraySlice elem before after result =
     IsThenSoundly (IsHeld (Slice elem)) (λ (slice : TypeId). Asks (λ types. fine (base_of.ArrayPointer, slice))) before
     after result
 
+abbrev pub array_elem : Shape → Option TypeId
+array_elem (shape.Array len elem) = Some elem
+array_elem (shape.ArrayPointer array len elem) = Some elem
+array_elem _ = None
+
+abbrev pub plain_base : Shape → SliceBase
+plain_base shape.Text = base_of.Text
+plain_base _ = base_of.Slice
+
+abbrev pub IsSliceTypeBy : Option TypeId → Shape → TypeId → Basis → Basis → Judged (SliceBase × TypeId) → Type 0
+IsSliceTypeBy (Some elem) of id before after result = IsArraySlice elem before after result
+IsSliceTypeBy None of id before after result = Asks (λ types. fine (plain_base of, id)) before after result
+
 -- "if the operand is an array, the result is a slice with the same element type"; that of a string or a slice has the
 -- type of the operand
 abbrev pub IsSliceType : Shape → TypeId → Basis → Basis → Judged (SliceBase × TypeId) → Type 0
-IsSliceType (shape.Array len elem) of before after result = IsArraySlice elem before after result
-IsSliceType (shape.ArrayPointer array len elem) of before after result = IsArraySlice elem before after result
-IsSliceType shape.Text of before after result = Asks (λ types. fine (base_of.Text, of)) before after result
-IsSliceType _ of before after result = Asks (λ types. fine (base_of.Slice, of)) before after result
+IsSliceType of id before after result = IsSliceTypeBy (array_elem of) of id before after result
+
+abbrev pub is_array : Shape → Bool
+is_array (shape.Array len elem) = true
+is_array _ = false
+
+abbrev pub IsSliceOperandBy : Bool → TypedExpr → Basis → Basis → Judged TypedExpr → Type 0
+IsSliceOperandBy true expr before after result = IsAddress expr before after result
+IsSliceOperandBy false expr before after result = Asks (λ types. fine expr) before after result
 
 -- an array is sliced by its address
 abbrev pub IsSliceOperand : Shape → TypedExpr → Basis → Basis → Judged TypedExpr → Type 0
-IsSliceOperand (shape.Array len elem) expr before after result = IsAddress expr before after result
-IsSliceOperand _ expr before after result = Asks (λ types. fine expr) before after result
+IsSliceOperand of expr before after result = IsSliceOperandBy (is_array of) expr before after result
 
 -- a bound as it stands in the node
 abbrev pub IsBoxedBound : Bound → Option (Box TypedExpr) → Type 0

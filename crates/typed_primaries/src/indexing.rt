@@ -3,7 +3,7 @@
 ghost use Rattle.std.specs.Prelude.{◌≡◌, IfOk, Some};
 ghost use Rattle.typed_parts.specs.Judged.{judged, reported};
 ghost use Rattle.typed_parts.specs.Turning.{Turns};
-ghost use Rattle.typed_primaries.specs.Indexing.{IsElementAt, IsElementOf, IsIndex, IsIndexExpression, IsNumbered, IsOfMap, below, index_below, indexed, known_length, numbered};
+ghost use Rattle.typed_primaries.specs.Indexing.{IsElementAt, IsElementOf, IsIndex, IsIndexExpression, IsNumbered, IsOfMap, below, index_below, indexed, known_length, map_types, numbered};
 
 use crate::steps::dereferenced;
 use go_base::{NoMemory, Pos, Rule, TypeId};
@@ -40,7 +40,10 @@ pub fn index_expression(
     let (x, i) = beside(with_text_type(ground, x), i)?;
     let shape = ask_indexed(ground, &x);
     match x.zip(shape).zip(i) {
-        Some(((x, shape), i)) => element_at(ground, x, shape, i),
+        Some((indexed, i)) => {
+            let (x, shape) = indexed;
+            element_at(ground, x, shape, i)
+        }
         None => Ok(None),
     }
 }
@@ -71,9 +74,19 @@ fn element_at(
 ) -> Result<Option<TypedExpr>, NoMemory>
     ensures { Turns ground.old ground.new result (IsElementAt x shape i) }
 {
+    match map_types(shape) {
+        Some((key, elem)) => map_element(ground, x, key, elem, i),
+        None => numbered_element(ground, x, shape, i),
+    }
+}
+
+/// The types of the keys and the elements of a map.
+fn map_types(shape: Shape) -> Option<(TypeId, TypeId)>
+    ensures { result ≡ map_types shape }
+{
     match shape {
-        Shape::Map { key, elem } => map_element(ground, x, key, elem, i),
-        shape => numbered_element(ground, x, shape, i),
+        Shape::Map { key, elem } => Some((key, elem)),
+        _ => None,
     }
 }
 

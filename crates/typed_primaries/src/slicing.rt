@@ -5,7 +5,7 @@ ghost use Rattle.typed_parts.specs.Joining.{sound};
 ghost use Rattle.typed_parts.specs.Judged.{judged, reported};
 ghost use Rattle.typed_parts.specs.Shapes.{shape_of};
 ghost use Rattle.typed_parts.specs.Turning.{Turns};
-ghost use Rattle.typed_primaries.specs.Slicing.{AreBounds, IsArraySlice, IsBound, IsBoxedBound, IsSliceExpression, IsSliceNode, IsSliceOperand, IsSliceType, IsSliceWithin, IsSliced, are_sound, are_values, constant_bound, full_broken, full_text, is_full, is_sound, is_value, order_broken, pair_broken, past_broken, sliced, sliced_shape, unbroken, within_broken};
+ghost use Rattle.typed_primaries.specs.Slicing.{AreBounds, IsArraySlice, IsBound, IsBoxedBound, IsSliceExpression, IsSliceNode, IsSliceOperand, IsSliceType, IsSliceWithin, IsSliced, are_sound, are_values, array_elem, constant_bound, full_broken, full_text, is_array, is_full, is_sound, is_value, order_broken, pair_broken, past_broken, plain_base, sliced, sliced_shape, unbroken, within_broken};
 
 use crate::indexing::known_length;
 use crate::steps::address;
@@ -53,7 +53,10 @@ pub fn slice_expression(
     let (x, bounds) = beside(with_text_type(ground, x), bounds)?;
     let shape = ask_sliced(ground, &x);
     match x.zip(shape).zip(Some(bounds)) {
-        Some(((x, shape), bounds)) => slice_within(ground, x, shape, bounds, ordered),
+        Some((indexed, bounds)) => {
+            let (x, shape) = indexed;
+            slice_within(ground, x, shape, bounds, ordered)
+        }
         None => Ok(None),
     }
 }
@@ -287,10 +290,17 @@ fn sliced(
 fn slice_operand(ground: &mut Ground, shape: Shape, expr: TypedExpr) -> Result<TypedExpr, NoMemory>
     ensures { Turns ground.old ground.new (sound result) (IsSliceOperand shape expr) }
 {
-    match shape {
-        Shape::Array { .. } => address(ground, expr),
-        _ => Ok(expr),
+    if is_array(shape) {
+        address(ground, expr)
+    } else {
+        Ok(expr)
     }
+}
+
+fn is_array(shape: Shape) -> bool
+    ensures { result ≡ is_array shape }
+{
+    matches!(shape, Shape::Array { .. })
 }
 
 fn slice_node(
@@ -348,10 +358,28 @@ fn slice_type(
 ) -> Result<(SliceBase, TypeId), NoMemory>
     ensures { Turns ground.old ground.new (sound result) (IsSliceType shape of) }
 {
+    match array_elem(shape) {
+        Some(elem) => array_slice(ground, elem),
+        None => Ok((plain_base(shape), of)),
+    }
+}
+
+/// The type of the elements of an array, or of one that a pointer points to.
+fn array_elem(shape: Shape) -> Option<TypeId>
+    ensures { result ≡ array_elem shape }
+{
     match shape {
-        Shape::Array { elem, .. } | Shape::ArrayPointer { elem, .. } => array_slice(ground, elem),
-        Shape::Text => Ok((SliceBase::Text, of)),
-        _ => Ok((SliceBase::Slice, of)),
+        Shape::Array { elem, .. } | Shape::ArrayPointer { elem, .. } => Some(elem),
+        _ => None,
+    }
+}
+
+fn plain_base(shape: Shape) -> SliceBase
+    ensures { result ≡ plain_base shape }
+{
+    match shape {
+        Shape::Text => SliceBase::Text,
+        _ => SliceBase::Slice,
     }
 }
 
