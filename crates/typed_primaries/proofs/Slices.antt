@@ -1,6 +1,6 @@
 -- What becomes of slice expressions.
 use Rattle.std.proofs.Common.{◌≡◌, refl, sym, ap, ◌∙◌, subst, Bool, true, false, List, [], ◌∷◌, ◌++◌, Option, Some, None, Result, Ok, Err}
-use Rattle.std.specs.Prelude.{IfOk, OnOk, not, ◌&&◌}
+use Rattle.std.specs.Prelude.{ℤ, IfOk, OnOk, not, ◌&&◌}
 use Rattle.std.specs.Global.{Box}
 use Rattle.std.specs.Option.{option_zip}
 use Rattle.go_base.specs.declared.ids.TypeId.{TypeId}
@@ -34,8 +34,8 @@ use Rattle.typed_primaries.specs.Indexing.{known_length}
 use Rattle.typed_primaries.specs.Slicing.{AreBounds, IsArraySlice, IsBound, IsBoxedBound, IsOfBounds, IsSliceBounded, IsSliceExpression}
 use Rattle.typed_primaries.specs.Slicing.{IsSliceMade, IsSliceNode, IsSliceOf, IsSliceOperand, IsSliceOrdered, IsSliceTo, IsSliceType}
 use Rattle.typed_primaries.specs.Slicing.{IsSliceOperandBy, IsSliceTypeBy, IsSliceTyped, IsSliceWithin, IsSliced, IsUpToHigh, IsUpToMax, IsValueBound}
-use Rattle.typed_primaries.specs.Slicing.{bound_at, bounds_asked, full_broken, may_slice, order_asked, order_broken}
-use Rattle.typed_primaries.specs.Slicing.{array_elem, is_array, plain_base, sliced, within_broken}
+use Rattle.typed_primaries.specs.Slicing.{are_sound, bound_at, bounds_asked, full_broken, full_text, may_slice, order_asked, order_broken}
+use Rattle.typed_primaries.specs.Slicing.{array_elem, is_array, plain_base, sliced, unbroken, within_broken}
 use Rattle.typed_primaries.proofs.Follows.{asks_then, fine_came, turned_sound}
 
 -- ---- bounds
@@ -191,6 +191,17 @@ slice_refused old one two x of b false o m r s e f =
     then_nothing old two (Asks (λ (types : Table). bounds_asked x.at of x.expr b)) (IsSliced x of) None refl
     (asks old two (λ (types : Table). bounds_asked x.at of x.expr b) None
     (ap (λ (t : Bool). only (Some b) t) m) (asked_both old one two x of b r s))
+
+pub all_asked : (of : Shape) (expr : TypedExpr) (b : Bounds) (ordered within full sound may : Bool) (len : Option ℤ)
+    → ordered ≡ unbroken (order_broken b) → len ≡ known_length of expr → within ≡ unbroken (within_broken len b)
+    → full ≡ not (full_text of b) → sound ≡ are_sound b → may ≡ (ordered && (within && (full && sound)))
+    → may ≡ may_slice of expr b
+all_asked of expr b ordered within full sound may len o l w f s m =
+    let w_is : within ≡ unbroken (within_broken (known_length of expr) b) = w ∙ ap (λ (n : Option ℤ). unbroken (within_broken n b)) l in
+    m ∙ (ap (λ (t : Bool). t && (within && (full && sound))) o
+    ∙ (ap (λ (t : Bool). unbroken (order_broken b) && (t && (full && sound))) w_is
+    ∙ (ap (λ (t : Bool). unbroken (order_broken b) && (unbroken (within_broken (known_length of expr) b) && (t && sound))) f
+    ∙ ap (λ (t : Bool). unbroken (order_broken b) && (unbroken (within_broken (known_length of expr) b) && (not (full_text of b) && t))) s)))
 
 -- ---- the slice
 

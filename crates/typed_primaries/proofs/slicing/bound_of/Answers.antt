@@ -10,3 +10,9 @@ pub returns-in_default-2 : goal.returns-in_default-2
 returns-in_default-2 c =
     unsound_bound c.args.ground.now c.one_value.new.ground c.args.part c.in-Some.part c.one_value.result c.in-Some.is
     c.one_value.ensures.answer c.one_value.ensures.broken c.in_default-2.is
+
+pub returns-in-Some : goal.returns-in-Some
+returns-in-Some c = ?
+
+pub returns-in-None : goal.returns-in-None
+returns-in-None c = ?
