@@ -1,5 +1,12 @@
 //! Composite literals. Go specification, "Composite literals".
 
+ghost use Rattle.std.specs.Prelude.{◌≡◌, not};
+ghost use Rattle.std.specs.Option.{option_map};
+ghost use Rattle.typed_parts.specs.Joining.{sound};
+ghost use Rattle.typed_parts.specs.Judged.{reported};
+ghost use Rattle.typed_parts.specs.Turning.{Turns};
+ghost use Rattle.typed_primaries.specs.Composing.{IsNode, broken_where, elided, key_hint, literal_kind, open_array, value_hint, values_broken, written};
+
 use go_base::{NameId, NoMemory, Pos, Rule, TypeId};
 use go_tree::{Elements, ExprKind, TypedExpr};
 use go_type::{TypeTerm, Types};
@@ -63,7 +70,9 @@ pub struct FieldEntry {
 
 impl Literal {
     /// The hint for values that are elided literals.
-    pub fn value_hint(&self) -> Hint {
+    pub fn value_hint(&self) -> Hint
+        ensures { result ≡ value_hint self.now.kind }
+    {
         match self.kind {
             LiteralKind::Struct => Hint::Nothing,
             LiteralKind::Array { elem, .. }
@@ -74,7 +83,9 @@ impl Literal {
     }
 
     /// The hint for keys that are elided literals.
-    pub fn key_hint(&self) -> Hint {
+    pub fn key_hint(&self) -> Hint
+        ensures { result ≡ key_hint self.now.kind }
+    {
         match self.kind {
             LiteralKind::Map { key, .. } => Hint::Of(key),
             _ => Hint::Nothing,
@@ -83,7 +94,9 @@ impl Literal {
 }
 
 /// What a composite literal of a type is, by its underlying type. None where it has none.
-pub fn literal_kind(types: &Types, of: TypeId) -> Option<LiteralKind> {
+pub fn literal_kind(types: &Types, of: TypeId) -> Option<LiteralKind>
+    ensures { result ≡ literal_kind types.now of }
+{
     match types.underlying_term(of) {
         Some(TypeTerm::Struct(_)) => Some(LiteralKind::Struct),
         Some(TypeTerm::Array { len, elem }) => Some(LiteralKind::Array {
@@ -105,7 +118,10 @@ pub fn written_literal(
     at: Pos,
     brace: Pos,
     of: Option<TypeId>,
-) -> Option<Literal> {
+) -> Option<Literal>
+    ensures answer { result ≡ (written ground.old.types at brace of).sound }
+    ensures broken { ground.new ≡ reported ground.old (written ground.old.types at brace of).broken }
+{
     let of = of?;
     let Some(kind) = literal_kind(&ground.types, of) else {
         ground.report(at, Rule::BadCompositeLiteral);
@@ -121,7 +137,9 @@ pub fn written_literal(
 }
 
 /// A literal of `[...]E`.
-pub fn open_array_literal(at: Pos, brace: Pos, elem: Option<TypeId>) -> Option<Literal> {
+pub fn open_array_literal(at: Pos, brace: Pos, elem: Option<TypeId>) -> Option<Literal>
+    ensures { result ≡ option_map (open_array at brace) elem }
+{
     let elem = elem?;
     Some(Literal {
         at,
@@ -134,7 +152,10 @@ pub fn open_array_literal(at: Pos, brace: Pos, elem: Option<TypeId>) -> Option<L
 
 /// A literal whose type is left out. `BadCompositeLiteral` at its `{` where there is no type, or it is none of a
 /// literal, nor a pointer to such.
-pub fn elided_literal(ground: &mut Ground, brace: Pos, hint: Hint) -> Option<Literal> {
+pub fn elided_literal(ground: &mut Ground, brace: Pos, hint: Hint) -> Option<Literal>
+    ensures answer { result ≡ (elided ground.old.types brace hint).sound }
+    ensures broken { ground.new ≡ reported ground.old (elided ground.old.types brace hint).broken }
+{
     let of = match hint {
         Hint::Unsound => return None,
         Hint::Nothing => {
@@ -166,7 +187,9 @@ pub fn literal_node(
     literal: Literal,
     of: TypeId,
     elements: Elements,
-) -> Result<TypedExpr, NoMemory> {
+) -> Result<TypedExpr, NoMemory>
+    ensures { Turns ground.old ground.new (sound result) (IsNode literal of elements) }
+{
     let composite = node(literal.brace, of, ExprKind::CompositeOf(elements));
     let Some(to) = literal.pointer else {
         return Ok(composite);
@@ -180,8 +203,21 @@ pub fn literal_node(
     )
 }
 
+/// Whether what is asked of an element holds. `BadCompositeLiteral` at it where it does not.
+pub fn ask_at(ground: &mut Ground, at: Pos, holds: bool) -> bool
+    ensures told { result ≡ holds }
+    ensures broken { ground.new ≡ reported ground.old (broken_where at (not holds)) }
+{
+    if !holds {
+        ground.report(at, Rule::BadCompositeLiteral);
+    }
+    holds
+}
+
 /// Asks values alone, of a literal whose type is unsound.
-pub fn ask_values(ground: &mut Ground, elements: Vec<Entry>) {
+pub fn ask_values(ground: &mut Ground, elements: Vec<Entry>)
+    ensures { ground.new ≡ reported ground.old (values_broken ground.old.types elements.items) }
+{
     for element in elements {
         let Entry { at: _, key, value } = element;
         drop(key);

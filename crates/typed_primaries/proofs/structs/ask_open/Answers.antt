@@ -1,0 +1,28 @@
+use Rattle.std.proofs.Common.{◌≡◌, ap, sym, ◌∙◌, ◌+◌, take}
+use Rattle.std.specs.Prelude.{not, ◌&&◌, Bool}
+use Rattle.go_type.specs.Table.{Table}
+use Rattle.typed_parts.specs.Judged.{reported}
+use Rattle.typed_primaries.specs.Composing.{broken_where}
+use Rattle.typed_primaries.specs.Steps.{fields_of}
+use Rattle.typed_primaries.specs.Structs.{are_open, closed_broken, is_open}
+use Rattle.typed_primaries.proofs.Gathering.{reports_more, same_types}
+use Rattle.typed_primaries.proofs.Structures.{next_closed, next_open}
+use Rattle.typed_primaries.proofs.structs.ask_open.Goals as goal
+
+pub loop-number-preserved : goal.loop-number-preserved
+loop-number-preserved c =
+    let at = c.loop-number in
+    let old = c.args.ground.now in
+    let all = c.args.elements.now in
+    let i = at.number in
+    let x = c.element-item.result in
+    let of = c.args.package in
+    let fields = fields_of old.types c.args.of in
+    let same = same_types old at.ground (closed_broken fields of (take i all)) at.invariant.broken in
+    let told : c.is_open.result ≡ is_open fields of i = ? in
+    record {
+      open_ones = ?;
+      broken = reports_more old at.ground c.ask_at-open.new.ground (closed_broken fields of (take i all)) (broken_where x.at (not (is_open fields of i)))
+          (closed_broken fields of (take (i + 1) all)) at.invariant.broken
+          (c.ask_at-open.ensures.broken ∙ ap (λ (b : Bool). reported at.ground (broken_where x.at (not b))) told) (next_closed fields of all i x ? c.element-item.is);
+    }
