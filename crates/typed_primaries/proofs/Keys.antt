@@ -6,6 +6,7 @@ use Rattle.std.specs.declared.hash.BuildHasherDefault.{BuildHasherDefault}
 use Rattle.std.specs.declared.hash.FoldHasher.{FoldHasher}
 use Rattle.indexmap.specs.IndexSet.{IndexSet, contains}
 use Rattle.go_base.specs.declared.ids.TypeId.{TypeId}
+use Rattle.go_base.specs.declared.memory.NoMemory.{NoMemory}
 use Rattle.go_base.specs.declared.place.Pos.{Pos}
 use Rattle.go_tree.specs.declared.exprs.FieldInit.{FieldInit}
 use Rattle.go_type.specs.declared.term.Field.{Field}

@@ -6,6 +6,6 @@ use Rattle.typed_primaries.proofs.structs.ask_open.Given as goal
 
 abbrev pub invariant-loop-number : goal.invariant-loop-number
 invariant-loop-number l = record {
-  open_ones : l.open ≡ are_open (fields_of l.fn.ground.types l.of) l.package (take l.number-index l.elements);
-  broken : l.ground ≡ reported l.fn.ground (closed_broken (fields_of l.fn.ground.types l.of) l.package (take l.number-index l.elements));
+  open_ones : l.open ≡ are_open (fields_of l.fn.ground.types l.of) l.package (take l.number l.elements);
+  broken : l.ground ≡ reported l.fn.ground (closed_broken (fields_of l.fn.ground.types l.of) l.package (take l.number l.elements));
 }

@@ -1,4 +1,5 @@
-use Rattle.std.proofs.Common.{◌≡◌, ◌+◌, ℕ, refl, sym, ap, ◌∙◌, subst, List, [], ◌∷◌, ◌++◌, length, append-nil, append_assoc, length-append, Option, arith, rules}
+use Rattle.std.proofs.Common.{◌≡◌, ◌+◌, ◌^◌, ◌<◌, ◌≤◌, ℕ, suc, Fits, refl, sym, ap, ◌∙◌, subst, List, [], ◌∷◌, ◌++◌, length, append-nil, append_assoc, length-append, Option, arith, rules}
+use Rattle.std.specs.Prelude.{w64}
 use Rattle.std.specs.Vec.Iter.{into_iter_items, into_iter_len}
 use Rattle.std.proofs.lemmas.List.{nil_from_length}
 use Rattle.go_tree.specs.declared.exprs.FieldInit.{FieldInit}
@@ -12,6 +13,10 @@ use Rattle.typed_primaries.specs.Structs.{IsListed}
 use Rattle.typed_primaries.proofs.Keys.{IsListedAt}
 use Rattle.typed_primaries.proofs.structs.each_field.Goals as goal
 
+below_all : (number so_far left rest all len cap : ℕ) → number ≡ so_far → left ≡ suc rest → so_far + left ≡ all → all ≡ len → len ≤ cap
+    → cap < 2 ^ 63 → Fits w64 (number + 1)
+below_all number so_far left rest all len cap a b d e f g = omega arith
+
 pub loop-element-init : goal.loop-element-init
 loop-element-init c = record {
   rest = refl;
@@ -21,7 +26,15 @@ loop-element-init c = record {
 }
 
 pub overflow_add-number : goal.overflow_add-number
-overflow_add-number c = ?
+overflow_add-number c =
+    let at = c.loop-element in
+    let steps : into_iter_items at.element-iterator ≡ c.in-Some.element ∷ into_iter_items c.next.new.self = c.in-Some.ensures.steps.0 in
+    let whole : at.yielded ++ into_iter_items at.element-iterator ≡ c.args.elements.items = at.invariant.rest ∙ c.into_iter-element-iterator.ensures.into_iter_gives.0 in
+    let one = ap length steps in
+    let all : length at.yielded + length (into_iter_items at.element-iterator) ≡ length c.args.elements.items =
+        sym (length-append at.yielded (into_iter_items at.element-iterator)) ∙ ap length whole in
+    below_all at.number (length at.yielded) (length (into_iter_items at.element-iterator)) (length (into_iter_items c.next.new.self)) (length c.args.elements.items)
+    c.args.elements.len c.args.elements.cap at.invariant.number one all (sym c.args.elements.ok.0) c.args.elements.ok.1 c.args.elements.small
 
 pub loop-element-preserved : goal.loop-element-preserved
 loop-element-preserved c =

@@ -1,7 +1,8 @@
-use Rattle.std.proofs.Common.{◌≡◌, refl, sym, ap, ◌∙◌, subst, List, [], ◌∷◌, ◌++◌, length, append-nil, append_assoc, Option, arith, rules}
+use Rattle.std.proofs.Common.{◌≡◌, ℕ, refl, sym, ap, ◌∙◌, subst, List, [], ◌∷◌, ◌++◌, length, append-nil, append_assoc, Option, arith, rules}
 use Rattle.std.specs.Vec.Iter.{into_iter_items, into_iter_len}
 use Rattle.std.proofs.lemmas.List.{nil_from_length}
-use Rattle.std.specs.Prelude.{nat_eq, OnOk}
+use Rattle.std.specs.Prelude.{nat_eq}
+use Rattle.std.specs.List.{list_any}
 use Rattle.go_base.specs.declared.memory.NoMemory.{NoMemory}
 use Rattle.go_tree.specs.declared.exprs.FieldInit.{FieldInit}
 use Rattle.go_type.specs.Table.{Table}
@@ -19,7 +20,7 @@ pub loop-element-init : goal.loop-element-init
 loop-element-init c = record {
   rest = refl;
   so_far = each_none c.args.ground.now (IsKeyedAt c.args.of c.args.elements.items) c.new.result.items c.new-fields.ensures.items;
-  taken = ?;
+  taken = λ (number : ℕ). ap (λ (keys : List ℕ). list_any (nat_eq number) keys) c.new-taken.ensures.empty;
   types = refl;
   counted = search rules;
 }
