@@ -21,7 +21,7 @@ loop-number-preserved c =
     let fields = fields_of old.types c.args.of in
     let same = same_types old at.ground (closed_broken fields of (take i all)) at.invariant.broken in
     let told : c.is_open-is_open.result ≡ is_open fields of i =
-        c.is_open-is_open.ensures ∙ (ap (λ (fs : List Field). is_open fs of i) c.fields_of.ensures.fields ∙ ap (λ (t : Table). is_open (fields_of t c.args.of) of i) same) in
+    c.is_open-is_open.ensures ∙ (ap (λ (fs : List Field). is_open fs of i) c.fields_of.ensures.fields ∙ ap (λ (t : Table). is_open (fields_of t c.args.of) of i) same) in
     record {
       open_ones = ap (λ (b : Bool). b && c.ask_at-open.result) at.invariant.open_ones
           ∙ (ap (λ (b : Bool). are_open fields of (take i all) && b) (c.ask_at-open.ensures.told ∙ told)

@@ -1,5 +1,4 @@
-use Rattle.std.proofs.Common.{◌≡◌, ◌+◌, ◌^◌, ◌<◌, ◌≤◌, ℕ, suc, Fits, refl, sym, ap, ◌∙◌, subst, List, [], ◌∷◌, ◌++◌, length, append-nil, append_assoc, length-append, Option, arith, rules}
-use Rattle.std.specs.Prelude.{w64}
+use Rattle.std.proofs.Common.{◌≡◌, ◌+◌, ◌^◌, ◌<◌, ◌≤◌, ℕ, suc, refl, sym, ap, ◌∙◌, subst, List, [], ◌∷◌, ◌++◌, length, append-nil, append_assoc, length-append, Option, arith, rules}
 use Rattle.std.specs.Vec.Iter.{into_iter_items, into_iter_len}
 use Rattle.std.proofs.lemmas.List.{nil_from_length}
 use Rattle.go_tree.specs.declared.exprs.FieldInit.{FieldInit}
@@ -14,7 +13,7 @@ use Rattle.typed_primaries.proofs.Keys.{IsListedAt}
 use Rattle.typed_primaries.proofs.structs.each_field.Goals as goal
 
 below_all : (number so_far left rest all len cap : ℕ) → number ≡ so_far → left ≡ suc rest → so_far + left ≡ all → all ≡ len → len ≤ cap
-    → cap < 2 ^ 63 → Fits w64 (number + 1)
+    → cap < 2 ^ 63 → number + 1 < 2 ^ 64
 below_all number so_far left rest all len cap a b d e f g = omega arith
 
 pub loop-element-init : goal.loop-element-init
@@ -32,9 +31,10 @@ overflow_add-number c =
     let whole : at.yielded ++ into_iter_items at.element-iterator ≡ c.args.elements.items = at.invariant.rest ∙ c.into_iter-element-iterator.ensures.into_iter_gives.0 in
     let one = ap length steps in
     let all : length at.yielded + length (into_iter_items at.element-iterator) ≡ length c.args.elements.items =
-        sym (length-append at.yielded (into_iter_items at.element-iterator)) ∙ ap length whole in
-    below_all at.number (length at.yielded) (length (into_iter_items at.element-iterator)) (length (into_iter_items c.next.new.self)) (length c.args.elements.items)
-    c.args.elements.len c.args.elements.cap at.invariant.number one all (sym c.args.elements.ok.0) c.args.elements.ok.1 c.args.elements.small
+    sym (length-append at.yielded (into_iter_items at.element-iterator)) ∙ ap length whole in
+    let small : at.number + 1 < 2 ^ 64 = below_all at.number (length at.yielded) (length (into_iter_items at.element-iterator)) (length (into_iter_items c.next.new.self)) (length c.args.elements.items)
+    c.args.elements.len c.args.elements.cap at.invariant.number one all (sym c.args.elements.ok.0) c.args.elements.ok.1 c.args.elements.small in
+    omega arith
 
 pub loop-element-preserved : goal.loop-element-preserved
 loop-element-preserved c =

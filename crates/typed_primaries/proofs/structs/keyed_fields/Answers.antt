@@ -19,7 +19,7 @@ use Rattle.typed_primaries.proofs.structs.keyed_fields.Goals as goal
 pub loop-element-init : goal.loop-element-init
 loop-element-init c = record {
   rest = refl;
-  so_far = each_none c.args.ground.now (IsKeyedAt c.args.of c.args.elements.items) c.new.result.items c.new-fields.ensures.items;
+  so_far = each_none c.args.ground.now (IsKeyedAt c.args.of c.args.elements.items) c.new.result.items c.new.ensures.items;
   taken = λ (number : ℕ). ap (λ (keys : List ℕ). list_any (nat_eq number) keys) c.new-taken.ensures.empty;
   types = refl;
   counted = search rules;

@@ -22,11 +22,11 @@ returns-in-Some c =
     let o = c.in_ok-fields.fields in
     let keyed : c.is_keyed-keyed.result ≡ is_keyed elements = c.is_keyed-keyed.ensures ∙ ap is_keyed c.as_slice.ensures.value in
     let told : c.ask_keys-alike.result ≡ are_alike (is_keyed elements) elements =
-        c.ask_keys-alike.ensures.alike ∙ (ap (λ (k : Bool). are_alike k c.as_slice-2.result.now) keyed ∙ ap (are_alike (is_keyed elements)) c.as_slice-2.ensures.value) in
+    c.ask_keys-alike.ensures.alike ∙ (ap (λ (k : Bool). are_alike k c.as_slice-2.result.now) keyed ∙ ap (are_alike (is_keyed elements)) c.as_slice-2.ensures.value) in
     let broken : c.ask_keys-alike.new.ground ≡ reported c.args.ground.now (unlike_broken (is_keyed elements) elements) =
-        c.ask_keys-alike.ensures.broken
-        ∙ (ap (λ (k : Bool). reported c.args.ground.now (unlike_broken k c.as_slice-2.result.now)) keyed
-        ∙ ap (λ (es : List Element). reported c.args.ground.now (unlike_broken (is_keyed elements) es)) c.as_slice-2.ensures.value) in
+    c.ask_keys-alike.ensures.broken
+    ∙ (ap (λ (k : Bool). reported c.args.ground.now (unlike_broken k c.as_slice-2.result.now)) keyed
+    ∙ ap (λ (es : List Element). reported c.args.ground.now (unlike_broken (is_keyed elements) es)) c.as_slice-2.ensures.value) in
     let are = subst (λ (k : Bool). Turned c.ask_keys-alike.new.ground last (items_of o) (AreFields k of literal.of elements)) keyed c.in_ok-fields.ensures in
     let made = subst (λ (r : Result (Option TypedExpr) NoMemory). Turns last c.literal_node-expr.new.ground r (IsNode literal literal.of (Fields c.in-Some.fields))) (sym c.sound.ensures) c.literal_node-expr.ensures in
     struct_made c.args.ground.now c.ask_keys-alike.new.ground last c.literal_node-expr.new.ground of literal elements c.ask_keys-alike.result o c.in-Some.fields c.sound.result
@@ -41,11 +41,11 @@ returns-in-None c =
     let o = c.in_ok-fields.fields in
     let keyed : c.is_keyed-keyed.result ≡ is_keyed elements = c.is_keyed-keyed.ensures ∙ ap is_keyed c.as_slice.ensures.value in
     let told : c.ask_keys-alike.result ≡ are_alike (is_keyed elements) elements =
-        c.ask_keys-alike.ensures.alike ∙ (ap (λ (k : Bool). are_alike k c.as_slice-2.result.now) keyed ∙ ap (are_alike (is_keyed elements)) c.as_slice-2.ensures.value) in
+    c.ask_keys-alike.ensures.alike ∙ (ap (λ (k : Bool). are_alike k c.as_slice-2.result.now) keyed ∙ ap (are_alike (is_keyed elements)) c.as_slice-2.ensures.value) in
     let broken : c.ask_keys-alike.new.ground ≡ reported c.args.ground.now (unlike_broken (is_keyed elements) elements) =
-        c.ask_keys-alike.ensures.broken
-        ∙ (ap (λ (k : Bool). reported c.args.ground.now (unlike_broken k c.as_slice-2.result.now)) keyed
-        ∙ ap (λ (es : List Element). reported c.args.ground.now (unlike_broken (is_keyed elements) es)) c.as_slice-2.ensures.value) in
+    c.ask_keys-alike.ensures.broken
+    ∙ (ap (λ (k : Bool). reported c.args.ground.now (unlike_broken k c.as_slice-2.result.now)) keyed
+    ∙ ap (λ (es : List Element). reported c.args.ground.now (unlike_broken (is_keyed elements) es)) c.as_slice-2.ensures.value) in
     let are = subst (λ (k : Bool). Turned c.ask_keys-alike.new.ground last (items_of o) (AreFields k of literal.of elements)) keyed c.in_ok-fields.ensures in
     struct_nothing c.args.ground.now c.ask_keys-alike.new.ground last of literal elements c.ask_keys-alike.result o
     told broken are (sym c.only.ensures ∙ c.in-None.is)
