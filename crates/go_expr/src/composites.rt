@@ -8,11 +8,11 @@ use go_scope::{Position, Scope};
 use go_sources::SourceFile;
 use go_syntax::{Element, Expr, TypeExpr};
 use std::alloc::Global;
-use typed_parts::{Seen, beside};
-use typed_primaries::{
+use typed_literals::{
     Entry, FieldEntry, Hint, Literal, LiteralKind, elided_literal, indexed_literal, map_literal,
     open_array_literal, struct_literal, written_literal,
 };
+use typed_parts::{Seen, beside};
 
 /// The value or key of an element, which may be a composite literal without its type: then the hint says what it is.
 #[cycle(seeing)]

@@ -5,6 +5,7 @@ pub mod Joining
 pub mod Meanings
 pub mod Nodes
 pub mod Shapes
+pub mod Made
 pub mod Numbers
 pub mod Several
 pub mod Retyping

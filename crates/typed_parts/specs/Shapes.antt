@@ -1,14 +1,15 @@
 -- What the underlying type of an operand is, for those who look at its elements. Go specification, "Types", "Index
 -- expressions", "Slice expressions" and "Length and capacity".
-use Rattle.std.specs.Prelude.{Bool, true, false, Option, Some, None}
+use Rattle.std.specs.Prelude.{Bool, true, false, List, [], Option, Some, None}
 use Rattle.go_base.specs.declared.ids.TypeId.{TypeId}
 use Rattle.go_rules.specs.declared.untyped.Untyped.{Untyped}
 use Rattle.go_rules.specs.declared.untyped.Untyped.TheVariants as kind
 use Rattle.go_rules.specs.Untyped.{kind_at}
 use Rattle.go_type.specs.declared.term.Basic.TheVariants as basic
+use Rattle.go_type.specs.declared.term.Field.{Field}
 use Rattle.go_type.specs.declared.term.TypeTerm.{TypeTerm}
 use Rattle.go_type.specs.declared.term.TypeTerm.TheVariants.{Basic as Plain, Pointer, Slice, Array, Map, Chan}
-use Rattle.go_type.specs.declared.term.TypeTerm.TheVariants.{Interface}
+use Rattle.go_type.specs.declared.term.TypeTerm.TheVariants.{Interface, Struct}
 use Rattle.go_type.specs.Assignable.{underlying_term_of}
 use Rattle.go_type.specs.Table.{Table}
 use Rattle.typed_parts.specs.declared.shapes.Shape.{Shape}
@@ -71,3 +72,11 @@ interface_term _ = false
 -- by the underlying type
 abbrev pub is_interface : Table → TypeId → Bool
 is_interface types of = interface_term (underlying_term_of types of)
+
+abbrev pub fields_in : Option TypeTerm → List Field
+fields_in (Some (Struct fields)) = fields
+fields_in _ = []
+
+-- the fields of a struct type, and none of another
+abbrev pub fields_of : Table → TypeId → List Field
+fields_of types of = fields_in (underlying_term_of types of)

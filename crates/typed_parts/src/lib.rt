@@ -40,4 +40,4 @@ pub use nodes::{
 pub use numbers::{as_untyped, integer_of, is_constant, text_length, whole_index, with_text_type};
 pub use retyping::{and_also, binary_of, defaulted, or_else, rekinded, retyped};
 pub use several::{place_of, several_parts};
-pub use shapes::{Shape, elem_of, is_text, is_untyped_text, pointed, shape_of};
+pub use shapes::{Shape, elem_of, fields_of, is_text, is_untyped_text, pointed, shape_of};

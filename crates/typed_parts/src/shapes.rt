@@ -1,14 +1,14 @@
 //! What the underlying type of an operand is, for those who look at its elements.
 
-ghost use Rattle.std.specs.Prelude.{◌≡◌};
+ghost use Rattle.std.specs.Prelude.{◌≡◌, ◌<◌, ◌^◌, length};
 ghost use Rattle.go_rules.specs.Untyped.{is_text_type};
 ghost use Rattle.go_type.specs.Assignable.{underlying_term_of};
-ghost use Rattle.typed_parts.specs.Shapes.{array_behind, elem_of, is_untyped_text, pointed, shape_of, term_shape};
+ghost use Rattle.typed_parts.specs.Shapes.{array_behind, elem_of, fields_of, is_untyped_text, pointed, shape_of, term_shape};
 
 use crate::ground::Ground;
 use go_base::TypeId;
 use go_rules::{Untyped, untyped_kind};
-use go_type::{Basic, Dir, TypeTerm, Types};
+use go_type::{Basic, Dir, Field, TypeTerm, Types};
 
 /// A type whose values have elements.
 #[derive(Clone, Copy)]
@@ -118,4 +118,15 @@ pub fn is_text(types: &Types, of: TypeId) -> bool
         types.underlying_term(of),
         Some(TypeTerm::Basic(Basic::Text))
     )
+}
+
+/// The fields of a struct type, and none of another.
+pub fn fields_of(types: &Types, of: TypeId) -> &[Field]
+    ensures fields { result.now ≡ fields_of types.now of }
+    ensures few { length result.now < 2 ^ 32 }
+{
+    match types.underlying_term(of) {
+        Some(TypeTerm::Struct(fields)) => fields.as_slice(),
+        _ => &[],
+    }
 }

@@ -29,7 +29,7 @@ use Rattle.typed_parts.proofs.Turns.{stays}
 use Rattle.typed_primaries.specs.Indexing.{IsAt, IsElement, IsElementAt, IsElementBy, IsElementOf, IsIndex, IsIndexExpression, IsIndexed, IsIndexedAfter}
 use Rattle.typed_primaries.specs.Indexing.{IsIndexedBy, IsMapElement, IsNumbered, IsOfMap, index_below, index_form, indexed}
 use Rattle.typed_primaries.specs.Indexing.{known_length, map_form, map_types, numbered}
-use Rattle.typed_primaries.specs.Made.{IsOnTwo}
+use Rattle.typed_parts.specs.Made.{IsOnTwo}
 use Rattle.typed_primaries.specs.Steps.{IsDereferenced}
 use Rattle.typed_primaries.proofs.Follows.{asks_then, fine_stays}
 

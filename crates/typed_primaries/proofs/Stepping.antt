@@ -20,7 +20,7 @@ use Rattle.typed_parts.specs.Shapes.{pointed}
 use Rattle.typed_parts.specs.Limits.{Basis, basis}
 use Rattle.typed_parts.specs.Turning.{Asks, IsHeld, Keeps, Turned, Turns}
 use Rattle.typed_parts.proofs.Turns.{came, first_came, second_stays, stays, then_soundly}
-use Rattle.typed_primaries.specs.Made.{IsOnOne}
+use Rattle.typed_parts.specs.Made.{IsOnOne}
 use Rattle.typed_primaries.specs.Steps.{IsAddress, IsAddressOf, IsAddressed, IsAlong, IsBehind, IsDereferenced, IsFieldOf}
 use Rattle.typed_primaries.specs.Steps.{IsPointerTo, field_form, field_type}
 

@@ -23,7 +23,7 @@ use Rattle.typed_parts.specs.Numbers.{integer_of, text_length}
 use Rattle.typed_parts.specs.Shapes.{shape_of}
 use Rattle.typed_parts.specs.Turning.{Asks, IsFollowed, IsThenSoundly, Keeps, Soundly}
 use Rattle.typed_parts.specs.Wholes.{IsTextTyped, IsWhole}
-use Rattle.typed_primaries.specs.Made.{IsOnTwo}
+use Rattle.typed_parts.specs.Made.{IsOnTwo}
 use Rattle.typed_primaries.specs.Steps.{IsDereferenced}
 
 -- how many elements are known: those of an array, of what a pointer to one points to, and of a constant string

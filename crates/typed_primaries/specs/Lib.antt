@@ -1,5 +1,2 @@
-pub mod Composing
-pub mod Made
 pub mod Steps
 pub mod Indexing
-pub mod Structs

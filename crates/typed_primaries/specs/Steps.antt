@@ -8,23 +8,13 @@ use Rattle.go_tree.specs.declared.exprs.ExprKind.{ExprKind}
 use Rattle.go_tree.specs.declared.exprs.ExprKind.TheVariants.{AddressOf, Deref, FieldOf}
 use Rattle.go_tree.specs.declared.exprs.TypedExpr.{TypedExpr}
 use Rattle.go_type.specs.declared.term.Field.{Field}
-use Rattle.go_type.specs.declared.term.TypeTerm.{TypeTerm}
-use Rattle.go_type.specs.declared.term.TypeTerm.TheVariants.{Pointer, Struct}
-use Rattle.go_type.specs.Assignable.{underlying_term_of}
+use Rattle.go_type.specs.declared.term.TypeTerm.TheVariants.{Pointer}
 use Rattle.go_type.specs.Table.{Table}
 use Rattle.typed_parts.specs.Judged.{IsFine, Judged, fine}
-use Rattle.typed_parts.specs.Shapes.{pointed}
-use Rattle.typed_primaries.specs.Made.{IsOnOne}
+use Rattle.typed_parts.specs.Shapes.{fields_of, pointed}
+use Rattle.typed_parts.specs.Made.{IsOnOne}
 use Rattle.typed_parts.specs.Limits.{Basis}
 use Rattle.typed_parts.specs.Turning.{Asks, IsHeld, IsThenSoundly, Keeps}
-
-abbrev pub fields_in : Option TypeTerm → List Field
-fields_in (Some (Struct fields)) = fields
-fields_in _ = []
-
--- the fields of a struct type, and none of another
-abbrev pub fields_of : Table → TypeId → List Field
-fields_of types of = fields_in (underlying_term_of types of)
 
 abbrev pub type_of_field : Field → TypeId
 type_of_field field = field.of

@@ -1,14 +1,14 @@
 //! Steps along fields and pointers, as implicit nodes. Go specification, "Selectors".
 
-ghost use Rattle.std.specs.Prelude.{◌≡◌, ◌<◌, ◌^◌, length, IfOk, Some};
+ghost use Rattle.std.specs.Prelude.{◌≡◌, IfOk, Some};
 ghost use Rattle.typed_parts.specs.Joining.{sound};
 ghost use Rattle.typed_parts.specs.Turning.{Turns};
-ghost use Rattle.typed_primaries.specs.Steps.{IsAddress, IsAddressed, IsAlong, IsDereferenced, IsFieldOf, field_type, fields_of};
+ghost use Rattle.typed_primaries.specs.Steps.{IsAddress, IsAddressed, IsAlong, IsDereferenced, IsFieldOf, field_type};
 
 use go_base::{NoMemory, TypeId};
 use go_tree::{ExprKind, TypedExpr};
-use go_type::{Field, TypeTerm, Types};
-use typed_parts::{Ground, beside, boxed, lost, node, pointed};
+use go_type::{TypeTerm, Types};
+use typed_parts::{Ground, beside, boxed, fields_of, lost, node, pointed};
 
 /// The field that steps lead to.
 pub fn along(ground: &Ground, expr: TypedExpr, steps: &[u32]) -> Result<TypedExpr, NoMemory>
@@ -73,15 +73,4 @@ pub fn address(ground: &mut Ground, expr: TypedExpr) -> Result<TypedExpr, NoMemo
     let (pointer, expr) = beside(pointer, expr)?;
     let operand = boxed(ground, expr)?;
     Ok(node(at, pointer, ExprKind::AddressOf(operand)))
-}
-
-/// The fields of a struct type, and none of another.
-pub fn fields_of(types: &Types, of: TypeId) -> &[Field]
-    ensures fields { result.now ≡ fields_of types.now of }
-    ensures few { length result.now < 2 ^ 32 }
-{
-    match types.underlying_term(of) {
-        Some(TypeTerm::Struct(fields)) => fields.as_slice(),
-        _ => &[],
-    }
 }

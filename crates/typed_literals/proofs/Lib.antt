@@ -1,0 +1,4 @@
+pub mod Gathering
+pub mod Composes
+pub mod Structures
+pub mod Keys
