@@ -1,5 +1,5 @@
 -- What is gathered of several, of one more; and what is reported in several goes.
-use Rattle.std.proofs.Common.{◌≡◌, refl, sym, ap, ◌∙◌, subst, List, [], ◌∷◌, ◌++◌, map, Bool, true, false, cond, append-nil}
+use Rattle.std.proofs.Common.{◌≡◌, refl, sym, ap, ◌∙◌, subst, List, [], ◌∷◌, ◌++◌, map, Bool, true, false, append-nil}
 use Rattle.std.proofs.Common.{append_assoc, Option, Some}
 use Rattle.std.specs.Prelude.{◌||◌, ◌&&◌, fold}
 use Rattle.std.specs.List.{flat_map, list_all, list_any}
@@ -52,16 +52,6 @@ any_more p (y ∷ xs) x = ap (λ (b : Bool). p y || b) (any_more p xs x) ∙ or_
 -- one more that is not so
 pub any_other : {A : Type 0} (p : A → Bool) (xs : List A) (x : A) → p x ≡ false → list_any p (xs ++ x ∷ []) ≡ list_any p xs
 any_other p xs x e = any_more p xs x ∙ (ap (λ (b : Bool). list_any p xs || b) e ∙ or_false (list_any p xs))
-
--- one more that may be so
-pub any_new : {A : Type 0} (p : A → Bool) (xs : List A) (x : A) (had has : Bool) → had ≡ list_any p xs
-    → has ≡ cond (p x) true had → has ≡ list_any p (xs ++ x ∷ [])
-any_new p xs x had has h e =
-    e ∙ (either (p x) had ∙ (or_swap (p x) had ∙ (ap (λ (b : Bool). b || p x) h ∙ sym (any_more p xs x))))
-  where
-    either : (a b : Bool) → cond a true b ≡ a || b
-    either true b = refl
-    either false b = refl
 
 pub fold_more : {A B : Type 0} (f : B → A → B) (first : B) (xs : List A) (x : A)
     → fold f first (xs ++ x ∷ []) ≡ f (fold f first xs) x

@@ -1,14 +1,9 @@
 -- What becomes of the elements of arrays and slices.
-use Rattle.std.proofs.Common.{◌≡◌, ℕ, refl, sym, ap, ◌∙◌, subst, List, [], ◌∷◌, ◌++◌, Bool, true, false, cond, true≢false, max}
+use Rattle.std.proofs.Common.{◌≡◌, ℕ, refl, sym, ap, ◌∙◌, subst, List, [], ◌∷◌, ◌++◌, Bool, true, false}
 use Rattle.std.proofs.Common.{Option, Some, None, Result, Ok, Err}
-use Rattle.std.proofs.lemmas.Bool.{eqb-true}
-use Rattle.std.specs.List.{list_any}
 use Rattle.std.specs.Option.{option_and_then, option_map, option_zip}
-use Rattle.std.specs.Prelude.{if◌then◌else◌, nat_eq, not, unwrap_or, IfOk}
-use Rattle.std.specs.declared.hash.BuildHasherDefault.{BuildHasherDefault}
-use Rattle.std.specs.declared.hash.FoldHasher.{FoldHasher}
+use Rattle.std.specs.Prelude.{if◌then◌else◌, unwrap_or, IfOk}
 use Rattle.std.specs.Global.{Vec}
-use Rattle.indexmap.specs.IndexSet.{IndexSet, contains}
 use Rattle.go_base.specs.declared.ids.TypeId.{TypeId}
 use Rattle.go_base.specs.declared.memory.NoMemory.{NoMemory}
 use Rattle.go_base.specs.declared.place.Pos.{Pos}
@@ -24,139 +19,14 @@ use Rattle.typed_parts.specs.Joining.{beside, both, items_of, with_last}
 use Rattle.typed_parts.specs.Judged.{Comes, Judged, Outcome, breaks, fine, reported}
 use Rattle.typed_parts.specs.Meanings.{one_value}
 use Rattle.typed_parts.proofs.Steps.{came, nothing_came}
-use Rattle.typed_parts.proofs.Told.{not_false, not_true}
 use Rattle.typed_parts.proofs.Turns.{first_came, outcome_of, second_stays}
 use Rattle.typed_literals.specs.declared.arrays.Row.{Row}
 use Rattle.typed_literals.specs.declared.composing.Entry.{Entry}
-use Rattle.typed_literals.specs.Arrays.{AreItems, Freed, Frees, HasMet, IsIndexKey, IsIndexOf, IsItem, IsLonger, after_all}
-use Rattle.typed_literals.specs.Arrays.{counted_items, following, free_at, index_in, is_index, is_past, is_taken}
+use Rattle.typed_literals.specs.Arrays.{AreItems, Freed, Frees, HasMet, IsIndexKey, IsIndexOf, IsItem, IsLonger}
+use Rattle.typed_literals.specs.Arrays.{counted_items, free_at, index_in, is_past, is_taken}
 use Rattle.typed_literals.specs.Arrays.{item, item_of, length_for, longer, with_length}
 use Rattle.typed_literals.specs.InOrder.{Taught}
-use Rattle.typed_literals.proofs.Gathering.{KnownSoFar, any_new, any_other, fold_more, known_more, reports_more, same_types}
-
--- ---- indices
-
-next_after : (before : List (Option ℕ)) (index : Option ℕ) → following index ≡ after_all (before ++ index ∷ [])
-next_after before index = sym (fold_more (λ (next known : Option ℕ). following known) (Some 0) before index)
-
-abbrev AreTaken : Option ℕ → List (Option ℕ) → IndexSet ℕ (BuildHasherDefault FoldHasher) → Type 0
-AreTaken limit before taken = (index : ℕ) → is_past index limit ≡ false → contains nat_eq taken index ≡ is_taken before index
-
-pub met_none : (limit : Option ℕ) (row : Row) → row.limit ≡ limit → row.next ≡ Some 0 → row.taken.keys ≡ [] → HasMet limit [] row
-met_none limit row l n t = record {
-  limit_is = l;
-  next = n;
-  taken = λ index within. ap (λ (keys : List ℕ). list_any (nat_eq index) keys) t;
-}
-
--- no index that is not past the end is one that is
-past_apart : (limit : Option ℕ) (index : ℕ) → is_past index limit ≡ true → (other : ℕ) → is_past other limit ≡ false
-    → nat_eq index other ≡ false
-past_apart limit index past other within = by_test (nat_eq index other) refl
-  where
-    by_test : (b : Bool) → nat_eq index other ≡ b → nat_eq index other ≡ false
-    by_test false e = e
-    by_test true e =
-        absurd (true≢false (sym past ∙ (ap (λ (i : ℕ). is_past i limit) (eqb-true index other e) ∙ within)))
-
--- one more element, whose index is not taken
-met_other : (limit : Option ℕ) (before : List (Option ℕ)) (index : Option ℕ) (row new : Row) → HasMet limit before row
-    → new.limit ≡ row.limit → new.next ≡ following index → new.taken ≡ row.taken
-    → ((other : ℕ) → is_past other limit ≡ false → is_index other index ≡ false)
-    → HasMet limit (before ++ index ∷ []) new
-met_other limit before index row new met l n t apart = record {
-  limit_is = l ∙ met.limit_is;
-  next = n ∙ next_after before index;
-  taken = λ other within.
-      ap (λ (taken : IndexSet ℕ (BuildHasherDefault FoldHasher)). contains nat_eq taken other) t
-      ∙ (met.taken other within ∙ sym (any_other (is_index other) before index (apart other within)));
-}
-
--- one whose index is taken from then on
-met_taken : (limit : Option ℕ) (before : List (Option ℕ)) (index : ℕ) (row new : Row) → HasMet limit before row
-    → new.limit ≡ row.limit → new.next ≡ following (Some index)
-    → ((q : ℕ) → contains nat_eq new.taken q ≡ cond (nat_eq index q) true (contains nat_eq row.taken q))
-    → HasMet limit (before ++ Some index ∷ []) new
-met_taken limit before index row new met l n updates = record {
-  limit_is = l ∙ met.limit_is;
-  next = n ∙ next_after before (Some index);
-  taken = λ other within.
-      any_new (is_index other) before (Some index) (contains nat_eq row.taken other) (contains nat_eq new.taken other)
-      (met.taken other within) (updates other);
-}
-
--- ---- an index that no element before has
-
-abbrev free_by : Pos → ℕ → Bool → Bool → Judged ℕ
-free_by at index past taken =
-    if past then breaks at BadIndex
-    else if taken then breaks at BadCompositeLiteral
-    else fine index
-
-freed_by : (old new : Ground) (at : Pos) (limit : Option ℕ) (before : List (Option ℕ)) (known : Option ℕ) (index len : ℕ) (row : Row)
-    (answer : Option ℕ) (past taken : Bool) → known ≡ Some index → past ≡ is_past index limit → taken ≡ is_taken before index
-    → HasMet limit (before ++ Some index ∷ []) row → row.len ≡ longer answer len → answer ≡ (free_by at index past taken).sound
-    → new ≡ reported old (free_by at index past taken).broken → Freed old new at limit before known len row answer
-freed_by old new at limit before known index len row answer past taken e p t met l a r =
-    subst (λ (o : Option ℕ). Freed old new at limit before o len row answer) (sym e)
-    (record {
-      met = met;
-      len_is = l;
-      answers = a ∙ (ap (λ (b : Bool). (free_by at index b taken).sound) p ∙ ap (λ (b : Bool). (free_by at index (is_past index limit) b).sound) t);
-      reports = r
-          ∙ (ap (λ (b : Bool). reported old (free_by at index b taken).broken) p
-          ∙ ap (λ (b : Bool). reported old (free_by at index (is_past index limit) b).broken) t);
-    })
-
-pub freed_unknown : (old : Ground) (at : Pos) (limit : Option ℕ) (before : List (Option ℕ)) (known : Option ℕ) (row new : Row)
-    → HasMet limit before row → known ≡ None → new.limit ≡ row.limit → new.next ≡ following known → new.taken ≡ row.taken
-    → new.len ≡ row.len → Freed old old at limit before known row.len new None
-freed_unknown old at limit before known row new met e l n t len =
-    subst (λ (o : Option ℕ). Freed old old at limit before o row.len new None) (sym e)
-    (record {
-      met = met_other limit before None row new met l (n ∙ ap following e) t (λ other within. refl);
-      len_is = len;
-      answers = refl;
-      reports = refl;
-    })
-
-pub freed_past : (old last : Ground) (at : Pos) (limit : Option ℕ) (before : List (Option ℕ)) (known : Option ℕ) (index : ℕ) (told : Bool)
-    (row new : Row) → HasMet limit before row → known ≡ Some index → told ≡ is_past index row.limit → told ≡ true
-    → new.limit ≡ row.limit → new.next ≡ following known → new.taken ≡ row.taken → new.len ≡ row.len
-    → last ≡ reported old (record { at = at; rule = BadIndex } ∷ []) → Freed old last at limit before known row.len new None
-freed_past old last at limit before known index told row new met e p is l n t len r =
-    let past : true ≡ is_past index limit = sym is ∙ (p ∙ ap (is_past index) met.limit_is) in
-    freed_by old last at limit before known index row.len new None true (is_taken before index) e past refl
-    (met_other limit before (Some index) row new met l (n ∙ ap following e) t (past_apart limit index (sym past))) len refl r
-
-within_limit : (limit : Option ℕ) (before : List (Option ℕ)) (index : ℕ) (row : Row) (told : Bool) → HasMet limit before row
-    → told ≡ is_past index row.limit → told ≡ false → false ≡ is_past index limit
-within_limit limit before index row told met p is = sym is ∙ (p ∙ ap (is_past index) met.limit_is)
-
-pub freed_taken : (old last : Ground) (at : Pos) (limit : Option ℕ) (before : List (Option ℕ)) (known : Option ℕ) (index : ℕ)
-    (told is_new : Bool) (row new : Row) → HasMet limit before row → known ≡ Some index → told ≡ is_past index row.limit → told ≡ false
-    → is_new ≡ not (contains nat_eq row.taken index) → is_new ≡ false
-    → new.limit ≡ row.limit → new.next ≡ following known
-    → ((q : ℕ) → contains nat_eq new.taken q ≡ cond (nat_eq index q) true (contains nat_eq row.taken q)) → new.len ≡ row.len
-    → last ≡ reported old (record { at = at; rule = BadCompositeLiteral } ∷ []) → Freed old last at limit before known row.len new None
-freed_taken old last at limit before known index told is_new row new met e p is w old_one l n u len r =
-    let within = within_limit limit before index row told met p is in
-    let taken : true ≡ is_taken before index = sym (not_false (contains nat_eq row.taken index) (sym w ∙ old_one)) ∙ met.taken index (sym within) in
-    freed_by old last at limit before known index row.len new None false true e within taken
-    (met_taken limit before index row new met l (n ∙ ap following e) u) len refl r
-
-pub freed_free : (old : Ground) (at : Pos) (limit : Option ℕ) (before : List (Option ℕ)) (known : Option ℕ) (index : ℕ)
-    (told is_new : Bool) (row new : Row) → HasMet limit before row → known ≡ Some index → told ≡ is_past index row.limit → told ≡ false
-    → is_new ≡ not (contains nat_eq row.taken index) → is_new ≡ true
-    → new.limit ≡ row.limit → new.next ≡ following known
-    → ((q : ℕ) → contains nat_eq new.taken q ≡ cond (nat_eq index q) true (contains nat_eq row.taken q))
-    → new.len ≡ max row.len (unwrap_or (following known) 0) → Freed old old at limit before known row.len new (Some index)
-freed_free old at limit before known index told is_new row new met e p is w new_one l n u len =
-    let within = within_limit limit before index row told met p is in
-    let taken : false ≡ is_taken before index = sym (not_true (contains nat_eq row.taken index) (sym w ∙ new_one)) ∙ met.taken index (sym within) in
-    freed_by old old at limit before known index row.len new (Some index) false false e within taken
-    (met_taken limit before index row new met l (n ∙ ap following e) u)
-    (len ∙ ap (λ (o : Option ℕ). max row.len (unwrap_or (following o) 0)) e) refl refl
+use Rattle.typed_literals.proofs.Gathering.{KnownSoFar, fold_more, known_more, reports_more, same_types}
 
 -- ---- the index of an element
 
@@ -191,6 +61,12 @@ key_unsound old mid key part next o e h is =
     index_by old mid key part next o None e h (ap (option_and_then index_in) (sym is))
 
 -- ---- an element
+
+abbrev free_by : Pos → ℕ → Bool → Bool → Judged ℕ
+free_by at index past taken =
+    if past then breaks at BadIndex
+    else if taken then breaks at BadCompositeLiteral
+    else fine index
 
 free_is : (at : Pos) (limit : Option ℕ) (before : List (Option ℕ)) (known : Option ℕ) (index : ℕ)
     → (free_at at limit before known).sound ≡ Some index → known ≡ Some index
