@@ -1,3 +1,5 @@
 pub mod Stepping
 pub mod Follows
 pub mod Indexes
+pub mod Slices
+pub mod Asserts

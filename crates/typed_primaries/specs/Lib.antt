@@ -1,2 +1,4 @@
 pub mod Steps
 pub mod Indexing
+pub mod Slicing
+pub mod Asserting
