@@ -3,3 +3,5 @@ pub mod Follows
 pub mod Indexes
 pub mod Slices
 pub mod Asserts
+pub mod Selects
+pub mod MethodNames

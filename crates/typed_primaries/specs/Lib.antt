@@ -2,3 +2,4 @@ pub mod Steps
 pub mod Indexing
 pub mod Slicing
 pub mod Asserting
+pub mod Selecting
