@@ -1,5 +1,5 @@
 -- What becomes of type assertions, and of forms with a second value.
-use Rattle.std.proofs.Common.{◌≡◌, refl, sym, ap, ◌∙◌, subst, Bool, true, false, List, [], ◌∷◌, Option, Some, None, Result, Ok, Err}
+use Rattle.std.proofs.Common.{◌≡◌, refl, sym, ap, ◌∙◌, subst, Bool, true, false, [], ◌∷◌, Option, Some, None, Result, Ok}
 use Rattle.std.specs.Prelude.{IfOk, OnOk, IsTrue, ◌↔◌}
 use Rattle.std.specs.Global.{Box}
 use Rattle.std.specs.Option.{option_zip}
@@ -29,7 +29,7 @@ use Rattle.typed_parts.specs.Joining.{beside, only}
 use Rattle.typed_parts.specs.Judged.{Judged, breaks, fine, reported}
 use Rattle.typed_parts.specs.Limits.{Basis}
 use Rattle.typed_parts.specs.Nodes.{node}
-use Rattle.typed_parts.specs.Turning.{Asks, IsHeld, Keeps, Soundly, Turned, Turns}
+use Rattle.typed_parts.specs.Turning.{IsHeld, Soundly, Turned, Turns}
 use Rattle.typed_parts.proofs.Turns.{asks, came, first_came, held, keeps, nothing_came, second_stays, then_soundly}
 use Rattle.typed_primaries.specs.Asserting.{IsAsserted, IsAssertedAs, IsAssertedTo, IsPaired, IsTypeAssertion, IsWithOk, MayBe}
 use Rattle.typed_primaries.specs.Asserting.{case_broken, interface_value, paired_layer, paired_with_ok}

@@ -1,7 +1,6 @@
 -- What becomes of selectors.
 use Rattle.std.proofs.Common.{◌≡◌, ℕ, refl, sym, ap, ◌∙◌, subst, Bool, true, false, true≢false, List, [], ◌∷◌, Option, Some, None, Result, Ok, Err}
 use Rattle.std.specs.Prelude.{IfOk, OnOk, IsTrue, ◌↔◌, ◌||◌, is_some}
-use Rattle.std.specs.Global.{Box}
 use Rattle.std.specs.Option.{option_zip}
 use Rattle.go_base.specs.declared.ids.FuncId.{FuncId}
 use Rattle.go_base.specs.declared.ids.TypeId.{TypeId}
@@ -24,19 +23,18 @@ use Rattle.typed_parts.specs.declared.ground.Ground.{Ground}
 use Rattle.typed_parts.specs.declared.meaning.Given.{Given}
 use Rattle.typed_parts.specs.declared.meaning.Meaning.{Meaning}
 use Rattle.typed_parts.specs.Joining.{beside, sound}
-use Rattle.typed_parts.specs.Judged.{Comes, IsFine, Judged, Outcome, breaks, fine, reported, unsound}
+use Rattle.typed_parts.specs.Judged.{Comes, IsFine, Judged, breaks, fine, reported, unsound}
 use Rattle.typed_parts.specs.Limits.{Basis, IsLimited, basis, granted}
 use Rattle.typed_parts.specs.Meanings.{single}
-use Rattle.typed_parts.specs.Shapes.{pointed}
 use Rattle.typed_parts.specs.Turning.{Asks, IsHeld, Keeps, Soundly, Turned, Turns}
 use Rattle.typed_parts.proofs.Told.{was_granted, was_refused}
 use Rattle.typed_parts.proofs.Turns.{asks, came, first_came, followed, held, keeps, nothing_came, outcome_of, second_stays, then_nothing}
 use Rattle.typed_parts.proofs.Turns.{then_soundly}
 use Rattle.typed_primaries.specs.declared.selecting.Selected.{Selected}
-use Rattle.typed_primaries.specs.Selecting.{HasMethod, IsBoundMethod, IsConcreteMethod, IsExpressionOf, IsFieldOrMethod, IsInMethodSet}
+use Rattle.typed_primaries.specs.Selecting.{HasMethod, IsBoundMethod, IsExpressionOf, IsFieldOrMethod, IsInMethodSet}
 use Rattle.typed_primaries.specs.Selecting.{IsLimitedExpression, IsMethodExpression, IsMethodOf, IsMethodValue, IsOfMethodSet, IsOfValue}
 use Rattle.typed_primaries.specs.Selecting.{IsPrefixed, IsReceiver, IsReceiverOf, IsSelectedBy, IsSelectedOf, IsSelection, IsSelectorOf}
-use Rattle.typed_primaries.specs.Selecting.{by_pointer, expression_of, is_nameless, receiver_asked, value_form, wanted, with_first}
+use Rattle.typed_primaries.specs.Selecting.{by_pointer, expression_of, is_nameless, value_form, wanted, with_first}
 use Rattle.typed_parts.specs.Made.{IsOnOne}
 use Rattle.typed_primaries.specs.Steps.{IsAddressed, IsAlong, IsDereferenced}
 use Rattle.typed_primaries.proofs.Follows.{asks_nothing, asks_soundly, fine_came, turned_sound}

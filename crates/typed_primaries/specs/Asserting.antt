@@ -1,6 +1,6 @@
 -- Type assertions, and the forms that give a second value. Go specification, "Type assertions", "Type switches",
 -- "Index expressions" and "Receive operator".
-use Rattle.std.specs.Prelude.{◌≡◌, Bool, true, false, List, [], ◌∷◌, Option, IsTrue, ◌⊎◌}
+use Rattle.std.specs.Prelude.{Bool, true, false, List, [], ◌∷◌, Option, IsTrue, ◌⊎◌}
 use Rattle.std.specs.Global.{Box}
 use Rattle.go_base.specs.declared.ids.TypeId.{TypeId}
 use Rattle.go_base.specs.declared.place.Pos.{Pos}

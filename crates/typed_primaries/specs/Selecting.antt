@@ -37,7 +37,7 @@ use Rattle.typed_parts.specs.Looks.{is_place}
 use Rattle.typed_parts.specs.Meanings.{single}
 use Rattle.typed_parts.specs.Nodes.{node}
 use Rattle.typed_parts.specs.Shapes.{pointed}
-use Rattle.typed_parts.specs.Turning.{Asks, IsHeld, IsThenSoundly, Keeps, Soundly}
+use Rattle.typed_parts.specs.Turning.{Asks, IsHeld, IsThenSoundly, Keeps}
 use Rattle.typed_primaries.specs.declared.selecting.Selected.{Selected}
 use Rattle.typed_parts.specs.Made.{IsOnOne}
 use Rattle.typed_primaries.specs.Steps.{IsAddressed, IsAlong, IsDereferenced}

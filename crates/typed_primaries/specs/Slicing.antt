@@ -1,5 +1,5 @@
 -- Slice expressions. Go specification, "Slice expressions", "Simple slice expressions" and "Full slice expressions".
-use Rattle.std.specs.Prelude.{◌≡◌, ℤ, int_le, ◌&&◌, not, Bool, true, false, if◌then◌else◌, List, [], ◌∷◌, ◌++◌}
+use Rattle.std.specs.Prelude.{◌≡◌, ℤ, int_le, ◌&&◌, not, Bool, true, false, List, [], ◌∷◌, ◌++◌}
 use Rattle.std.specs.Prelude.{Option, Some, None}
 use Rattle.std.specs.Global.{Box}
 use Rattle.go_base.specs.declared.ids.TypeId.{TypeId}

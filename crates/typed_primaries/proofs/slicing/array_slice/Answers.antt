@@ -1,4 +1,3 @@
-use Rattle.std.proofs.Common.{◌≡◌}
 use Rattle.typed_primaries.proofs.Slices.{array_slice_held}
 use Rattle.typed_primaries.proofs.slicing.array_slice.Goals as goal
 

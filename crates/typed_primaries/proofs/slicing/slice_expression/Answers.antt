@@ -1,7 +1,6 @@
 use Rattle.std.proofs.Common.{◌≡◌, ◌∙◌, ap, sym, Some, None}
 use Rattle.std.specs.Option.{option_zip}
 use Rattle.go_tree.specs.declared.exprs.TypedExpr.{TypedExpr}
-use Rattle.typed_parts.specs.Joining.{beside}
 use Rattle.typed_parts.proofs.Turns.{nothing, nothing_came, something}
 use Rattle.typed_primaries.specs.declared.slicing.Bounds.{Bounds}
 use Rattle.typed_primaries.specs.Slicing.{order_broken, unbroken}

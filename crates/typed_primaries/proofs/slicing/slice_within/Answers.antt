@@ -1,4 +1,4 @@
-use Rattle.std.proofs.Common.{◌≡◌, ◌∙◌, refl, sym, ap, subst, Option, Result}
+use Rattle.std.proofs.Common.{◌∙◌, refl, sym, ap, subst, Option, Result}
 use Rattle.std.specs.Prelude.{ℤ, ◌&&◌}
 use Rattle.go_base.specs.declared.memory.NoMemory.{NoMemory}
 use Rattle.go_tree.specs.declared.exprs.TypedExpr.{TypedExpr}

@@ -1,9 +1,7 @@
-use Rattle.std.proofs.Common.{◌≡◌, ◌∙◌, ap, sym, Ok}
-use Rattle.go_tree.specs.declared.exprs.ExprKind.TheVariants.{AddressOf}
+use Rattle.std.proofs.Common.{◌≡◌, ◌∙◌, sym, Ok}
 use Rattle.go_tree.specs.declared.exprs.TypedExpr.{TypedExpr}
 use Rattle.go_type.specs.declared.term.TypeTerm.TheVariants.{Pointer}
 use Rattle.typed_parts.specs.Joining.{beside}
-use Rattle.typed_parts.specs.Nodes.{node}
 use Rattle.typed_parts.proofs.Turns.{first_came, held, second_stays}
 use Rattle.typed_primaries.proofs.Stepping.{address_made}
 use Rattle.typed_primaries.proofs.steps.address.Goals as goal
