@@ -1,0 +1,10 @@
+pub mod Lists
+pub mod Shapes
+pub mod Values
+pub mod Machines
+pub mod Sites
+pub mod Growing
+pub mod Sames
+pub mod Forms
+pub mod Stores
+pub mod Zeros

@@ -1,0 +1,4 @@
+use Rattle.code_safety.proofs.laws.never_stuck.Goals as goal
+
+pub returns : goal.returns
+returns c = ?
