@@ -8,3 +8,11 @@ pub mod Sames
 pub mod Forms
 pub mod Stores
 pub mod Zeros
+pub mod Operands
+pub mod Operators
+pub mod Places
+pub mod Mapping
+pub mod Ranging
+pub mod Converting
+pub mod Making
+pub mod BuiltIns

@@ -48,6 +48,13 @@ HasValue t s it = (k : Known) → known s.code s.function it ≡ Some k → Valu
 -- what the values that an instruction needs may be told from
 pub record Reads (t : Typing) (s : Site) (at : Op) : Type 0 where
   pub safe : IsSafe s.code
+  pub number : ℕ
+  pub there : slice_get s.code.functions number ≡ Some s.function
+  pub block : ℕ
+  pub place : ℕ
+  pub instr : Instr
+  pub stands : slice_get (instrs_at s.function block) place ≡ Some instr
+  pub is_op : instr.op ≡ at
   pub told : AreAnswers s.code.types s.answers
   pub store : IsStore s.code t s.machine.store
   pub values : (it : Operand) → Among it (operands_of at) → HasValue t s it
