@@ -141,7 +141,7 @@ module _ (c : Code) where
   box_alike of (Some (Interface x)) _ like h = absurd like
   box_alike of _ b like h = absurd h
 
-  items_alike : (a b : Option TypeTerm) → Like (Alike c.types) a b → (ids : List TypeId) → item_types a ≡ Some ids
+  pub items_alike : (a b : Option TypeTerm) → Like (Alike c.types) a b → (ids : List TypeId) → item_types a ≡ Some ids
       → (others : List TypeId) × ((item_types b ≡ Some others) × AllZip (Alike c.types) ids others)
   items_alike (Some (Array n x)) (Some (Array m y)) like ids is =
       (replicate m y, (refl, subst (λ ids. AllZip (Alike c.types) ids (replicate m y)) (some_same (replicate n x) ids is)
