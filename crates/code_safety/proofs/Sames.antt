@@ -301,7 +301,7 @@ held_id types of term is =
 
 -- ---- types that are identical but for tags
 
-zip_tested : {A B : Type 0} (R : A → B → Bool) (S : A → B → Type 0) → ((a : A) (b : B) → R a b ≡ true → S a b) → (xs : List A) (ys : List B)
+pub zip_tested : {A B : Type 0} (R : A → B → Bool) (S : A → B → Type 0) → ((a : A) (b : B) → R a b ≡ true → S a b) → (xs : List A) (ys : List B)
     → pointwise R xs ys ≡ true → AllZip S xs ys
 zip_tested R S each [] [] h = tt
 zip_tested R S each (x ∷ xs) (y ∷ ys) h =
@@ -355,7 +355,7 @@ module _ (types : Table) (held : IsHeld types) where
     bare_alike a b None t is js h = absurd (true≢false (sym h))
     bare_alike a b (Some s) None is js h = absurd (true≢false (sym h))
 
-  same_id_alike : (a b : TypeId) → same_id a b ≡ true → Alike types a b
+  pub same_id_alike : (a b : TypeId) → same_id a b ≡ true → Alike types a b
   same_id_alike a b h = alike_of types a b ((same_id-Decides a b).0 h)
 
   same_to_alike : (n : ℕ) (a b : TypeId) → same_to n types a b ≡ true → Alike types a b
