@@ -16,3 +16,6 @@ pub mod Ranging
 pub mod Converting
 pub mod Making
 pub mod BuiltIns
+pub mod Available
+pub mod Opening
+pub mod Throwing
