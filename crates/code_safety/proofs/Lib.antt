@@ -19,3 +19,6 @@ pub mod BuiltIns
 pub mod Available
 pub mod Opening
 pub mod Throwing
+pub mod Outcomes
+pub mod Waiting
+pub mod Going
