@@ -22,3 +22,6 @@ pub mod Throwing
 pub mod Outcomes
 pub mod Waiting
 pub mod Going
+pub mod Calling
+pub mod Jumping
+pub mod Stepping
