@@ -166,9 +166,9 @@ built_in_grows : (c : Code) (t t' : Typing) → Grows t t' → (called : BuiltIn
 built_in_grows c t t' g called items of (closes id) = closes id
 built_in_grows c t t' g called items of (panics it thrown) =
     panics it (fits_grow c t t' g it (Some (term.Interface [])) thrown)
-built_in_grows c t t' g called items of (recovers items of is) = recovers items of is
-built_in_grows c t t' g called items of (works called items of each) =
-    works called items of (λ t'' h. each t'' (grows_on t t' t'' g h))
+built_in_grows c t t' g called items of (recovers its id is) = recovers its id is
+built_in_grows c t t' g called items of (works it its id each) =
+    works it its id (λ t'' h. each t'' (grows_on t t' t'' g h))
 
 callee_grows : (c : Code) (t t' : Typing) → Grows t t' → (callee : Callee) (arguments : List Val)
     → CalleeFits c t callee arguments → CalleeFits c t' callee arguments

@@ -1,5 +1,6 @@
 pub mod Lists
 pub mod Shapes
+pub mod Members
 pub mod Values
 pub mod Machines
 pub mod Sites
