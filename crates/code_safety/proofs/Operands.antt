@@ -267,8 +267,9 @@ any_value t s held it has h = by (held_type (known s.code s.function it)) refl h
     by None e h = absurd (true≢false (sym h))
     by (Some of) e h =
         let v = held_value t s it has of e in
-        (v.0, (v.1.0, (of,
-        (under_plain s.code.types held of (term.Interface []) (any_is (term_at s.code.types of) h) refl, v.1.1))))
+        (v.0, (v.1.0,
+        subst (λ term. Fits s.code t v.0 term)
+        (under_plain s.code.types held of (term.Interface []) (any_is (term_at s.code.types of) h) refl) v.1.1))
 
 -- ---- pointers
 

@@ -247,6 +247,14 @@ new_home c t store home is =
 abbrev pub with_map_home : MapHome → Typing → Typing
 with_map_home home t = record t { maps = t.maps ++ home ∷ [] }
 
+pub map_home_grows : (t : Typing) (home : MapHome) → Grows t (with_map_home home t)
+map_home_grows t home =
+    record {
+      cells = λ n other is. is;
+      maps = λ n other is. lists.get_front t.maps (home ∷ []) n other is;
+      chans = λ n of is. is;
+    }
+
 -- ---- the last step of a path
 
 length_more : (front : List ℕ) (last : ℕ) → length (front ++ last ∷ []) ≡ suc (length front)
