@@ -16,8 +16,9 @@ use Rattle.code_safety.proofs.Values.{Typing, Fits, IsOf, AreOf, Points, PointsA
 use Rattle.go_base.specs.declared.ids.FuncId.{FuncId}
 use Rattle.go_base.specs.declared.ids.TypeId.{TypeId}
 use Rattle.go_type.specs.Held.{IsHeld}
-use Rattle.go_type.specs.Kinds.{kind_of}
+use Rattle.go_type.specs.Kinds.{kind_of, kind_of_term}
 use Rattle.go_type.specs.Same.{both, each, same_id, same_id-Decides, same_ids, same_ids-Decides}
+use Rattle.go_type.specs.Sizes.{is_declared}
 use Rattle.go_type.specs.Table.{Table, term_at}
 use Rattle.go_type.specs.declared.term.Basic.TheVariants as basic
 use Rattle.go_type.specs.declared.term.MethodType.{MethodType}
@@ -239,7 +240,30 @@ integer_value t s it has h =
     let n = number_in s.code t v.0 (under_of s.code of.0) of.1.1 v.1.1 in
     (n.0, v.1.0 ∙ ap Some n.1)
 
-truth_is : (of : Option TypeTerm) → is_truth of ≡ true → of ≡ Some (term.Basic basic.Bool)
+-- the machine has the type of an operand of a type of integers
+pub integer_kind : (c : Code) → IsHeld c.types → (f : Function) (it : Operand) (of : TypeId) → is_operand c f it of ≡ true
+    → is_some (kind_of c.types of) ≡ true → means.type_of c f it ≡ Some of
+integer_kind c held f it of h kind = let k = known_of c f it of h in by k.0 k.1.0 k.1.1
+  where
+    no_kind : (term : TypeTerm) → term_at c.types of ≡ Some term → is_declared (Some term) ≡ false → is_some (kind_of_term (Some term)) ≡ false → ⊥
+    no_kind term is plain none =
+        true≢false (sym kind ∙ ap (λ term. is_some (kind_of_term term)) (under_plain c.types held of term is plain) ∙ none)
+
+    no_function : (found : Option TypeTerm) (function : Option Function) → term_at c.types of ≡ found
+        → is_function_type found function ≡ true → ⊥
+    no_function (Some (term.Func signature)) function is h = no_kind (term.Func signature) is refl refl
+    no_function _ function is h = true≢false (sym h)
+
+    no_address : (found : Option TypeTerm) (base : TypeId) → term_at c.types of ≡ found → is_pointer_to found base ≡ true → ⊥
+    no_address (Some (term.Pointer to)) base is h = no_kind (term.Pointer to) is refl refl
+    no_address _ base is h = true≢false (sym h)
+
+    by : (k : Known) → known c f it ≡ Some k → is_known c (Some k) of ≡ true → means.type_of c f it ≡ Some of
+    by (known_as.Held id) is h = held_type_is c f it id is ∙ ap Some ((same_id-Decides id of).0 h)
+    by (known_as.Function id) is h = absurd (no_function (term_at c.types of) (means.function_at c id) refl h)
+    by (known_as.Address base) is h = absurd (no_address (term_at c.types of) base refl h)
+
+pub truth_is : (of : Option TypeTerm) → is_truth of ≡ true → of ≡ Some (term.Basic basic.Bool)
 truth_is (Some (term.Basic basic.Bool)) h = refl
 truth_is _ h = absurd (true≢false (sym h))
 
