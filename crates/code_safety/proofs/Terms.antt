@@ -6,6 +6,7 @@ use Rattle.std.specs.List.{AllZip, list_all}
 use Rattle.code_safety.proofs.Lists as lists
 use Rattle.code_safety.proofs.Sames.{under_plain}
 use Rattle.code_safety.proofs.Shapes.{Alike, alike_of, alike_self}
+use Rattle.code_safety.proofs.Values.{Typing, Fits, IsOf, under_of}
 use Rattle.go_base.specs.declared.ids.TypeId.{TypeId}
 use Rattle.go_type.specs.Assignable.{underlying_term_of}
 use Rattle.go_type.specs.Held.{IsHeld}
@@ -17,6 +18,10 @@ use Rattle.go_type.specs.declared.term.Dir.{Dir}
 use Rattle.go_type.specs.declared.term.MethodType.{MethodType}
 use Rattle.go_type.specs.declared.term.TypeTerm.{TypeTerm}
 use Rattle.go_type.specs.declared.term.TypeTerm.TheVariants as term
+use Rattle.go_value.specs.Values.{Val, truth}
+use Rattle.ssa_ir.specs.declared.code.Code.{Code}
+use Rattle.ssa_mean.specs.Making.{with_ok}
+use Rattle.ssa_typed.specs.Forms.{gives}
 use Rattle.type_shapes.specs.Shapes.{is_text, is_truth, is_interface, is_any, is_byte, is_character, is_characters, is_pointer_to, parts_of, is_with_ok}
 
 -- ---- tests
@@ -125,3 +130,14 @@ ok_term types held of first h = by (parts_of (term_at types of)) refl h
         (e ∙ ap (λ (one : TypeId). Some (one ∷ two ∷ [])) (same_is one first same.0)
         ∙ ap (λ (two : TypeId). Some (first ∷ two ∷ [])) (same_is two (basic_id basic.Bool) same.1))
     by _ e h = never h
+
+pub truth_fits : (c : Code) (t : Typing) → IsHeld c.types → (b : Bool) → IsOf c t (truth b) (basic_id basic.Bool)
+truth_fits c t held b = subst (Fits c t (truth b)) (sym (basic_term c.types held basic.Bool)) tt
+
+-- a value, and where it is asked whether there was one
+pub ok_fits : (c : Code) (t : Typing) → IsHeld c.types → (of first : TypeId) (comma_ok : Bool) → gives c.types of first comma_ok ≡ true
+    → (v : Val) (was : Bool) → IsOf c t v first → IsOf c t (with_ok comma_ok v was) of
+ok_fits c t held of first false h v was fits = subst (IsOf c t v) (sym (same_is of first h)) fits
+ok_fits c t held of first true h v was fits =
+    subst (Fits c t (with_ok true v was)) (sym (ok_term c.types held of first h))
+    (first ∷ basic_id basic.Bool ∷ [], (refl, (fits, (truth_fits c t held was, tt))))
