@@ -6,6 +6,7 @@ pub mod Machines
 pub mod Sites
 pub mod Growing
 pub mod Sames
+pub mod Terms
 pub mod Forms
 pub mod Stores
 pub mod Zeros

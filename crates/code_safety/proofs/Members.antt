@@ -1,7 +1,9 @@
 -- Items of lists by their places, and the registers that instructions give.
 use Rattle.std.proofs.Common.{◌≡◌, ◌⊎◌, inl, inr, ⊎_elim, ◌<◌, ◌≤◌, ◌+◌, arith, ℕ, zero, suc, Bool, true, false, cond, ◌&&◌, ◌||◌, not, ◌==◌, List, [], ◌∷◌, ◌++◌, length, take, Option, Some, None, refl, sym, subst, ap, ◌∙◌, slice_get, Contains, find, take_while, true≢false, append_assoc, append-nil}
 use Rattle.std.proofs.lemmas.Option.{none-some, get_or_from_slice_get, slice_get-get_or}
+use Rattle.std.specs.Cmp.{unsigned_Decides}
 use Rattle.std.specs.List.{prefix_len, flat_map}
+use Rattle.code_safety.proofs.Machines.{IsIn}
 use Rattle.code_safety.proofs.Lists.{get_below, some_same, get_front}
 use Rattle.ssa_ir.specs.Uses.{given_register, given_registers}
 use Rattle.ssa_ir.specs.declared.ops.Instr.{Instr}
@@ -149,3 +151,26 @@ at_given (first ∷ instrs) register zero instr is gives =
     given (Some x) e = (0, e)
 at_given (first ∷ instrs) register (suc k) instr is gives =
     member_right (given_register first) (given_registers instrs) register (at_given instrs register k instr is gives)
+
+-- ---- numbers
+
+pub same_or_other : (a b : ℕ) → (a ≡ b) ⊎ (a ≡ b → ⊥)
+same_or_other a b = decide (a == b) refl
+  where
+    decide : (test : Bool) → (a == b) ≡ test → (a ≡ b) ⊎ (a ≡ b → ⊥)
+    decide true e = inl ((unsigned_Decides a b).0 e)
+    decide false e = inr (λ same. true≢false (sym ((unsigned_Decides a b).1 same) ∙ e))
+
+pub in_left : (n : ℕ) (xs ys : List ℕ) → IsIn n xs → IsIn n (xs ++ ys)
+in_left n [] ys h = absurd h
+in_left n (x ∷ xs) ys (inl e) = inl e
+in_left n (x ∷ xs) ys (inr h) = inr (in_left n xs ys h)
+
+pub in_right : (n : ℕ) (xs ys : List ℕ) → IsIn n ys → IsIn n (xs ++ ys)
+in_right n [] ys h = h
+in_right n (x ∷ xs) ys h = inr (in_right n xs ys h)
+
+pub in_split : (n : ℕ) (xs ys : List ℕ) → IsIn n (xs ++ ys) → IsIn n xs ⊎ IsIn n ys
+in_split n [] ys h = inr h
+in_split n (x ∷ xs) ys (inl e) = inl (inl e)
+in_split n (x ∷ xs) ys (inr h) = ⊎_elim (λ l. inl (inr l)) (λ r. inr r) (in_split n xs ys h)
