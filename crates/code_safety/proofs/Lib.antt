@@ -16,4 +16,5 @@ pub mod Mapping
 pub mod Ranging
 pub mod Converting
 pub mod Making
+pub mod Appending
 pub mod BuiltIns
