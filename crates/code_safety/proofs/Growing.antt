@@ -250,7 +250,7 @@ goroutine_grows c t t' g it h =
 
 -- ---- channels, where there are no new ones
 
-channel_grows : (c : Code) (t t' : Typing) → Grows t t' → (goroutines : List Goroutine) (runnable : List ℕ) (chan : Chan)
+pub channel_grows : (c : Code) (t t' : Typing) → Grows t t' → (goroutines : List Goroutine) (runnable : List ℕ) (chan : Chan)
     (elem : TypeId) → ChannelFits c t goroutines runnable chan elem → ChannelFits c t' goroutines runnable chan elem
 channel_grows c t t' g goroutines runnable chan elem h =
     record {

@@ -17,6 +17,7 @@ pub mod Mapping
 pub mod Ranging
 pub mod Converting
 pub mod Making
+pub mod Appending
 pub mod BuiltIns
 pub mod Available
 pub mod Opening

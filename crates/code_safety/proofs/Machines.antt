@@ -4,6 +4,7 @@ use Rattle.std.proofs.Common.{◌≡◌, ◌==◌, ◌<◌, ◌≤◌, ◌⊎◌
 use Rattle.std.specs.List.{AllZip}
 use Rattle.code_safety.specs.Safety.{IsSafe}
 use Rattle.code_safety.proofs.Shapes.{Alike}
+use Rattle.code_safety.proofs.Values as values
 use Rattle.code_safety.proofs.Values.{Typing, Grows, Fits, IsOf, AreOf, IsStore, under_of}
 use Rattle.go_base.specs.declared.ids.FuncId.{FuncId}
 use Rattle.go_base.specs.declared.ids.TypeId.{TypeId}
@@ -18,6 +19,7 @@ use Rattle.go_value.specs.declared.faults.Fault.{Fault}
 use Rattle.ssa_ir.specs.Blocks.{instrs_at}
 use Rattle.ssa_ir.specs.Uses.{given_registers}
 use Rattle.ssa_ir.specs.declared.code.Code.{Code}
+use Rattle.ssa_ir.specs.declared.code.CodeVariable.{CodeVariable}
 use Rattle.ssa_ir.specs.declared.code.Function.{Function}
 use Rattle.ssa_ir.specs.declared.operands.Operand.{Operand}
 use Rattle.ssa_ir.specs.declared.ops.Instr.{Instr}
@@ -325,10 +327,16 @@ pub record SchedFits (c : Code) (t : Typing) (goroutines : List Goroutine) (sche
   pub channels : (k : ℕ) (chan : Chan) (elem : TypeId) → slice_get sched.channels k ≡ Some chan
       → slice_get t.chans k ≡ Some elem → ChannelFits c t goroutines sched.runnable chan elem
 
+-- package variables are the first cells
+abbrev pub HasVariables : Code → Typing → Type 0
+HasVariables c t =
+    (n : ℕ) (it : CodeVariable) → slice_get c.variables n ≡ Some it → slice_get t.cells n ≡ Some (values.one it.of)
+
 -- a machine, but for the goroutine that runs
 pub record OpenFits (c : Code) (t : Typing) (m : Machine) : Type 0 where
   pub others : (n : ℕ) (g : Goroutine) → slice_get m.goroutines n ≡ Some g → (n ≡ m.sched.current.number → ⊥)
       → GoroutineFits c t g
+  pub variables : HasVariables c t
   pub store : IsStore c t m.store
   pub sched : SchedFits c t m.goroutines m.sched
   pub current : IsIn m.sched.current.number m.sched.runnable

@@ -2,9 +2,9 @@
 use Rattle.std.proofs.Common.{◌≡◌, ◌⊎◌, ⊎_elim, ◌<◌, arith, ℕ, List, [], ◌∷◌, ◌++◌, length, length-append, Option, Some, None, sym, subst, ap, ◌∙◌, slice_get, slice_set}
 use Rattle.code_safety.proofs.Growing.{goroutine_grows, sched_grows}
 use Rattle.code_safety.proofs.Lists.{get_set, get_set_other, length_set, get_front, get_either, get_below, some_same}
-use Rattle.code_safety.proofs.Machines.{OpenFits, MachineFits, GoroutineFits, AreFrames, LaterFitsWhere, IsReady, SchedFits, ChannelFits, StartFits, WaitsAt, IsIn}
+use Rattle.code_safety.proofs.Machines.{OpenFits, MachineFits, GoroutineFits, AreFrames, LaterFitsWhere, IsReady, SchedFits, ChannelFits, HasVariables, StartFits, WaitsAt, IsIn}
 use Rattle.code_safety.proofs.Members.{same_or_other, in_left, in_split}
-use Rattle.code_safety.proofs.Values.{Typing, Grows, IsStore}
+use Rattle.code_safety.proofs.Values.{Typing, Grows, one, IsStore}
 use Rattle.go_base.specs.declared.ids.FuncId.{FuncId}
 use Rattle.go_base.specs.declared.ids.TypeId.{TypeId}
 use Rattle.go_sched.specs.Channels.{Chan}
@@ -73,6 +73,7 @@ open_with c t m g fits =
     record {
       others = λ n it is other.
           fits.others n it (sym (get_set_other m.goroutines m.sched.current.number n g other) ∙ is) other;
+      variables = fits.variables;
       store = fits.store;
       sched = sched_with c t m.goroutines m.sched m.sched.current.number g fits.current fits.sched;
       current = fits.current;
@@ -107,6 +108,7 @@ pub store_changed : (c : Code) (t t' : Typing) (m : Machine) (store : Stored) (t
 store_changed c t t' m store ticks output grows chans is fits =
     record {
       others = λ n it there other. goroutine_grows c t t' grows it (fits.others n it there other);
+      variables = λ n it there. grows.cells n (one it.of) (fits.variables n it there);
       store = is;
       sched = sched_grows c t t' grows chans m.goroutines m.sched fits.sched;
       current = fits.current;
@@ -117,7 +119,14 @@ pub starts_changed : (c : Code) (t : Typing) (m : Machine) (starts : List FuncId
     → ((n : ℕ) (id : FuncId) → slice_get starts n ≡ Some id → StartFits c id) → OpenFits c t m
     → OpenFits c t (record m { starts = starts })
 starts_changed c t m starts fit fits =
-    record { others = fits.others; store = fits.store; sched = fits.sched; current = fits.current; starts = fit }
+    record {
+      others = fits.others;
+      variables = fits.variables;
+      store = fits.store;
+      sched = fits.sched;
+      current = fits.current;
+      starts = fit;
+    }
 
 -- a new goroutine
 abbrev pub waits_more : (c : Code) (goroutines : List Goroutine) (k : ℕ) (g : Goroutine) → (waits : WaitsAt c goroutines k)
@@ -172,6 +181,7 @@ spawned_fits c t m g is fits =
       others = λ n it there other.
           ⊎_elim (λ old. fits.others n it old other) (λ e. subst (GoroutineFits c t) e is)
           (get_either m.goroutines g n it there);
+      variables = fits.variables;
       store = fits.store;
       sched = record {
         count = omega (arith, fits.sched.count, length-append m.goroutines (g ∷ []));
@@ -192,6 +202,7 @@ spawned_fits c t m g is fits =
 
 pub record RestFits (c : Code) (t : Typing) (m : Machine) : Type 0 where
   pub goroutines : (n : ℕ) (g : Goroutine) → slice_get m.goroutines n ≡ Some g → GoroutineFits c t g
+  pub variables : HasVariables c t
   pub store : IsStore c t m.store
   pub sched : SchedFits c t m.goroutines m.sched
   pub starts : (n : ℕ) (id : FuncId) → slice_get m.starts n ≡ Some id → StartFits c id
@@ -204,6 +215,7 @@ rest_of c t m fits =
           (some_same fits.g g (sym fits.there ∙ ap (slice_get m.goroutines) (sym same) ∙ is)) fits.fits)
           (λ other. fits.opened.others n g is other)
           (same_or_other n m.sched.current.number);
+      variables = fits.opened.variables;
       store = fits.opened.store;
       sched = fits.opened.sched;
       starts = fits.opened.starts;

@@ -374,6 +374,7 @@ switches_safe c safe t m fits at =
         (goes_with_safe c safe t next found.0
         (record {
           others = λ n g is other. fits.goroutines n g is;
+          variables = fits.variables;
           store = fits.store;
           sched = sched;
           current = current;
