@@ -1,33 +1,63 @@
 -- Calls of built-in functions: their operands are what the machine takes, whatever the store comes to hold.
-use Rattle.std.proofs.Common.{◌≡◌, ◌⊎◌, ℕ, ℤ, zero, suc, Bool, true, false, List, [], ◌∷◌, Option, Some, None, refl, sym, subst, ap, ◌∙◌, slice_get, is_some, IsTrue}
-use Rattle.code_safety.proofs.Machines.{BuiltInFits}
-use Rattle.code_safety.proofs.Sites.{HasValue}
-use Rattle.code_safety.specs.Runnable.{runs_builtin}
+use Rattle.std.proofs.Common.{◌≡◌, ◌⊎◌, inl, inr, ℕ, ℤ, pos, zero, suc, ◌||◌, ◌&&◌, Bool, true, false, List, [], ◌∷◌, ◌++◌, Option, Some, None, refl, sym, subst, ap, ◌∙◌, slice_get, is_some, if◌then◌else◌, true≢false, length, map, replicate}
+use Rattle.std.proofs.lemmas.Option.{none-some}
+use Rattle.std.specs.List.{list_all}
+use Rattle.std.specs.Option.{option_map}
+use Rattle.code_safety.proofs.Appending.{all_same, all_more, append_comes, overwrites, overwrites_front, copies}
+use Rattle.code_safety.proofs.Converting.{numbers_fit}
+use Rattle.code_safety.proofs.Forms.{number_fits, text_in, slice_in, map_in, chan_in}
+use Rattle.code_safety.proofs.Growing.{grows_self, fits_grow}
+use Rattle.code_safety.proofs.Lists as lists
+use Rattle.code_safety.proofs.Machines.{BuiltInFits, closes, panics, recovers, works, GivesOf, DoneComes, StoreComes}
+use Rattle.code_safety.proofs.Mapping.{clears_map, deleted_comes}
+use Rattle.code_safety.proofs.Operands.{known_of, operand_value, shape_value, shape_term, held_type_is, held_value, type_fits, any_value, all_are}
+use Rattle.code_safety.proofs.Sames.{under_plain}
+use Rattle.code_safety.proofs.Sites.{HasValue, Among, KnownFits}
+use Rattle.code_safety.proofs.Terms.{never, either, there, same_is, any_term, pointer_term, basic_term}
+use Rattle.code_safety.proofs.Values.{Typing, Grows, Fits, IsOf, AllOf, Slices, IsStore, MapFits, under_of}
+use Rattle.code_safety.proofs.Zeros.{zero_fits}
+use Rattle.code_safety.specs.Runnable.{runs_builtin, has_length}
 use Rattle.code_safety.specs.Safety.{IsSafe}
-use Rattle.go_type.specs.declared.operators.Builtin.{Builtin}
-use Rattle.ssa_mean.specs.BuiltIns.{built_in_of}
-use Rattle.ssa_mean.specs.Operands.{values_of}
-use Rattle.ssa_mean.specs.State.{BuiltIn}
-use Rattle.ssa_typed.specs.Calls.{fits_builtin, fits_deferred_builtin}
-use Rattle.code_safety.proofs.Machines.{ValueComes, StoreComes, StoresCome}
-use Rattle.code_safety.proofs.Sites.{Reads, Among}
-use Rattle.code_safety.proofs.Values.{Typing, IsOf, under_of}
 use Rattle.go_base.specs.declared.ids.FuncId.{FuncId}
+use Rattle.go_base.specs.declared.ids.MapId.{MapId}
 use Rattle.go_base.specs.declared.ids.TypeId.{TypeId}
-use Rattle.go_type.specs.declared.operators.UnaryOp.{UnaryOp}
-use Rattle.go_value.specs.Values.{Val}
+use Rattle.go_sched.specs.Goroutines.{State}
+use Rattle.go_store.specs.Conversions.{numbers_of}
+use Rattle.go_store.specs.Slices.{elements_of}
+use Rattle.go_maps.specs.Entries.{cleared}
+use Rattle.go_store.specs.Stores.{Stored}
+use Rattle.go_type.specs.Held.{IsHeld}
+use Rattle.go_type.specs.Kinds.{kind_of, kind_of_term}
+use Rattle.go_type.specs.Same.{both, same_id, same_id-Decides}
+use Rattle.go_type.specs.Table.{term_at, basic_id}
+use Rattle.go_type.specs.declared.operators.Builtin.{Builtin}
+use Rattle.go_type.specs.declared.operators.Builtin.TheVariants as builtin
+use Rattle.go_type.specs.declared.term.Basic.TheVariants as basic
+use Rattle.go_type.specs.declared.term.TypeTerm.{TypeTerm}
+use Rattle.go_type.specs.declared.term.TypeTerm.TheVariants as term
+use Rattle.go_value.specs.Values.{Val, number, text, slice, pointer, closure, map_number, chan_number}
+use Rattle.go_value.specs.declared.address.Pointer.{Pointer}
+use Rattle.go_value.specs.declared.address.SliceValue.{SliceValue}
+use Rattle.ssa_ir.specs.declared.code.Code.{Code}
+use Rattle.ssa_ir.specs.declared.code.Function.{Function}
 use Rattle.ssa_ir.specs.declared.operands.Operand.{Operand}
-use Rattle.ssa_ir.specs.declared.operands.Operand.TheVariants as operand
-use Rattle.ssa_ir.specs.declared.ops.Infix.{Infix}
-use Rattle.ssa_ir.specs.declared.ops.Op.TheVariants as op
-use Rattle.ssa_mean.specs.Arithmetic.{binary, unary_of}
-use Rattle.ssa_mean.specs.Comes.{Comes, to, faults, nowhere, of_option}
-use Rattle.ssa_mean.specs.Conversions.{Stores}
-use Rattle.ssa_mean.specs.Operands.{type_of, term_of, pointed_length}
-use Rattle.ssa_mean.specs.Places.{load, assigned, field_of, field_address, index_of, index_address}
-use Rattle.ssa_mean.specs.Ranges.{Turn, range_of, ranged, next_turn}
-use Rattle.ssa_mean.specs.Step.{Site, value, with_one, with_two, kind_at, slice_part, look_up, update, convert, make_interface, make_closure, make_slice, make_chan, assert_type, new_cell, new_map}
-use Rattle.ssa_typed.specs.Forms.{FitsGiving, fits_alone}
+use Rattle.ssa_mean.specs.Answers.{Answers}
+use Rattle.ssa_mean.specs.BuiltIns.{built_in_of, built_in_call, clear_of, first_term, append_of, append_to, is_slice_of, is_text_term, append, overwritten_from, writes, counted, capacity_of, length_of, changes, is_less, least_of, greatest_of}
+use Rattle.ssa_mean.specs.Comes.{Comes, to, faults, nowhere, then_to, where_some}
+use Rattle.ssa_mean.specs.Conversions.{are_bytes, is_byte_term}
+use Rattle.ssa_mean.specs.Making.{leaves_of}
+use Rattle.ssa_mean.specs.MapCalls.{map_changed, deleted}
+use Rattle.ssa_mean.specs.Operands.{values_of, with_value, type_of, term_of, under, element_in}
+use Rattle.ssa_mean.specs.State.{BuiltIn, appends_items, appends_slice, appends_text, clears_slice, plain}
+use Rattle.ssa_mean.specs.Step.{Site, value}
+use Rattle.ssa_mean.specs.Texts.{printed_all, printed_line}
+use Rattle.ssa_mean.specs.Zeros.{zero_of}
+use Rattle.ssa_typed.specs.Calls.{fits_builtin, fits_deferred_builtin, fits_effect, fits_value, is_cleared, is_closed, deletes, copies_from, is_run_of, is_printed, is_printed_type, appends, appends_elems, is_ordered, has_own_cap, has_own_len, points_to_array}
+use Rattle.ssa_typed.specs.Operands as typed_operands
+use Rattle.ssa_typed.specs.Operands.{function_at, known, held_type, shape, is_operand, is_known, is_any_operand, is_function_type, pointee_of}
+use Rattle.ssa_typed.specs.declared.known.Known.{Known}
+use Rattle.ssa_typed.specs.declared.known.Known.TheVariants as known_as
+use Rattle.type_shapes.specs.Shapes.{is_slice, is_byte, is_pointer_to, base_of}
 
 -- what a call of a built-in function is readied to
 pub record BuiltInReadied (t : Typing) (s : Site) (called : Builtin) (arguments : List Operand) (of : Option TypeId) : Type 0
@@ -37,6 +67,203 @@ pub record BuiltInReadied (t : Typing) (s : Site) (called : Builtin) (arguments 
   pub items : List Val
   pub are : values_of s.code s.frame arguments ≡ Some items
   pub fits : BuiltInFits s.code t it items of
+
+-- ---- what is done
+
+-- a call gives what is wanted, whatever the store comes to hold
+abbrev Works : Code → Typing → BuiltIn → List Val → Option TypeId → Type 0
+Works c t called items of =
+    (t' : Typing) → Grows t t' → (answers : Answers) (store : Stored) (sched : State) → IsStore c t' store
+    → DoneComes c t' of (built_in_call answers store sched called items)
+
+done : (c : Code) (t : Typing) (of : Option TypeId) (it : Option Val) (store : Stored) (written : List ℕ) → IsStore c t store
+    → GivesOf c t it of → DoneComes c t of (to (record { value = it; store = store; written = written }))
+done c t of it store written is gives = record { typing = t; grows = grows_self t; is_store = is; is_of = gives }
+
+stored : (c : Code) (t : Typing) (it : Comes Stored) → StoreComes c t it → DoneComes c t None (then_to changes it)
+stored c t (to store) h = done c t None None store [] h tt
+stored c t (faults it) h = tt
+stored c t nowhere h = absurd h
+
+module _ (c : Code) (t t' : Typing) (g : Grows t t') where
+  slices_grow : (it : SliceValue) (elem : TypeId) → Slices c t it elem → Slices c t' it elem
+  slices_grow it elem h = fits_grow c t t' g (slice it) (Some (term.Slice elem)) h
+
+  map_grows : (id : Option MapId) (key elem : TypeId) → MapFits c t id key elem → MapFits c t' id key elem
+  map_grows id key elem h = fits_grow c t t' g (map_number id) (Some (term.Map key elem)) h
+
+  all_grow : (items : List Val) (elem : TypeId) → AllOf c t items elem → AllOf c t' items elem
+  all_grow items elem all n v h = fits_grow c t t' g v (under_of c elem) (all n v h)
+
+-- ---- operands
+
+module _ (s : Site) where
+  more_of : (it : Operand) (others : List Operand) (v : Val) (items : List Val) → value s it ≡ Some v
+      → values_of s.code s.frame others ≡ Some items → values_of s.code s.frame (it ∷ others) ≡ Some (v ∷ items)
+  more_of it others v items e h = λ i. with_value (e i) (h i)
+
+  one_of : (it : Operand) (v : Val) → value s it ≡ Some v → values_of s.code s.frame (it ∷ []) ≡ Some (v ∷ [])
+  one_of it v e = more_of it [] v [] e refl
+
+  two_of : (it other : Operand) (v w : Val) → value s it ≡ Some v → value s other ≡ Some w
+      → values_of s.code s.frame (it ∷ other ∷ []) ≡ Some (v ∷ w ∷ [])
+  two_of it other v w e h = more_of it (other ∷ []) v (w ∷ []) e (one_of other w h)
+
+each_among : (test : Operand → Bool) (its : List Operand) → list_all test its ≡ true → (it : Operand) → Among it its
+    → test it ≡ true
+each_among test [] h it among = absurd among
+each_among test (other ∷ others) h it (inl same) =
+    subst (λ it. test it ≡ true) same (both (test other) (list_all test others) h).0
+each_among test (other ∷ others) h it (inr among) =
+    each_among test others (both (test other) (list_all test others) h).1 it among
+
+byte_term : (of : Option TypeTerm) → is_byte of ≡ true → of ≡ Some (term.Basic basic.Uint8)
+byte_term (Some (term.Basic basic.Uint8)) h = refl
+byte_term _ h = never h
+
+byte_term' : (of : Option TypeTerm) → is_byte_term of ≡ true → of ≡ Some (term.Basic basic.Uint8)
+byte_term' (Some (term.Basic basic.Uint8)) h = refl
+byte_term' _ h = never h
+
+kept_some : {A B : Type 0} (f : A → B) (it : Option A) → is_some (option_map f it) ≡ true → is_some it ≡ true
+kept_some f None h = never h
+kept_some f (Some x) h = refl
+
+-- ---- those without a result
+
+module _ (t : Typing) (s : Site) (safe : IsSafe s.code) where
+  clear_fits : (one : Operand) → HasValue t s one → runs_builtin s.code s.function builtin.Clear (one ∷ []) ≡ true
+      → is_cleared (shape s.code s.function one) ≡ true → BuiltInReadied t s builtin.Clear (one ∷ []) None
+  clear_fits one has runnable h = by (shape s.code s.function one) refl h
+    where
+      by : (u : Option TypeTerm) → shape s.code s.function one ≡ u → is_cleared u ≡ true
+          → BuiltInReadied t s builtin.Clear (one ∷ []) None
+      by (Some (term.Map key elem)) e h =
+          let found = shape_value t s one has (term.Map key elem) e in
+          let id = map_in s.code t found.0 key elem found.1.1 in
+          record {
+            it = plain builtin.Clear;
+            is = ap (clear_of s.code) (shape_term s.code s.function one (term.Map key elem) e);
+            items = found.0 ∷ [];
+            are = one_of s one found.0 found.1.0;
+            fits =
+                subst (λ v. BuiltInFits s.code t (plain builtin.Clear) (v ∷ []) None) (sym id.1.0)
+                (works (plain builtin.Clear) (map_number id.0 ∷ []) None (λ t' g answers store sched is.
+                done s.code t' None None (map_changed cleared store id.0) []
+                (clears_map s.code t' store is answers.comparable key elem id.0 (map_grows s.code t t' g id.0 key elem id.1.1)) tt));
+          }
+      by (Some (term.Slice elem)) e h =
+          let found = shape_value t s one has (term.Slice elem) e in
+          let it = slice_in s.code t found.0 elem found.1.1 in
+          let is_term = shape_term s.code s.function one (term.Slice elem) e in
+          let unheld = there (zero_of s.code elem) (kept_some clears_slice (zero_of s.code elem)
+              (subst (λ u. is_some (clear_of s.code u) ≡ true) is_term runnable)) in
+          record {
+            it = clears_slice unheld.0;
+            is = ap (clear_of s.code) is_term ∙ ap (option_map clears_slice) unheld.1;
+            items = found.0 ∷ [];
+            are = one_of s one found.0 found.1.0;
+            fits =
+                subst (λ v. BuiltInFits s.code t (clears_slice unheld.0) (v ∷ []) None) (sym it.1.0)
+                (works (clears_slice unheld.0) (slice it.0 ∷ []) None (λ t' g answers store sched is.
+                done s.code t' None None (overwritten_from store it.0 (replicate it.0.len unheld.0)) []
+                (overwrites s.code t' elem store is it.0 (slices_grow s.code t t' g it.0 elem it.1.1)
+                (replicate it.0.len unheld.0)
+                (all_same s.code t' elem it.0.len unheld.0 (zero_fits s.code t' elem unheld.0 unheld.1))) tt));
+          }
+      by _ e h = never h
+
+  close_fits : (one : Operand) → HasValue t s one → is_closed (shape s.code s.function one) ≡ true
+      → BuiltInReadied t s builtin.Close (one ∷ []) None
+  close_fits one has h = by (shape s.code s.function one) refl h
+    where
+      by : (u : Option TypeTerm) → shape s.code s.function one ≡ u → is_closed u ≡ true
+          → BuiltInReadied t s builtin.Close (one ∷ []) None
+      by (Some (term.Chan way elem)) e h =
+          let found = shape_value t s one has (term.Chan way elem) e in
+          let id = chan_in s.code t found.0 way elem found.1.1 in
+          record {
+            it = plain builtin.Close;
+            is = refl;
+            items = found.0 ∷ [];
+            are = one_of s one found.0 found.1.0;
+            fits = subst (λ v. BuiltInFits s.code t (plain builtin.Close) (v ∷ []) None) (sym id.1.0) (closes id.0);
+          }
+      by _ e h = never h
+
+  delete_fits : (one by : Operand) → HasValue t s one → HasValue t s by
+      → deletes s.code s.function (shape s.code s.function one) by ≡ true
+      → BuiltInReadied t s builtin.Delete (one ∷ by ∷ []) None
+  delete_fits one by has has' h = at (shape s.code s.function one) refl h
+    where
+      at : (u : Option TypeTerm) → shape s.code s.function one ≡ u → deletes s.code s.function u by ≡ true
+          → BuiltInReadied t s builtin.Delete (one ∷ by ∷ []) None
+      at (Some (term.Map key elem)) e h =
+          let found = shape_value t s one has (term.Map key elem) e in
+          let id = map_in s.code t found.0 key elem found.1.1 in
+          let index = operand_value t s safe.held by has' key h in
+          record {
+            it = plain builtin.Delete;
+            is = refl;
+            items = found.0 ∷ index.0 ∷ [];
+            are = two_of s one by found.0 index.0 found.1.0 index.1.0;
+            fits =
+                subst (λ v. BuiltInFits s.code t (plain builtin.Delete) (v ∷ index.0 ∷ []) None) (sym id.1.0)
+                (works (plain builtin.Delete) (map_number id.0 ∷ index.0 ∷ []) None (λ t' g answers store sched is.
+                stored s.code t' (deleted answers.comparable store id.0 index.0)
+                (deleted_comes s.code t' store is answers.comparable key elem id.0 (map_grows s.code t t' g id.0 key elem id.1.1)
+                index.0)));
+          }
+      at _ e h = never h
+
+  -- values that are printed
+  printed_values : (its : List Operand) → ((it : Operand) → Among it its → HasValue t s it)
+      → list_all (is_printed s.code s.function) its ≡ true
+      → (items : List Val) × (values_of s.code s.frame its ≡ Some items)
+  printed_values [] has h = ([], refl)
+  printed_values (it ∷ its) has h =
+      let split = both (is_printed s.code s.function it) (list_all (is_printed s.code s.function) its) h in
+      let rest = printed_values its (λ other among. has other (inr among)) split.1 in
+      let first = printed_value it (has it (inl refl)) (held_type (known s.code s.function it)) refl split.0 in
+      (first.0 ∷ rest.0, more_of s it its first.0 rest.0 first.1 rest.1)
+    where
+      printed_value : (it : Operand) → HasValue t s it → (of : Option TypeId) → held_type (known s.code s.function it) ≡ of
+          → is_printed_type s.code.types of ≡ true → (v : Val) × (value s it ≡ Some v)
+      printed_value it has None e h = never h
+      printed_value it has (Some of) e h = let found = held_value t s it has of e in (found.0, found.1.0)
+
+  print_fits : (called : Builtin) (its : List Operand) (written : List Val → List ℕ)
+      → ((it : Operand) → Among it its → HasValue t s it)
+      → list_all (is_printed s.code s.function) its ≡ true
+      → built_in_of s.code s.function called its ≡ Some (plain called)
+      → ((answers : Answers) (store : Stored) (sched : State) (items : List Val)
+      → built_in_call answers store sched (plain called) items ≡ to (writes store (written items)))
+      → BuiltInReadied t s called its None
+  print_fits called its written has h is does =
+      let found = printed_values its has h in
+      record {
+        it = plain called;
+        is = is;
+        items = found.0;
+        are = found.1;
+        fits =
+            works (plain called) found.0 None (λ t' g answers store sched is.
+            subst (DoneComes s.code t' None) (sym (does answers store sched found.0))
+            (done s.code t' None None store (written found.0) is tt));
+      }
+
+  effect_fits : (called : Builtin) (arguments : List Operand) → ((it : Operand) → Among it arguments → HasValue t s it)
+      → runs_builtin s.code s.function called arguments ≡ true → fits_effect s.code s.function called arguments ≡ true
+      → BuiltInReadied t s called arguments None
+  effect_fits builtin.Clear (one ∷ []) has runnable h = clear_fits one (has one (inl refl)) runnable h
+  effect_fits builtin.Close (one ∷ []) has runnable h = close_fits one (has one (inl refl)) h
+  effect_fits builtin.Delete (one ∷ by ∷ []) has runnable h =
+      delete_fits one by (has one (inl refl)) (has by (inr (inl refl))) h
+  effect_fits builtin.Print arguments has runnable h =
+      print_fits builtin.Print arguments printed_all has h refl (λ answers store sched items. refl)
+  effect_fits builtin.Println arguments has runnable h =
+      print_fits builtin.Println arguments printed_line has h refl (λ answers store sched items. refl)
+  effect_fits _ arguments has runnable h = never h
 
 pub built_in_fits : (t : Typing) (s : Site) → IsSafe s.code → (called : Builtin) (arguments : List Operand)
     → ((it : Operand) → Among it arguments → HasValue t s it) → runs_builtin s.code s.function called arguments ≡ true
