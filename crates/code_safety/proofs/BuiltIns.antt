@@ -1,5 +1,5 @@
 -- Calls of built-in functions: their operands are what the machine takes, whatever the store comes to hold.
-use Rattle.std.proofs.Common.{◌≡◌, ◌⊎◌, inl, inr, ℕ, ℤ, pos, zero, suc, ◌||◌, ◌&&◌, Bool, true, false, List, [], ◌∷◌, ◌++◌, Option, Some, None, refl, sym, subst, ap, ◌∙◌, slice_get, is_some, if◌then◌else◌, true≢false, length, map, replicate}
+use Rattle.std.proofs.Common.{◌≡◌, ◌⊎◌, inl, inr, ℕ, ℤ, pos, zero, suc, ◌||◌, ◌&&◌, Bool, true, false, List, [], ◌∷◌, ◌++◌, Option, Some, None, refl, sym, subst, ap, ◌∙◌, slice_get, is_some, if◌then◌else◌, true≢false, length, map, replicate, take, min}
 use Rattle.std.proofs.lemmas.Option.{none-some}
 use Rattle.std.specs.List.{list_all}
 use Rattle.std.specs.Option.{option_map}
@@ -21,10 +21,10 @@ use Rattle.code_safety.specs.Safety.{IsSafe}
 use Rattle.go_base.specs.declared.ids.FuncId.{FuncId}
 use Rattle.go_base.specs.declared.ids.MapId.{MapId}
 use Rattle.go_base.specs.declared.ids.TypeId.{TypeId}
-use Rattle.go_sched.specs.Goroutines.{State}
+use Rattle.go_sched.specs.Goroutines.{State, meant, queue_length, size_of}
 use Rattle.go_store.specs.Conversions.{numbers_of}
-use Rattle.go_store.specs.Slices.{elements_of}
-use Rattle.go_maps.specs.Entries.{cleared}
+use Rattle.go_store.specs.Slices.{elements_of, copy_count, copied}
+use Rattle.go_maps.specs.Entries.{cleared, count_in}
 use Rattle.go_store.specs.Stores.{Stored}
 use Rattle.go_type.specs.Held.{IsHeld}
 use Rattle.go_type.specs.Kinds.{kind_of, kind_of_term}
@@ -46,7 +46,7 @@ use Rattle.ssa_mean.specs.BuiltIns.{built_in_of, built_in_call, clear_of, first_
 use Rattle.ssa_mean.specs.Comes.{Comes, to, faults, nowhere, then_to, where_some}
 use Rattle.ssa_mean.specs.Conversions.{are_bytes, is_byte_term}
 use Rattle.ssa_mean.specs.Making.{leaves_of}
-use Rattle.ssa_mean.specs.MapCalls.{map_changed, deleted}
+use Rattle.ssa_mean.specs.MapCalls.{entries_of, map_changed, deleted}
 use Rattle.ssa_mean.specs.Operands.{values_of, with_value, type_of, term_of, under, element_in}
 use Rattle.ssa_mean.specs.State.{BuiltIn, appends_items, appends_slice, appends_text, clears_slice, plain}
 use Rattle.ssa_mean.specs.Step.{Site, value}
@@ -264,6 +264,266 @@ module _ (t : Typing) (s : Site) (safe : IsSafe s.code) where
   effect_fits builtin.Println arguments has runnable h =
       print_fits builtin.Println arguments printed_line has h refl (λ answers store sched items. refl)
   effect_fits _ arguments has runnable h = never h
+
+-- ---- lengths and capacities
+
+closure_sized : (c : Code) (t : Typing) (id : FuncId) (of : Option TypeTerm) → Fits c t (closure id []) of → has_length of ≡ true → ⊥
+closure_sized c t id (Some (term.Func signature)) fits h = never h
+closure_sized c t id _ fits h = absurd fits
+
+pointer_sized : (c : Code) (t : Typing) (at : Pointer) (of : Option TypeTerm) → Fits c t (pointer at) of → has_length of ≡ true → ⊥
+pointer_sized c t at (Some (term.Pointer base)) fits h = never h
+pointer_sized c t at _ fits h = absurd fits
+
+int_fits : (c : Code) (t : Typing) → IsHeld c.types → (of : TypeId) → same_id of (basic_id basic.Int) ≡ true → (n : ℤ)
+    → IsOf c t (number n) of
+int_fits c t held of same n =
+    subst (IsOf c t (number n)) (sym (same_is of (basic_id basic.Int) same))
+    (number_fits c t n (under_of c (basic_id basic.Int))
+    (subst (λ u. is_some (kind_of_term u) ≡ true) (sym (basic_term c.types held basic.Int)) refl))
+
+-- what has a length is held
+record Sized (c : Code) (t : Typing) (f : Function) (it : Operand) (v : Val) : Type 0 where
+  pub of : TypeId
+  pub is : known c f it ≡ Some (known_as.Held of)
+  pub fits : IsOf c t v of
+  pub sized : has_length (under_of c of) ≡ true
+
+module _ (c : Code) (t : Typing) (held : IsHeld c.types) (f : Function) (it : Operand) where
+  sized_is : (k : Known) → known c f it ≡ Some k → (v : Val) → KnownFits c t k v → has_length (term_of c f it) ≡ true
+      → Sized c t f it v
+  sized_is k e v fits h = by (type_of c f it) refl h
+    where
+      by_known : (k : Known) → known c f it ≡ Some k → KnownFits c t k v → (of : TypeId) → type_of c f it ≡ Some of
+          → IsOf c t v of → has_length (under_of c of) ≡ true → Sized c t f it v
+      by_known (known_as.Held from) e fits of is fits' h =
+          let same = lists.some_same of from (sym is ∙ held_type_is c f it from e) in
+          record { of = from; is = e; fits = fits; sized = subst (λ of. has_length (under_of c of) ≡ true) same h }
+      by_known (known_as.Function id) e fits of is fits' h =
+          absurd (closure_sized c t id (under_of c of) (subst (λ v. IsOf c t v of) fits.0 fits') h)
+      by_known (known_as.Address base) e fits of is fits' h =
+          absurd (pointer_sized c t fits.0 (under_of c of) (subst (λ v. IsOf c t v of) fits.1.0 fits') h)
+
+      by : (of : Option TypeId) → type_of c f it ≡ of → has_length (under c of) ≡ true → Sized c t f it v
+      by None is h = never h
+      by (Some of) is h = by_known k e fits of is (type_fits c t held f it k of v e is fits) h
+
+module _ (c : Code) (t : Typing) (held : IsHeld c.types) (of : TypeId) (int : same_id of (basic_id basic.Int) ≡ true) where
+  count_is : (t' : Typing) (store : Stored) (n : ℕ) → IsStore c t' store
+      → DoneComes c t' (Some of) (to (record { value = Some (number (pos n)); store = store; written = [] }))
+  count_is t' store n is =
+      done c t' (Some of) (Some (number (pos n))) store [] is (int_fits c t' held of int (pos n))
+
+  length_fits : (v : Val) (u : Option TypeTerm) → Fits c t v u → has_length u ≡ true
+      → BuiltInFits c t (plain builtin.Len) (v ∷ []) (Some of)
+  length_fits v (Some (term.Basic basic.Text)) fits h =
+      let it = text_in c t v fits in
+      subst (λ v. BuiltInFits c t (plain builtin.Len) (v ∷ []) (Some of)) (sym it.1)
+      (works (plain builtin.Len) (text it.0 ∷ []) (Some of) (λ t' g answers store sched is.
+      count_is t' store (length it.0) is))
+  length_fits v (Some (term.Slice elem)) fits h =
+      let it = slice_in c t v elem fits in
+      subst (λ v. BuiltInFits c t (plain builtin.Len) (v ∷ []) (Some of)) (sym it.1.0)
+      (works (plain builtin.Len) (slice it.0 ∷ []) (Some of) (λ t' g answers store sched is.
+      count_is t' store it.0.len is))
+  length_fits v (Some (term.Map key elem)) fits h =
+      let it = map_in c t v key elem fits in
+      subst (λ v. BuiltInFits c t (plain builtin.Len) (v ∷ []) (Some of)) (sym it.1.0)
+      (works (plain builtin.Len) (map_number it.0 ∷ []) (Some of) (λ t' g answers store sched is.
+      count_is t' store (count_in (entries_of store it.0)) is))
+  length_fits v (Some (term.Chan way elem)) fits h =
+      let it = chan_in c t v way elem fits in
+      subst (λ v. BuiltInFits c t (plain builtin.Len) (v ∷ []) (Some of)) (sym it.1.0)
+      (works (plain builtin.Len) (chan_number it.0 ∷ []) (Some of) (λ t' g answers store sched is.
+      count_is t' store (queue_length (meant sched it.0)) is))
+  length_fits v _ fits h = never h
+
+  capacity_fits : (v : Val) (u : Option TypeTerm) → Fits c t v u → has_length u ≡ true
+      → has_own_cap u || points_to_array c.types (base_of u) ≡ true
+      → BuiltInFits c t (plain builtin.Cap) (v ∷ []) (Some of)
+  capacity_fits v (Some (term.Slice elem)) fits h typed =
+      let it = slice_in c t v elem fits in
+      subst (λ v. BuiltInFits c t (plain builtin.Cap) (v ∷ []) (Some of)) (sym it.1.0)
+      (works (plain builtin.Cap) (slice it.0 ∷ []) (Some of) (λ t' g answers store sched is.
+      count_is t' store it.0.cap is))
+  capacity_fits v (Some (term.Chan way elem)) fits h typed =
+      let it = chan_in c t v way elem fits in
+      subst (λ v. BuiltInFits c t (plain builtin.Cap) (v ∷ []) (Some of)) (sym it.1.0)
+      (works (plain builtin.Cap) (chan_number it.0 ∷ []) (Some of) (λ t' g answers store sched is.
+      count_is t' store (size_of (meant sched it.0)) is))
+  capacity_fits v (Some (term.Basic basic.Text)) fits h typed = never typed
+  capacity_fits v (Some (term.Map key elem)) fits h typed = never typed
+  capacity_fits v _ fits h typed = never h
+
+-- what is known has a capacity of its own, or is what points to an array
+abbrev cap_known : Code → Option Known → Bool
+cap_known c k =
+    has_own_cap (typed_operands.term_of c.types (held_type k)) || points_to_array c.types (pointee_of c.types k)
+
+abbrev len_known : Code → Option Known → Bool
+len_known c k = cap_known c k || has_own_len (typed_operands.term_of c.types (held_type k))
+
+module _ (t : Typing) (s : Site) (safe : IsSafe s.code) (of : TypeId) where
+  cap_fits : (one : Operand) → HasValue t s one → has_length (term_of s.code s.function one) ≡ true
+      → fits_value s.code s.function builtin.Cap (one ∷ []) of ≡ true
+      → BuiltInReadied t s builtin.Cap (one ∷ []) (Some of)
+  cap_fits one has runnable h = by (known s.code s.function one) refl split.1
+    where
+      split : (same_id of (basic_id basic.Int) ≡ true) × (cap_known s.code (known s.code s.function one) ≡ true)
+      split = both (same_id of (basic_id basic.Int)) (cap_known s.code (known s.code s.function one)) h
+
+      by : (k : Option Known) → known s.code s.function one ≡ k → cap_known s.code k ≡ true
+          → BuiltInReadied t s builtin.Cap (one ∷ []) (Some of)
+      by None e h = never h
+      by (Some k) e h =
+          let found = has k e in
+          let sized = sized_is s.code t safe.held s.function one k e found.it found.fits runnable in
+          record {
+            it = plain builtin.Cap;
+            is = refl;
+            items = found.it ∷ [];
+            are = one_of s one found.it found.is;
+            fits =
+                capacity_fits s.code t safe.held of split.0 found.it (under_of s.code sized.of) sized.fits sized.sized
+                (subst (λ k. cap_known s.code k ≡ true) (sym e ∙ sized.is) h);
+          }
+
+  len_fits : (one : Operand) → HasValue t s one → has_length (term_of s.code s.function one) ≡ true
+      → fits_value s.code s.function builtin.Len (one ∷ []) of ≡ true
+      → BuiltInReadied t s builtin.Len (one ∷ []) (Some of)
+  len_fits one has runnable h = by (known s.code s.function one) refl split.1
+    where
+      split : (same_id of (basic_id basic.Int) ≡ true) × (len_known s.code (known s.code s.function one) ≡ true)
+      split = both (same_id of (basic_id basic.Int)) (len_known s.code (known s.code s.function one)) h
+
+      by : (k : Option Known) → known s.code s.function one ≡ k → len_known s.code k ≡ true
+          → BuiltInReadied t s builtin.Len (one ∷ []) (Some of)
+      by None e h = never h
+      by (Some k) e h =
+          let found = has k e in
+          let sized = sized_is s.code t safe.held s.function one k e found.it found.fits runnable in
+          record {
+            it = plain builtin.Len;
+            is = refl;
+            items = found.it ∷ [];
+            are = one_of s one found.it found.is;
+            fits =
+                length_fits s.code t safe.held of split.0 found.it (under_of s.code sized.of) sized.fits sized.sized;
+          }
+
+-- ---- copy
+
+module _ (c : Code) (t : Typing) (of : Option TypeId) (gives : (t' : Typing) (n : ℤ) → GivesOf c t' (Some (number n)) of)
+    (elem : TypeId) (into : SliceValue) (slices : Slices c t into elem) where
+  copy_slice_fits : (from : SliceValue) → Slices c t from elem
+      → BuiltInFits c t (plain builtin.Copy) (slice into ∷ slice from ∷ []) of
+  copy_slice_fits from slices' =
+      works (plain builtin.Copy) (slice into ∷ slice from ∷ []) of (λ t' g answers store sched is.
+      done c t' of (Some (number (pos (copy_count into from)))) (copied store into from) []
+      (copies c t' elem store is into from (slices_grow c t t' g into elem slices) (slices_grow c t t' g from elem slices'))
+      (gives t' (pos (copy_count into from))))
+
+  copy_text_fits : (bytes : List ℕ) → is_some (kind_of_term (under_of c elem)) ≡ true
+      → BuiltInFits c t (plain builtin.Copy) (slice into ∷ text bytes ∷ []) of
+  copy_text_fits bytes kind =
+      works (plain builtin.Copy) (slice into ∷ text bytes ∷ []) of (λ t' g answers store sched is.
+      done c t' of (Some (number (pos (min into.len (length bytes)))))
+      (overwritten_from store into (take into.len (map number (numbers_of bytes)))) []
+      (overwrites_front c t' elem store is into (slices_grow c t t' g into elem slices) into.len
+      (map number (numbers_of bytes)) (numbers_fit c t' elem kind (numbers_of bytes)))
+      (gives t' (pos (min into.len (length bytes)))))
+
+module _ (t : Typing) (s : Site) (of : Option TypeId) (gives : (t' : Typing) (n : ℤ) → GivesOf s.code t' (Some (number n)) of)
+    where
+  copy_fits : (one from : Operand) → HasValue t s one → HasValue t s from
+      → copies_from s.code s.function (shape s.code s.function one) from ≡ true
+      → BuiltInReadied t s builtin.Copy (one ∷ from ∷ []) of
+  copy_fits one from has has' h = by (shape s.code s.function one) refl h
+    where
+      readied : (v w : Val) → value s one ≡ Some v → value s from ≡ Some w
+          → BuiltInFits s.code t (plain builtin.Copy) (v ∷ w ∷ []) of → BuiltInReadied t s builtin.Copy (one ∷ from ∷ []) of
+      readied v w e e' fits =
+          record { it = plain builtin.Copy; is = refl; items = v ∷ w ∷ []; are = two_of s one from v w e e'; fits = fits }
+
+      by_source : (elem : TypeId) (v : Val) → value s one ≡ Some v → (into : SliceValue) → v ≡ slice into
+          → Slices s.code t into elem → (u : Option TypeTerm) → shape s.code s.function from ≡ u
+          → is_run_of s.code.types u elem ≡ true → BuiltInReadied t s builtin.Copy (one ∷ from ∷ []) of
+      by_source elem v e into is slices (Some (term.Slice other)) e' h =
+          let found = shape_value t s from has' (term.Slice other) e' in
+          let it = slice_in s.code t found.0 other found.1.1 in
+          readied v found.0 e found.1.0
+          (subst (λ v. BuiltInFits s.code t (plain builtin.Copy) (v ∷ found.0 ∷ []) of) (sym is)
+          (subst (λ w. BuiltInFits s.code t (plain builtin.Copy) (slice into ∷ w ∷ []) of) (sym it.1.0)
+          (copy_slice_fits s.code t of gives elem into slices it.0
+          (subst (Slices s.code t it.0) (same_is other elem h) it.1.1))))
+      by_source elem v e into is slices (Some (term.Basic basic.Text)) e' h =
+          let found = shape_value t s from has' (term.Basic basic.Text) e' in
+          let it = text_in s.code t found.0 found.1.1 in
+          readied v found.0 e found.1.0
+          (subst (λ v. BuiltInFits s.code t (plain builtin.Copy) (v ∷ found.0 ∷ []) of) (sym is)
+          (subst (λ w. BuiltInFits s.code t (plain builtin.Copy) (slice into ∷ w ∷ []) of) (sym it.1)
+          (copy_text_fits s.code t of gives elem into slices it.0
+          (ap (λ u. is_some (kind_of_term u)) (byte_term (under_of s.code elem) h)))))
+      by_source elem v e into is slices _ e' h = never h
+
+      by : (u : Option TypeTerm) → shape s.code s.function one ≡ u → copies_from s.code s.function u from ≡ true
+          → BuiltInReadied t s builtin.Copy (one ∷ from ∷ []) of
+      by (Some (term.Slice elem)) e h =
+          let found = shape_value t s one has (term.Slice elem) e in
+          let it = slice_in s.code t found.0 elem found.1.1 in
+          by_source elem found.0 found.1.0 it.0 it.1.0 it.1.1 (shape s.code s.function from) refl h
+      by _ e h = never h
+
+-- ---- the least and the greatest
+
+module _ (c : Code) (t : Typing) (of : TypeId) where
+  either_fits : (b : Bool) (v w : Val) → IsOf c t v of → IsOf c t w of → IsOf c t (if b then v else w) of
+  either_fits true v w fits fits' = fits
+  either_fits false v w fits fits' = fits'
+
+  least_fits : (best : Val) (items : List Val) → IsOf c t best of → AllOf c t items of → IsOf c t (least_of best items) of
+  least_fits best [] fits all = fits
+  least_fits best (it ∷ items) fits all =
+      least_fits (if is_less it best then it else best) items
+      (either_fits (is_less it best) it best (all 0 it refl) fits) (λ n. all (suc n))
+
+  greatest_fits : (best : Val) (items : List Val) → IsOf c t best of → AllOf c t items of → IsOf c t (greatest_of best items) of
+  greatest_fits best [] fits all = fits
+  greatest_fits best (it ∷ items) fits all =
+      greatest_fits (if is_less best it then it else best) items
+      (either_fits (is_less best it) it best (all 0 it refl) fits) (λ n. all (suc n))
+
+module _ (t : Typing) (s : Site) (safe : IsSafe s.code) (of : TypeId) where
+  extreme_fits : (called : Builtin) (best : Val → List Val → Val) (one : Operand) (rest : List Operand)
+      → ((it : Operand) → Among it (one ∷ rest) → HasValue t s it)
+      → is_ordered s.code.types of && list_all (λ item. is_operand s.code s.function item of) (one ∷ rest) ≡ true
+      → built_in_of s.code s.function called (one ∷ rest) ≡ Some (plain called)
+      → ((answers : Answers) (store : Stored) (sched : State) (first : Val) (items : List Val)
+      → built_in_call answers store sched (plain called) (first ∷ items)
+      ≡ to (record { value = Some (best first items); store = store; written = [] }))
+      → ((t' : Typing) (first : Val) (items : List Val) → IsOf s.code t' first of → AllOf s.code t' items of
+      → IsOf s.code t' (best first items) of)
+      → BuiltInReadied t s called (one ∷ rest) (Some of)
+  extreme_fits called best one rest has h is does best_fits =
+      let each = (both (is_ordered s.code.types of)
+          (list_all (λ item. is_operand s.code s.function item of) (one ∷ rest)) h).1 in
+      let split = both (is_operand s.code s.function one of)
+          (list_all (λ item. is_operand s.code s.function item of) rest) each in
+      let first = operand_value t s safe.held one (has one (inl refl)) of split.0 in
+      let others = all_are t s safe.held rest of (λ it among. has it (inr among))
+          (each_among (λ item. is_operand s.code s.function item of) rest split.1) in
+      record {
+        it = plain called;
+        is = is;
+        items = first.0 ∷ others.0;
+        are = more_of s one rest first.0 others.0 first.1.0 others.1.0;
+        fits =
+            works (plain called) (first.0 ∷ others.0) (Some of) (λ t' g answers store sched is.
+            subst (DoneComes s.code t' (Some of)) (sym (does answers store sched first.0 others.0))
+            (done s.code t' (Some of) (Some (best first.0 others.0)) store [] is
+            (best_fits t' first.0 others.0 (fits_grow s.code t t' g first.0 (under_of s.code of) first.1.1)
+            (all_grow s.code t t' g others.0 of others.1.1))));
+      }
 
 pub built_in_fits : (t : Typing) (s : Site) → IsSafe s.code → (called : Builtin) (arguments : List Operand)
     → ((it : Operand) → Among it arguments → HasValue t s it) → runs_builtin s.code s.function called arguments ≡ true
