@@ -12,6 +12,7 @@ use Rattle.code_safety.proofs.Machines.{BuiltInFits, closes, panics, recovers, w
 use Rattle.code_safety.proofs.Mapping.{clears_map, deleted_comes}
 use Rattle.code_safety.proofs.Operands.{known_of, operand_value, shape_value, shape_term, held_type_is, held_value, type_fits, any_value, all_are}
 use Rattle.code_safety.proofs.Sames.{under_plain}
+use Rattle.code_safety.proofs.Stores.{elements_are}
 use Rattle.code_safety.proofs.Sites.{HasValue, Among, KnownFits}
 use Rattle.code_safety.proofs.Terms.{never, either, there, same_is, any_term, pointer_term, basic_term}
 use Rattle.code_safety.proofs.Values.{Typing, Grows, Fits, IsOf, AllOf, Slices, IsStore, MapFits, under_of}
@@ -26,6 +27,7 @@ use Rattle.go_store.specs.Conversions.{numbers_of}
 use Rattle.go_store.specs.Slices.{elements_of, copy_count, copied}
 use Rattle.go_maps.specs.Entries.{cleared, count_in}
 use Rattle.go_store.specs.Stores.{Stored}
+use Rattle.go_type.specs.Assignable.{underlying_term_of}
 use Rattle.go_type.specs.Held.{IsHeld}
 use Rattle.go_type.specs.Kinds.{kind_of, kind_of_term}
 use Rattle.go_type.specs.Same.{both, same_id, same_id-Decides}
@@ -525,14 +527,259 @@ module _ (t : Typing) (s : Site) (safe : IsSafe s.code) (of : TypeId) where
             (all_grow s.code t t' g others.0 of others.1.1))));
       }
 
+-- ---- append
+
+-- an operand of a slice type is held
+module _ (c : Code) (held : IsHeld c.types) (f : Function) (it : Operand) (of elem : TypeId)
+    (is_term : under_of c of ≡ Some (term.Slice elem)) where
+  no_slice : (u : TypeTerm) → under_of c of ≡ Some u → is_slice (Some u) ≡ false → ⊥
+  no_slice u is none = true≢false (ap is_slice (sym is_term ∙ is) ∙ none)
+
+  no_function : (u : Option TypeTerm) → term_at c.types of ≡ u → (g : Option Function) → is_function_type u g ≡ true → ⊥
+  no_function (Some (term.Func signature)) e (Some g) h =
+      no_slice (term.Func signature) (under_plain c.types held of (term.Func signature) e refl) refl
+  no_function _ e _ h = true≢false (sym h)
+
+  slice_held : (k : Option Known) → known c f it ≡ k → is_known c k of ≡ true → known c f it ≡ Some (known_as.Held of)
+  slice_held (Some (known_as.Held id)) e h = e ∙ ap (λ id. Some (known_as.Held id)) (same_is id of h)
+  slice_held (Some (known_as.Function id)) e h =
+      absurd (no_function (term_at c.types of) refl (function_at c id) h)
+  slice_held (Some (known_as.Address base)) e h =
+      absurd (no_slice (term.Pointer base) (under_plain c.types held of (term.Pointer base)
+      (pointer_term (term_at c.types of) base h) refl) refl)
+  slice_held None e h = never h
+
+-- what is appended works
+module _ (c : Code) (t : Typing) (of elem : TypeId) (is_term : under_of c of ≡ Some (term.Slice elem)) (leaves : ℕ)
+    (it : SliceValue) (slices : Slices c t it elem) where
+  items_append : (items : List Val) → AllOf c t items elem
+      → BuiltInFits c t (appends_items leaves) (slice it ∷ items) (Some of)
+  items_append items all =
+      works (appends_items leaves) (slice it ∷ items) (Some of) (λ t' g answers store sched is.
+      append_comes c t' store is of elem is_term leaves it (slices_grow c t t' g it elem slices) items
+      (all_grow c t t' g items elem all))
+
+  slice_appends : (more : SliceValue) → Slices c t more elem
+      → BuiltInFits c t (appends_slice leaves) (slice it ∷ slice more ∷ []) (Some of)
+  slice_appends more slices' =
+      works (appends_slice leaves) (slice it ∷ slice more ∷ []) (Some of) (λ t' g answers store sched is.
+      let found = elements_are c t' store is more elem (slices_grow c t t' g more elem slices') in
+      subst (λ found. DoneComes c t' (Some of) (where_some (append leaves store it) found)) (sym found.1.0)
+      (append_comes c t' store is of elem is_term leaves it (slices_grow c t t' g it elem slices) found.0 found.1.1.1))
+
+  text_appends : (bytes : List ℕ) → is_some (kind_of_term (under_of c elem)) ≡ true
+      → BuiltInFits c t (appends_text leaves) (slice it ∷ text bytes ∷ []) (Some of)
+  text_appends bytes kind =
+      works (appends_text leaves) (slice it ∷ text bytes ∷ []) (Some of) (λ t' g answers store sched is.
+      append_comes c t' store is of elem is_term leaves it (slices_grow c t t' g it elem slices)
+      (map number (numbers_of bytes)) (numbers_fit c t' elem kind (numbers_of bytes)))
+
+  -- by the type that the machine has for the second operand
+  one_appends : (u : Option TypeTerm) (v : Val) → Fits c t v u → IsOf c t v elem
+      → BuiltInFits c t (append_of c elem leaves u) (slice it ∷ v ∷ []) (Some of)
+  one_appends (Some (term.Slice other)) v fits is_of = by (same_id elem other) refl
+    where
+      by : (b : Bool) → same_id elem other ≡ b
+          → BuiltInFits c t (if b then appends_slice leaves else appends_items leaves) (slice it ∷ v ∷ []) (Some of)
+      by true e =
+          let more = slice_in c t v other fits in
+          subst (λ v. BuiltInFits c t (appends_slice leaves) (slice it ∷ v ∷ []) (Some of)) (sym more.1.0)
+          (slice_appends more.0 (subst (Slices c t more.0) (sym (same_is elem other e)) more.1.1))
+      by false e = items_append (v ∷ []) (all_more c t elem v [] is_of (λ n w h. absurd (none-some w h)))
+  one_appends (Some (term.Basic basic.Text)) v fits is_of = by (are_bytes c.types (Some elem)) refl
+    where
+      by : (b : Bool) → are_bytes c.types (Some elem) ≡ b
+          → BuiltInFits c t (if b then appends_text leaves else appends_items leaves) (slice it ∷ v ∷ []) (Some of)
+      by true e =
+          let bytes = text_in c t v fits in
+          subst (λ v. BuiltInFits c t (appends_text leaves) (slice it ∷ v ∷ []) (Some of)) (sym bytes.1)
+          (text_appends bytes.0 (ap (λ u. is_some (kind_of_term u)) (byte_term' (under_of c elem) e)))
+      by false e = items_append (v ∷ []) (all_more c t elem v [] is_of (λ n w h. absurd (none-some w h)))
+  one_appends _ v fits is_of =
+      items_append (v ∷ []) (all_more c t elem v [] is_of (λ n w h. absurd (none-some w h)))
+
+  -- one more slice of the elements, or a string to bytes
+  run_appends : (u : Option TypeTerm) (v : Val) → Fits c t v u → is_run_of c.types u elem ≡ true
+      → BuiltInFits c t (append_of c elem leaves u) (slice it ∷ v ∷ []) (Some of)
+  run_appends (Some (term.Slice other)) v fits h =
+      let more = slice_in c t v other fits in
+      let same = same_is other elem h in
+      subst (λ b. BuiltInFits c t (if b then appends_slice leaves else appends_items leaves) (slice it ∷ v ∷ []) (Some of))
+      (sym ((same_id-Decides elem other).1 (sym same)))
+      (subst (λ v. BuiltInFits c t (appends_slice leaves) (slice it ∷ v ∷ []) (Some of)) (sym more.1.0)
+      (slice_appends more.0 (subst (Slices c t more.0) same more.1.1)))
+  run_appends (Some (term.Basic basic.Text)) v fits h =
+      let bytes = text_in c t v fits in
+      let is_byte = byte_term (under_of c elem) h in
+      subst (λ b. BuiltInFits c t (if b then appends_text leaves else appends_items leaves) (slice it ∷ v ∷ []) (Some of))
+      (sym (ap is_byte_term is_byte))
+      (subst (λ v. BuiltInFits c t (appends_text leaves) (slice it ∷ v ∷ []) (Some of)) (sym bytes.1)
+      (text_appends bytes.0 (ap (λ u. is_some (kind_of_term u)) is_byte)))
+  run_appends _ v fits h = never h
+
+module _ (t : Typing) (s : Site) (safe : IsSafe s.code) (of elem : TypeId)
+    (is_term : under_of s.code of ≡ Some (term.Slice elem)) (first : Operand) (has : HasValue t s first)
+    (typed : is_operand s.code s.function first of ≡ true) where
+  found_slice : (v : Val) × ((value s first ≡ Some v) × IsOf s.code t v of)
+  found_slice = operand_value t s safe.held first has of typed
+
+  the_slice : (it : SliceValue) × ((found_slice.0 ≡ slice it) × Slices s.code t it elem)
+  the_slice = slice_in s.code t found_slice.0 elem (subst (Fits s.code t found_slice.0) is_term found_slice.1.1)
+
+  -- the machine has the type of the elements
+  is_elem : element_in (term_of s.code s.function first) ≡ Some elem
+  is_elem =
+      ap (λ of. element_in (under s.code of))
+      (held_type_is s.code s.function first of
+      (slice_held s.code safe.held s.function first of elem is_term (known s.code s.function first) refl typed))
+      ∙ ap element_in is_term
+
+  append_readied : (others : List Operand) (items : List Val) → values_of s.code s.frame others ≡ Some items
+      → BuiltInFits s.code t (append_to s.code s.function elem (first ∷ others)) (slice the_slice.0 ∷ items) (Some of)
+      → BuiltInReadied t s builtin.Append (first ∷ others) (Some of)
+  append_readied others items are fits =
+      record {
+        it = append_to s.code s.function elem (first ∷ others);
+        is = ap (option_map (λ elem. append_to s.code s.function elem (first ∷ others))) is_elem;
+        items = found_slice.0 ∷ items;
+        are = more_of s first others found_slice.0 items found_slice.1.0 are;
+        fits =
+            subst (λ v. BuiltInFits s.code t (append_to s.code s.function elem (first ∷ others)) (v ∷ items) (Some of))
+            (sym the_slice.1.0) fits;
+      }
+
+  -- a second operand of the machine's type
+  machine_term : (one : Operand) (v : Val) (k : Known) → known s.code s.function one ≡ Some k → KnownFits s.code t k v
+      → IsOf s.code t v elem
+      → BuiltInFits s.code t (append_of s.code elem (leaves_of s.code.types elem) (term_of s.code s.function one))
+      (slice the_slice.0 ∷ v ∷ []) (Some of)
+  machine_term one v k e fits is_of = by (type_of s.code s.function one) refl
+    where
+      by : (found : Option TypeId) → type_of s.code s.function one ≡ found
+          → BuiltInFits s.code t (append_of s.code elem (leaves_of s.code.types elem) (under s.code found))
+          (slice the_slice.0 ∷ v ∷ []) (Some of)
+      by None is =
+          items_append s.code t of elem is_term (leaves_of s.code.types elem) the_slice.0 the_slice.1.1 (v ∷ [])
+          (all_more s.code t elem v [] is_of (λ n w h. absurd (none-some w h)))
+      by (Some other) is =
+          one_appends s.code t of elem is_term (leaves_of s.code.types elem) the_slice.0 the_slice.1.1
+          (under_of s.code other) v (type_fits s.code t safe.held s.function one k other v e is fits) is_of
+
+  append_one : (one : Operand) → HasValue t s one
+      → is_run_of s.code.types (shape s.code s.function one) elem || is_operand s.code s.function one elem ≡ true
+      → BuiltInReadied t s builtin.Append (first ∷ one ∷ []) (Some of)
+  append_one one has' h =
+      at (either (is_run_of s.code.types (shape s.code s.function one) elem) (is_operand s.code s.function one elem) h)
+    where
+      by_shape : (u : Option TypeTerm) → shape s.code s.function one ≡ u → is_run_of s.code.types u elem ≡ true
+          → BuiltInReadied t s builtin.Append (first ∷ one ∷ []) (Some of)
+      by_shape None e run = never run
+      by_shape (Some u) e run =
+          let found = shape_value t s one has' u e in
+          append_readied (one ∷ []) (found.0 ∷ []) (one_of s one found.0 found.1.0)
+          (subst (λ u. BuiltInFits s.code t (append_of s.code elem (leaves_of s.code.types elem) u)
+          (slice the_slice.0 ∷ found.0 ∷ []) (Some of)) (sym (shape_term s.code s.function one u e))
+          (run_appends s.code t of elem is_term (leaves_of s.code.types elem) the_slice.0 the_slice.1.1 (Some u) found.0
+          found.1.1 run))
+
+      at : (is_run_of s.code.types (shape s.code s.function one) elem ≡ true) ⊎ (is_operand s.code s.function one elem ≡ true)
+          → BuiltInReadied t s builtin.Append (first ∷ one ∷ []) (Some of)
+      at (inl run) = by_shape (shape s.code s.function one) refl run
+      at (inr item) =
+          let found = operand_value t s safe.held one has' elem item in
+          let k = known_of s.code s.function one elem item in
+          let what = has' k.0 k.1.0 in
+          let same : what.it ≡ found.0 = lists.some_same what.it found.0 (sym what.is ∙ found.1.0) in
+          append_readied (one ∷ []) (found.0 ∷ []) (one_of s one found.0 found.1.0)
+          (machine_term one found.0 k.0 k.1.0 (subst (KnownFits s.code t k.0) same what.fits) found.1.1)
+
+  append_fits : (others : List Operand) → ((it : Operand) → Among it others → HasValue t s it)
+      → appends_elems s.code s.function elem others ≡ true → BuiltInReadied t s builtin.Append (first ∷ others) (Some of)
+  append_fits [] has' h =
+      append_readied [] [] refl
+      (items_append s.code t of elem is_term (leaves_of s.code.types elem) the_slice.0 the_slice.1.1 []
+      (λ n w h. absurd (none-some w h)))
+  append_fits (one ∷ []) has' h = append_one one (has' one (inl refl)) h
+  append_fits (one ∷ two ∷ rest) has' h =
+      let all = all_are t s safe.held (one ∷ two ∷ rest) elem has'
+          (each_among (λ item. is_operand s.code s.function item elem) (one ∷ two ∷ rest) h) in
+      append_readied (one ∷ two ∷ rest) all.0 all.1.0
+      (items_append s.code t of elem is_term (leaves_of s.code.types elem) the_slice.0 the_slice.1.1 all.0 all.1.1)
+
+-- ---- all
+
+module _ (t : Typing) (s : Site) (safe : IsSafe s.code) where
+  no_result : (t' : Typing) (n : ℤ) → GivesOf s.code t' (Some (number n)) None
+  no_result t' n = tt
+
+  value_fits : (called : Builtin) (arguments : List Operand) → ((it : Operand) → Among it arguments → HasValue t s it)
+      → runs_builtin s.code s.function called arguments ≡ true → (of : TypeId)
+      → fits_value s.code s.function called arguments of ≡ true → BuiltInReadied t s called arguments (Some of)
+  value_fits builtin.Append (first ∷ items) has runnable of h =
+      let split = both (is_operand s.code s.function first of)
+          (appends s.code s.function (underlying_term_of s.code.types of) items) h in
+      by_term (under_of s.code of) refl split.0 split.1
+    where
+      by_term : (u : Option TypeTerm) → under_of s.code of ≡ u → is_operand s.code s.function first of ≡ true
+          → appends s.code s.function u items ≡ true → BuiltInReadied t s builtin.Append (first ∷ items) (Some of)
+      by_term (Some (term.Slice elem)) e typed h =
+          append_fits t s safe of elem e first (has first (inl refl)) typed items (λ it among. has it (inr among)) h
+      by_term _ e typed h = never h
+  value_fits builtin.Cap (one ∷ []) has runnable of h = cap_fits t s safe of one (has one (inl refl)) runnable h
+  value_fits builtin.Len (one ∷ []) has runnable of h = len_fits t s safe of one (has one (inl refl)) runnable h
+  value_fits builtin.Copy (one ∷ from ∷ []) has runnable of h =
+      let split = both (same_id of (basic_id basic.Int))
+          (copies_from s.code s.function (shape s.code s.function one) from) h in
+      copy_fits t s (Some of) (λ t' n. int_fits s.code t' safe.held of split.0 n) one from (has one (inl refl))
+      (has from (inr (inl refl))) split.1
+  value_fits builtin.Max (one ∷ rest) has runnable of h =
+      extreme_fits t s safe of builtin.Max greatest_of one rest has h refl (λ answers store sched first items. refl)
+      (λ t' first items. greatest_fits s.code t' of first items)
+  value_fits builtin.Min (one ∷ rest) has runnable of h =
+      extreme_fits t s safe of builtin.Min least_of one rest has h refl (λ answers store sched first items. refl)
+      (λ t' first items. least_fits s.code t' of first items)
+  value_fits builtin.Recover [] has runnable of h =
+      record {
+        it = plain builtin.Recover;
+        is = refl;
+        items = [];
+        are = refl;
+        fits =
+            recovers [] (Some of) (λ id same.
+            subst (λ id. under_of s.code id ≡ Some (term.Interface [])) (lists.some_same of id same)
+            (under_plain s.code.types safe.held of (term.Interface []) (any_term (term_at s.code.types of) h) refl));
+      }
+  value_fits _ arguments has runnable of h = never h
+
 pub built_in_fits : (t : Typing) (s : Site) → IsSafe s.code → (called : Builtin) (arguments : List Operand)
     → ((it : Operand) → Among it arguments → HasValue t s it) → runs_builtin s.code s.function called arguments ≡ true
     → (of : Option TypeId) → fits_builtin s.code s.function called arguments of ≡ true
     → BuiltInReadied t s called arguments of
-built_in_fits t s safe called arguments has runnable of typed = ?
+built_in_fits t s safe called arguments has runnable None typed = effect_fits t s safe called arguments has runnable typed
+built_in_fits t s safe called arguments has runnable (Some of) typed =
+    value_fits t s safe called arguments has runnable of typed
 
 -- one whose result is let go
 pub deferred_fits : (t : Typing) (s : Site) → IsSafe s.code → (called : Builtin) (arguments : List Operand)
     → ((it : Operand) → Among it arguments → HasValue t s it) → runs_builtin s.code s.function called arguments ≡ true
     → fits_deferred_builtin s.code s.function called arguments ≡ true → BuiltInReadied t s called arguments None
-deferred_fits t s safe called arguments has runnable typed = ?
+deferred_fits t s safe builtin.Panic (item ∷ []) has runnable typed =
+    let found = any_value t s safe.held item (has item (inl refl)) typed in
+    record {
+      it = plain builtin.Panic;
+      is = refl;
+      items = found.0 ∷ [];
+      are = one_of s item found.0 found.1.0;
+      fits = panics found.0 found.1.1;
+    }
+deferred_fits t s safe builtin.Copy (one ∷ from ∷ []) has runnable typed =
+    copy_fits t s None (no_result t s safe) one from (has one (inl refl)) (has from (inr (inl refl))) typed
+deferred_fits t s safe builtin.Recover [] has runnable typed =
+    record {
+      it = plain builtin.Recover;
+      is = refl;
+      items = [];
+      are = refl;
+      fits = recovers [] None (λ id same. absurd (none-some id same));
+    }
+deferred_fits t s safe called arguments has runnable typed = effect_fits t s safe called arguments has runnable typed
