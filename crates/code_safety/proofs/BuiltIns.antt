@@ -1,5 +1,5 @@
 -- Calls of built-in functions: their operands are what the machine takes, whatever the store comes to hold.
-use Rattle.std.proofs.Common.{◌≡◌, ◌⊎◌, inl, inr, ℕ, ℤ, pos, zero, suc, ◌||◌, ◌&&◌, Bool, true, false, List, [], ◌∷◌, ◌++◌, Option, Some, None, refl, sym, subst, ap, ◌∙◌, slice_get, is_some, if◌then◌else◌, true≢false, length, map, replicate, take, min}
+use Rattle.std.proofs.Common.{◌≡◌, ◌⊎◌, inl, inr, ℕ, ℤ, pos, suc, ◌||◌, ◌&&◌, Bool, true, false, List, [], ◌∷◌, Option, Some, None, refl, sym, subst, ap, ◌∙◌, is_some, if◌then◌else◌, true≢false, length, map, replicate, take, min}
 use Rattle.std.proofs.lemmas.Option.{none-some}
 use Rattle.std.specs.List.{list_all}
 use Rattle.std.specs.Option.{option_map}
@@ -24,12 +24,12 @@ use Rattle.go_base.specs.declared.ids.MapId.{MapId}
 use Rattle.go_base.specs.declared.ids.TypeId.{TypeId}
 use Rattle.go_sched.specs.Goroutines.{State, meant, queue_length, size_of}
 use Rattle.go_store.specs.Conversions.{numbers_of}
-use Rattle.go_store.specs.Slices.{elements_of, copy_count, copied}
+use Rattle.go_store.specs.Slices.{copy_count, copied}
 use Rattle.go_maps.specs.Entries.{cleared, count_in}
 use Rattle.go_store.specs.Stores.{Stored}
 use Rattle.go_type.specs.Assignable.{underlying_term_of}
 use Rattle.go_type.specs.Held.{IsHeld}
-use Rattle.go_type.specs.Kinds.{kind_of, kind_of_term}
+use Rattle.go_type.specs.Kinds.{kind_of_term}
 use Rattle.go_type.specs.Same.{both, same_id, same_id-Decides}
 use Rattle.go_type.specs.Table.{term_at, basic_id}
 use Rattle.go_type.specs.declared.operators.Builtin.{Builtin}
@@ -44,7 +44,7 @@ use Rattle.ssa_ir.specs.declared.code.Code.{Code}
 use Rattle.ssa_ir.specs.declared.code.Function.{Function}
 use Rattle.ssa_ir.specs.declared.operands.Operand.{Operand}
 use Rattle.ssa_mean.specs.Answers.{Answers}
-use Rattle.ssa_mean.specs.BuiltIns.{built_in_of, built_in_call, clear_of, first_term, append_of, append_to, is_slice_of, is_text_term, append, overwritten_from, writes, counted, capacity_of, length_of, changes, is_less, least_of, greatest_of}
+use Rattle.ssa_mean.specs.BuiltIns.{built_in_of, built_in_call, clear_of, append_of, append_to, append, overwritten_from, writes, changes, is_less, least_of, greatest_of}
 use Rattle.ssa_mean.specs.Comes.{Comes, to, faults, nowhere, then_to, where_some}
 use Rattle.ssa_mean.specs.Conversions.{are_bytes, is_byte_term}
 use Rattle.ssa_mean.specs.Making.{leaves_of}
@@ -56,19 +56,19 @@ use Rattle.ssa_mean.specs.Texts.{printed_all, printed_line}
 use Rattle.ssa_mean.specs.Zeros.{zero_of}
 use Rattle.ssa_typed.specs.Calls.{fits_builtin, fits_deferred_builtin, fits_effect, fits_value, is_cleared, is_closed, deletes, copies_from, is_run_of, is_printed, is_printed_type, appends, appends_elems, is_ordered, has_own_cap, has_own_len, points_to_array}
 use Rattle.ssa_typed.specs.Operands as typed_operands
-use Rattle.ssa_typed.specs.Operands.{function_at, known, held_type, shape, is_operand, is_known, is_any_operand, is_function_type, pointee_of}
+use Rattle.ssa_typed.specs.Operands.{function_at, known, held_type, shape, is_operand, is_known, is_function_type, pointee_of}
 use Rattle.ssa_typed.specs.declared.known.Known.{Known}
 use Rattle.ssa_typed.specs.declared.known.Known.TheVariants as known_as
-use Rattle.type_shapes.specs.Shapes.{is_slice, is_byte, is_pointer_to, base_of}
+use Rattle.type_shapes.specs.Shapes.{is_slice, is_byte, base_of}
 
 -- what a call of a built-in function is readied to
 pub record BuiltInReadied (t : Typing) (s : Site) (called : Builtin) (arguments : List Operand) (of : Option TypeId) : Type 0
   where
-  pub it : BuiltIn
-  pub is : built_in_of s.code s.function called arguments ≡ Some it
-  pub items : List Val
-  pub are : values_of s.code s.frame arguments ≡ Some items
-  pub fits : BuiltInFits s.code t it items of
+    pub it : BuiltIn
+    pub is : built_in_of s.code s.function called arguments ≡ Some it
+    pub items : List Val
+    pub are : values_of s.code s.frame arguments ≡ Some items
+    pub fits : BuiltInFits s.code t it items of
 
 -- ---- what is done
 
@@ -123,9 +123,9 @@ byte_term : (of : Option TypeTerm) → is_byte of ≡ true → of ≡ Some (term
 byte_term (Some (term.Basic basic.Uint8)) h = refl
 byte_term _ h = never h
 
-byte_term' : (of : Option TypeTerm) → is_byte_term of ≡ true → of ≡ Some (term.Basic basic.Uint8)
-byte_term' (Some (term.Basic basic.Uint8)) h = refl
-byte_term' _ h = never h
+machine_byte : (of : Option TypeTerm) → is_byte_term of ≡ true → of ≡ Some (term.Basic basic.Uint8)
+machine_byte (Some (term.Basic basic.Uint8)) h = refl
+machine_byte _ h = never h
 
 kept_some : {A B : Type 0} (f : A → B) (it : Option A) → is_some (option_map f it) ≡ true → is_some it ≡ true
 kept_some f None h = never h
@@ -159,7 +159,7 @@ module _ (t : Typing) (s : Site) (safe : IsSafe s.code) where
           let it = slice_in s.code t found.0 elem found.1.1 in
           let is_term = shape_term s.code s.function one (term.Slice elem) e in
           let unheld = there (zero_of s.code elem) (kept_some clears_slice (zero_of s.code elem)
-              (subst (λ u. is_some (clear_of s.code u) ≡ true) is_term runnable)) in
+          (subst (λ u. is_some (clear_of s.code u) ≡ true) is_term runnable)) in
           record {
             it = clears_slice unheld.0;
             is = ap (clear_of s.code) is_term ∙ ap (option_map clears_slice) unheld.1;
@@ -436,45 +436,45 @@ module _ (c : Code) (t : Typing) (of : Option TypeId) (gives : (t' : Typing) (n 
       (gives t' (pos (min into.len (length bytes)))))
 
 module _ (t : Typing) (s : Site) (of : Option TypeId) (gives : (t' : Typing) (n : ℤ) → GivesOf s.code t' (Some (number n)) of)
-    where
-  copy_fits : (one from : Operand) → HasValue t s one → HasValue t s from
-      → copies_from s.code s.function (shape s.code s.function one) from ≡ true
-      → BuiltInReadied t s builtin.Copy (one ∷ from ∷ []) of
-  copy_fits one from has has' h = by (shape s.code s.function one) refl h
-    where
-      readied : (v w : Val) → value s one ≡ Some v → value s from ≡ Some w
-          → BuiltInFits s.code t (plain builtin.Copy) (v ∷ w ∷ []) of → BuiltInReadied t s builtin.Copy (one ∷ from ∷ []) of
-      readied v w e e' fits =
-          record { it = plain builtin.Copy; is = refl; items = v ∷ w ∷ []; are = two_of s one from v w e e'; fits = fits }
+  where
+    copy_fits : (one from : Operand) → HasValue t s one → HasValue t s from
+        → copies_from s.code s.function (shape s.code s.function one) from ≡ true
+        → BuiltInReadied t s builtin.Copy (one ∷ from ∷ []) of
+    copy_fits one from has has' h = by (shape s.code s.function one) refl h
+      where
+        readied : (v w : Val) → value s one ≡ Some v → value s from ≡ Some w
+            → BuiltInFits s.code t (plain builtin.Copy) (v ∷ w ∷ []) of → BuiltInReadied t s builtin.Copy (one ∷ from ∷ []) of
+        readied v w e e' fits =
+            record { it = plain builtin.Copy; is = refl; items = v ∷ w ∷ []; are = two_of s one from v w e e'; fits = fits }
 
-      by_source : (elem : TypeId) (v : Val) → value s one ≡ Some v → (into : SliceValue) → v ≡ slice into
-          → Slices s.code t into elem → (u : Option TypeTerm) → shape s.code s.function from ≡ u
-          → is_run_of s.code.types u elem ≡ true → BuiltInReadied t s builtin.Copy (one ∷ from ∷ []) of
-      by_source elem v e into is slices (Some (term.Slice other)) e' h =
-          let found = shape_value t s from has' (term.Slice other) e' in
-          let it = slice_in s.code t found.0 other found.1.1 in
-          readied v found.0 e found.1.0
-          (subst (λ v. BuiltInFits s.code t (plain builtin.Copy) (v ∷ found.0 ∷ []) of) (sym is)
-          (subst (λ w. BuiltInFits s.code t (plain builtin.Copy) (slice into ∷ w ∷ []) of) (sym it.1.0)
-          (copy_slice_fits s.code t of gives elem into slices it.0
-          (subst (Slices s.code t it.0) (same_is other elem h) it.1.1))))
-      by_source elem v e into is slices (Some (term.Basic basic.Text)) e' h =
-          let found = shape_value t s from has' (term.Basic basic.Text) e' in
-          let it = text_in s.code t found.0 found.1.1 in
-          readied v found.0 e found.1.0
-          (subst (λ v. BuiltInFits s.code t (plain builtin.Copy) (v ∷ found.0 ∷ []) of) (sym is)
-          (subst (λ w. BuiltInFits s.code t (plain builtin.Copy) (slice into ∷ w ∷ []) of) (sym it.1)
-          (copy_text_fits s.code t of gives elem into slices it.0
-          (ap (λ u. is_some (kind_of_term u)) (byte_term (under_of s.code elem) h)))))
-      by_source elem v e into is slices _ e' h = never h
+        by_source : (elem : TypeId) (v : Val) → value s one ≡ Some v → (into : SliceValue) → v ≡ slice into
+            → Slices s.code t into elem → (u : Option TypeTerm) → shape s.code s.function from ≡ u
+            → is_run_of s.code.types u elem ≡ true → BuiltInReadied t s builtin.Copy (one ∷ from ∷ []) of
+        by_source elem v e into is slices (Some (term.Slice other)) e' h =
+            let found = shape_value t s from has' (term.Slice other) e' in
+            let it = slice_in s.code t found.0 other found.1.1 in
+            readied v found.0 e found.1.0
+            (subst (λ v. BuiltInFits s.code t (plain builtin.Copy) (v ∷ found.0 ∷ []) of) (sym is)
+            (subst (λ w. BuiltInFits s.code t (plain builtin.Copy) (slice into ∷ w ∷ []) of) (sym it.1.0)
+            (copy_slice_fits s.code t of gives elem into slices it.0
+            (subst (Slices s.code t it.0) (same_is other elem h) it.1.1))))
+        by_source elem v e into is slices (Some (term.Basic basic.Text)) e' h =
+            let found = shape_value t s from has' (term.Basic basic.Text) e' in
+            let it = text_in s.code t found.0 found.1.1 in
+            readied v found.0 e found.1.0
+            (subst (λ v. BuiltInFits s.code t (plain builtin.Copy) (v ∷ found.0 ∷ []) of) (sym is)
+            (subst (λ w. BuiltInFits s.code t (plain builtin.Copy) (slice into ∷ w ∷ []) of) (sym it.1)
+            (copy_text_fits s.code t of gives elem into slices it.0
+            (ap (λ u. is_some (kind_of_term u)) (byte_term (under_of s.code elem) h)))))
+        by_source elem v e into is slices _ e' h = never h
 
-      by : (u : Option TypeTerm) → shape s.code s.function one ≡ u → copies_from s.code s.function u from ≡ true
-          → BuiltInReadied t s builtin.Copy (one ∷ from ∷ []) of
-      by (Some (term.Slice elem)) e h =
-          let found = shape_value t s one has (term.Slice elem) e in
-          let it = slice_in s.code t found.0 elem found.1.1 in
-          by_source elem found.0 found.1.0 it.0 it.1.0 it.1.1 (shape s.code s.function from) refl h
-      by _ e h = never h
+        by : (u : Option TypeTerm) → shape s.code s.function one ≡ u → copies_from s.code s.function u from ≡ true
+            → BuiltInReadied t s builtin.Copy (one ∷ from ∷ []) of
+        by (Some (term.Slice elem)) e h =
+            let found = shape_value t s one has (term.Slice elem) e in
+            let it = slice_in s.code t found.0 elem found.1.1 in
+            by_source elem found.0 found.1.0 it.0 it.1.0 it.1.1 (shape s.code s.function from) refl h
+        by _ e h = never h
 
 -- ---- the least and the greatest
 
@@ -508,12 +508,12 @@ module _ (t : Typing) (s : Site) (safe : IsSafe s.code) (of : TypeId) where
       → BuiltInReadied t s called (one ∷ rest) (Some of)
   extreme_fits called best one rest has h is does best_fits =
       let each = (both (is_ordered s.code.types of)
-          (list_all (λ item. is_operand s.code s.function item of) (one ∷ rest)) h).1 in
+      (list_all (λ item. is_operand s.code s.function item of) (one ∷ rest)) h).1 in
       let split = both (is_operand s.code s.function one of)
-          (list_all (λ item. is_operand s.code s.function item of) rest) each in
+      (list_all (λ item. is_operand s.code s.function item of) rest) each in
       let first = operand_value t s safe.held one (has one (inl refl)) of split.0 in
       let others = all_are t s safe.held rest of (λ it among. has it (inr among))
-          (each_among (λ item. is_operand s.code s.function item of) rest split.1) in
+      (each_among (λ item. is_operand s.code s.function item of) rest split.1) in
       record {
         it = plain called;
         is = is;
@@ -593,7 +593,7 @@ module _ (c : Code) (t : Typing) (of elem : TypeId) (is_term : under_of c of ≡
       by true e =
           let bytes = text_in c t v fits in
           subst (λ v. BuiltInFits c t (appends_text leaves) (slice it ∷ v ∷ []) (Some of)) (sym bytes.1)
-          (text_appends bytes.0 (ap (λ u. is_some (kind_of_term u)) (byte_term' (under_of c elem) e)))
+          (text_appends bytes.0 (ap (λ u. is_some (kind_of_term u)) (machine_byte (under_of c elem) e)))
       by false e = items_append (v ∷ []) (all_more c t elem v [] is_of (λ n w h. absurd (none-some w h)))
   one_appends _ v fits is_of =
       items_append (v ∷ []) (all_more c t elem v [] is_of (λ n w h. absurd (none-some w h)))
@@ -702,7 +702,7 @@ module _ (t : Typing) (s : Site) (safe : IsSafe s.code) (of elem : TypeId)
   append_fits (one ∷ []) has' h = append_one one (has' one (inl refl)) h
   append_fits (one ∷ two ∷ rest) has' h =
       let all = all_are t s safe.held (one ∷ two ∷ rest) elem has'
-          (each_among (λ item. is_operand s.code s.function item elem) (one ∷ two ∷ rest) h) in
+      (each_among (λ item. is_operand s.code s.function item elem) (one ∷ two ∷ rest) h) in
       append_readied (one ∷ two ∷ rest) all.0 all.1.0
       (items_append s.code t of elem is_term (leaves_of s.code.types elem) the_slice.0 the_slice.1.1 all.0 all.1.1)
 
@@ -717,7 +717,7 @@ module _ (t : Typing) (s : Site) (safe : IsSafe s.code) where
       → fits_value s.code s.function called arguments of ≡ true → BuiltInReadied t s called arguments (Some of)
   value_fits builtin.Append (first ∷ items) has runnable of h =
       let split = both (is_operand s.code s.function first of)
-          (appends s.code s.function (underlying_term_of s.code.types of) items) h in
+      (appends s.code s.function (underlying_term_of s.code.types of) items) h in
       by_term (under_of s.code of) refl split.0 split.1
     where
       by_term : (u : Option TypeTerm) → under_of s.code of ≡ u → is_operand s.code s.function first of ≡ true
@@ -729,7 +729,7 @@ module _ (t : Typing) (s : Site) (safe : IsSafe s.code) where
   value_fits builtin.Len (one ∷ []) has runnable of h = len_fits t s safe of one (has one (inl refl)) runnable h
   value_fits builtin.Copy (one ∷ from ∷ []) has runnable of h =
       let split = both (same_id of (basic_id basic.Int))
-          (copies_from s.code s.function (shape s.code s.function one) from) h in
+      (copies_from s.code s.function (shape s.code s.function one) from) h in
       copy_fits t s (Some of) (λ t' n. int_fits s.code t' safe.held of split.0 n) one from (has one (inl refl))
       (has from (inr (inl refl))) split.1
   value_fits builtin.Max (one ∷ rest) has runnable of h =
