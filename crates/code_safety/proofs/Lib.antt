@@ -1,5 +1,6 @@
 pub mod Lists
 pub mod Shapes
+pub mod Members
 pub mod Values
 pub mod Machines
 pub mod Sites
@@ -18,3 +19,12 @@ pub mod Converting
 pub mod Making
 pub mod Appending
 pub mod BuiltIns
+pub mod Available
+pub mod Opening
+pub mod Throwing
+pub mod Outcomes
+pub mod Waiting
+pub mod Going
+pub mod Calling
+pub mod Jumping
+pub mod Stepping

@@ -148,3 +148,9 @@ zip_drop R (suc k) [] [] h = tt
 zip_drop R (suc k) (x ∷ xs) (y ∷ ys) h = zip_drop R k xs ys h.1
 zip_drop R (suc k) [] (y ∷ ys) h = absurd h
 zip_drop R (suc k) (x ∷ xs) [] h = absurd h
+
+pub get_within : {A : Type 0} (xs : List A) (y : A) (n : ℕ) (x : A) → n < length xs → slice_get (xs ++ y ∷ []) n ≡ Some x
+    → slice_get xs n ≡ Some x
+get_within [] y n x less is = absurd (omega (arith, less))
+get_within (z ∷ xs) y zero x less is = is
+get_within (z ∷ xs) y (suc n) x less is = get_within xs y n x (omega (arith, less)) is

@@ -4,7 +4,8 @@ use Rattle.std.proofs.Common.{◌≡◌, ◌==◌, ◌<◌, ◌≤◌, ◌⊎◌
 use Rattle.std.specs.List.{AllZip}
 use Rattle.code_safety.specs.Safety.{IsSafe}
 use Rattle.code_safety.proofs.Shapes.{Alike}
-use Rattle.code_safety.proofs.Values.{Typing, Grows, IsOf, AreOf, IsStore, under_of}
+use Rattle.code_safety.proofs.Values as values
+use Rattle.code_safety.proofs.Values.{Typing, Grows, Fits, IsOf, AreOf, IsStore, under_of}
 use Rattle.go_base.specs.declared.ids.FuncId.{FuncId}
 use Rattle.go_base.specs.declared.ids.TypeId.{TypeId}
 use Rattle.go_sched.specs.Channels.{Chan, Sending}
@@ -13,10 +14,12 @@ use Rattle.go_sched.specs.declared.channels.Receiver.{Receiver}
 use Rattle.go_store.specs.Stores.{Stored}
 use Rattle.go_type.specs.declared.operators.Builtin.TheVariants as builtin
 use Rattle.go_type.specs.declared.term.TypeTerm.TheVariants as term
-use Rattle.go_value.specs.Values.{Val, chan_number, nil_interface, dynamic}
+use Rattle.go_value.specs.Values.{Val, chan_number, nil_interface}
+use Rattle.go_value.specs.declared.faults.Fault.{Fault}
 use Rattle.ssa_ir.specs.Blocks.{instrs_at}
 use Rattle.ssa_ir.specs.Uses.{given_registers}
 use Rattle.ssa_ir.specs.declared.code.Code.{Code}
+use Rattle.ssa_ir.specs.declared.code.CodeVariable.{CodeVariable}
 use Rattle.ssa_ir.specs.declared.code.Function.{Function}
 use Rattle.ssa_ir.specs.declared.operands.Operand.{Operand}
 use Rattle.ssa_ir.specs.declared.ops.Instr.{Instr}
@@ -31,7 +34,7 @@ use Rattle.ssa_mean.specs.Operands.{function_at, element_type}
 use Rattle.ssa_mean.specs.State.{BuiltIn, plain, Callee, of_function, of_built_in, of_nil, Later, Thrown, of_value, of_text}
 use Rattle.ssa_mean.specs.State.{FrameState, running, returning, panicking, Frame, Goroutine, Machine, Next, goes, ends, stuck}
 use Rattle.ssa_mean.specs.Unwinding.{phis_first}
-use Rattle.ssa_sane.specs.Sane.{Walk, first_cells}
+use Rattle.ssa_sane.specs.Sane.{Walk, first_cells, is_new}
 use Rattle.ssa_typed.specs.Typed.{IsTypedInstr}
 
 -- ---- what operations come to
@@ -40,6 +43,7 @@ use Rattle.ssa_typed.specs.Typed.{IsTypedInstr}
 pub record StoresFit (c : Code) (t : Typing) (of : TypeId) (value : Val) (store : Stored) : Type 0 where
   pub typing : Typing
   pub grows : Grows t typing
+  pub chans : typing.chans ≡ t.chans
   pub is_store : IsStore c typing store
   pub is_of : IsOf c typing value of
 
@@ -67,6 +71,7 @@ GivesOf c t (Some it) (Some of) = IsOf c t it of
 pub record DoneFits (c : Code) (t : Typing) (of : Option TypeId) (done : Done) : Type 0 where
   pub typing : Typing
   pub grows : Grows t typing
+  pub chans : typing.chans ≡ t.chans
   pub is_store : IsStore c typing done.store
   pub is_of : GivesOf c typing done.value of
 
@@ -77,9 +82,9 @@ DoneComes c t of nowhere = ⊥
 
 -- ---- calls
 
--- a value that can be thrown
+-- a value of type `interface{}`
 abbrev pub IsThrown : Code → Typing → Val → Type 0
-IsThrown c t it = (of : TypeId) × ((under_of c of ≡ Some (term.Interface [])) × IsOf c t it of)
+IsThrown c t it = Fits c t it (Some (term.Interface []))
 
 -- a built-in function with arguments that it takes, and the type of the result that is wanted: whatever the store comes
 -- to hold until it is called
@@ -134,7 +139,7 @@ pub record IsWritten (frame : Frame) (register : ℕ) : Type 0 where
   pub there : slice_get frame.registers register ≡ Some (Some it)
 
 abbrev pub ThrownFits : Code → Typing → Thrown → Type 0
-ThrownFits c t (of_value it) = IsThrown c t it
+ThrownFits c t (of_value it) = IsThrown c t it × (it ≡ nil_interface → ⊥)
 ThrownFits c t (of_text words) = Unit {0}
 
 abbrev pub StateFits : Code → Typing → FrameState → Type 0
@@ -176,10 +181,16 @@ abbrev pub is_panicking : FrameState → Bool
 is_panicking (panicking thrown) = true
 is_panicking _ = false
 
+-- a frame that has made nothing but cells so far
+pub record IsFresh (f : Function) (frame : Frame) : Type 0 where
+  pub runs : frame.state ≡ running
+  pub first : frame.block ≡ 0
+  pub news : (n : ℕ) (instr : Instr) → n < frame.place → slice_get (instrs_at f 0) n ≡ Some instr → is_new instr ≡ true
+
 -- where a top frame stands; one that panics and cannot recover, wherever it stands
 pub data TopStands (f : Function) (frame : Frame) : Type 0 where
-  runs : frame.state ≡ running → Stands f frame None → TopStands f frame
-  unwinds : Stands f frame None → IsBegun f frame → TopStands f frame
+  fresh : Stands f frame None → IsFresh f frame → TopStands f frame
+  begun : Stands f frame None → IsBegun f frame → TopStands f frame
   lost : is_panicking frame.state ≡ true → f.recover ≡ None → frame.defers ≡ [] → TopStands f frame
 
 -- the register of the frame below takes the results
@@ -223,9 +234,21 @@ abbrev pub LaterFitsWhere : Code → Typing → Option Later → Type 0
 LaterFitsWhere c t None = Unit {0}
 LaterFitsWhere c t (Some it) = LaterFits c t it
 
+-- a fault that waits is met by a frame that has begun
+pub record HasBegun (c : Code) (frame : Frame) : Type 0 where
+  pub function : Function
+  pub there : function_at c frame.function ≡ Some function
+  pub begun : IsBegun function frame
+
+abbrev pub IsReady : Code → Option Fault → List Frame → Type 0
+IsReady c None frames = Unit {0}
+IsReady c (Some it) [] = Unit {0}
+IsReady c (Some it) (top ∷ below) = HasBegun c top
+
 pub record GoroutineFits (c : Code) (t : Typing) (g : Goroutine) : Type 0 where
   pub frames : AreFrames c t g.frames
   pub begin : LaterFitsWhere c t g.begin
+  pub ready : IsReady c g.fault g.frames
 
 -- ---- goroutines that wait
 
@@ -304,10 +327,16 @@ pub record SchedFits (c : Code) (t : Typing) (goroutines : List Goroutine) (sche
   pub channels : (k : ℕ) (chan : Chan) (elem : TypeId) → slice_get sched.channels k ≡ Some chan
       → slice_get t.chans k ≡ Some elem → ChannelFits c t goroutines sched.runnable chan elem
 
+-- package variables are the first cells
+abbrev pub HasVariables : Code → Typing → Type 0
+HasVariables c t =
+    (n : ℕ) (it : CodeVariable) → slice_get c.variables n ≡ Some it → slice_get t.cells n ≡ Some (values.one it.of)
+
 -- a machine, but for the goroutine that runs
 pub record OpenFits (c : Code) (t : Typing) (m : Machine) : Type 0 where
   pub others : (n : ℕ) (g : Goroutine) → slice_get m.goroutines n ≡ Some g → (n ≡ m.sched.current.number → ⊥)
       → GoroutineFits c t g
+  pub variables : HasVariables c t
   pub store : IsStore c t m.store
   pub sched : SchedFits c t m.goroutines m.sched
   pub current : IsIn m.sched.current.number m.sched.runnable
@@ -319,6 +348,7 @@ pub record MachineFits (c : Code) (t : Typing) (m : Machine) : Type 0 where
   pub g : Goroutine
   pub there : slice_get m.goroutines m.sched.current.number ≡ Some g
   pub fits : GoroutineFits c t g
+  pub calm : g.fault ≡ None
 
 -- what a step may lead to
 abbrev pub Safe : Code → Next → Type 0

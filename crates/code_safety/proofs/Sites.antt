@@ -3,7 +3,7 @@ use Rattle.std.proofs.Common.{◌≡◌, ◌⊎◌, ℕ, Bool, true, false, List
 use Rattle.code_safety.specs.Runnable.{operands_of, runs}
 use Rattle.code_safety.specs.Safety.{IsSafe}
 use Rattle.code_safety.proofs.Values.{Typing, IsOf, Points, IsStore}
-use Rattle.code_safety.proofs.Machines.{OpenFits, FrameFits, Stands, Takes, AreBelow, LaterFitsWhere}
+use Rattle.code_safety.proofs.Machines.{OpenFits, FrameFits, Stands, IsBegun, IsFresh, Takes, AreBelow, LaterFitsWhere}
 use Rattle.go_base.specs.declared.ids.TypeId.{TypeId}
 use Rattle.go_value.specs.Values.{Val, pointer, closure}
 use Rattle.go_value.specs.declared.address.Pointer.{Pointer}
@@ -82,10 +82,12 @@ pub record SiteFits (t : Typing) (s : Site) (instr : Instr) : Type 0 where
   pub there : slice_get s.machine.goroutines s.machine.sched.current.number ≡ Some s.goroutine
   pub frames : s.goroutine.frames ≡ s.frame ∷ s.below
   pub begin : LaterFitsWhere s.code t s.goroutine.begin
+  pub calm : s.goroutine.fault ≡ None
   -- the frame
   pub fits : FrameFits s.code t s.function s.frame
   pub is_running : s.frame.state ≡ running
   pub stands : Stands s.function s.frame None
+  pub started : IsBegun s.function s.frame ⊎ IsFresh s.function s.frame
   pub takes : Takes s.code s.function s.frame.result s.below
   pub lower : AreBelow s.code t s.frame.result s.below
   -- the instruction

@@ -2,7 +2,7 @@
 use Rattle.std.specs.Prelude.{ℕ, List, All}
 use Rattle.code_safety.specs.Runnable.{IsRunnable}
 use Rattle.go_type.specs.Held.{IsHeld}
-use Rattle.plan_laws.specs.Runs.{IsStuck}
+use Rattle.ssa_mean.specs.Runs.{IsStuck}
 use Rattle.ssa_ir.specs.declared.code.Code.{Code}
 use Rattle.ssa_mean.specs.Answers.{Answers, AreAnswers}
 use Rattle.ssa_sane.specs.Sane.{IsSane}

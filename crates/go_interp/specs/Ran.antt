@@ -9,14 +9,13 @@ use Rattle.go_value.specs.Values.{Val}
 use Rattle.interp_state.specs.Machines.{goroutine_of, machine_of}
 use Rattle.interp_state.specs.Turns.{IsIn}
 use Rattle.interp_state.specs.declared.machine.Machine.{Machine}
-use Rattle.plan_laws.specs.Runs.{IsStuck}
 use Rattle.plan_mean.specs.Calls.{new_goroutine}
 use Rattle.plan_mean.specs.Runs.{IsPlannedRun, first_machine, steps}
 use Rattle.plan_mean.specs.State.{World, ends}
 use Rattle.ssa_ir.specs.declared.code.Code.{Code}
 use Rattle.ssa_mean.specs.Answers.{Answers, AreAnswers}
 use Rattle.ssa_mean.specs.Faults.{naming_of}
-use Rattle.ssa_mean.specs.Runs.{IsRunOf}
+use Rattle.ssa_mean.specs.Runs.{IsRunOf, IsStuck}
 
 -- a world of a code and its plan
 pub record IsWorldOf (code : Code) (plan : Plan) (w : World) : Type 0 where

@@ -11,7 +11,7 @@ use Rattle.go_sched.specs.Goroutines.{started}
 use Rattle.go_value.specs.Values.{Val, value_of}
 use Rattle.plan_laws.proofs.Alike.{Known, IsKnown, IsFunctionAt, IsMachine, IsOther, Follows}
 use Rattle.plan_laws.proofs.Stepping.{Soon, now, later, soon_alike}
-use Rattle.plan_laws.specs.Runs.{OneRun, IsStuck, IsWorldOf}
+use Rattle.plan_laws.specs.Runs.{OneRun, IsWorldOf}
 use Rattle.plan_mean.specs.Calls as planned_calls
 use Rattle.plan_mean.specs.Runs as planned_runs
 use Rattle.plan_mean.specs.State as plans
@@ -19,7 +19,7 @@ use Rattle.plan_mean.specs.Step as planned
 use Rattle.ssa_ir.specs.declared.code.Code.{Code}
 use Rattle.ssa_ir.specs.declared.code.Function.{Function}
 use Rattle.ssa_mean.specs.Runs as runs
-use Rattle.ssa_mean.specs.Runs.{IsRunOf}
+use Rattle.ssa_mean.specs.Runs.{IsRunOf, IsStuck}
 use Rattle.ssa_mean.specs.State as codes
 use Rattle.ssa_mean.specs.Step as steps
 

@@ -1,21 +1,13 @@
 -- A run of a code, and the run of its plan.
-use Rattle.std.specs.Prelude.{ℕ, ◌≡◌, ◌⊎◌, List, Some}
+use Rattle.std.specs.Prelude.{ℕ, ◌≡◌, ◌⊎◌, List}
 use Rattle.code_plan.specs.Plans.{IsPlanOf}
 use Rattle.go_base.specs.declared.ending.Ending.{Ending}
 use Rattle.plan_mean.specs.Runs.{IsPlannedRun}
 use Rattle.plan_mean.specs.State.{World}
 use Rattle.ssa_ir.specs.declared.code.Code.{Code}
-use Rattle.ssa_mean.specs.Answers.{Answers, AreAnswers}
+use Rattle.ssa_mean.specs.Answers.{AreAnswers}
 use Rattle.ssa_mean.specs.Faults.{naming_of}
-use Rattle.ssa_mean.specs.Runs.{IsRunOf, first_machine, steps}
-use Rattle.ssa_mean.specs.State.{Machine, stuck}
-
--- a code that comes, on its way, to an instruction at which the definition of runs gives nothing: typed code never does
-pub record IsStuck (code : Code) (choices : List ℕ) (bound : ℕ) (answers : Answers) : Type 0 where
-  pub first : Machine
-  pub begins : first_machine code choices bound ≡ Some first
-  pub count : ℕ
-  pub leads : steps count answers code first ≡ stuck
+use Rattle.ssa_mean.specs.Runs.{IsRunOf, IsStuck}
 
 -- a world of a plan of a code
 pub record IsWorldOf (code : Code) (w : World) : Type 0 where

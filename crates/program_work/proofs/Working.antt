@@ -12,10 +12,9 @@ use Rattle.go_interp.specs.Output as interp
 use Rattle.go_interp.specs.Ran.{TellsRun}
 use Rattle.go_sources.specs.declared.sources.SourceFile.{SourceFile}
 use Rattle.go_tree.specs.declared.program.Program.{Program}
-use Rattle.plan_laws.specs.Runs.{IsStuck}
 use Rattle.ssa_ir.specs.declared.code.Code.{Code}
 use Rattle.ssa_mean.specs.Answers.{Answers, AreAnswers}
-use Rattle.ssa_mean.specs.Runs.{IsRunOf}
+use Rattle.ssa_mean.specs.Runs.{IsRunOf, IsStuck}
 use Rattle.ssa_print.specs.Codes as shown
 use Rattle.ssa_print.specs.Operands.{setting_of}
 use Rattle.program_work.proofs.Listings.{some_listing}

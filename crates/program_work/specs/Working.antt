@@ -14,11 +14,10 @@ use Rattle.go_base.specs.declared.place.Place.{Place}
 use Rattle.go_base.specs.declared.rule.Rule.TheVariants as rules
 use Rattle.go_sources.specs.declared.sources.SourceFile.{SourceFile}
 use Rattle.go_tree.specs.declared.program.Program.{Program}
-use Rattle.plan_laws.specs.Runs.{IsStuck}
 use Rattle.ssa_ir.specs.declared.code.Code.{Code}
 use Rattle.ssa_ir.specs.declared.code.Function.{Function}
 use Rattle.ssa_mean.specs.Answers.{Answers, AreAnswers}
-use Rattle.ssa_mean.specs.Runs.{IsRunOf}
+use Rattle.ssa_mean.specs.Runs.{IsRunOf, IsStuck}
 use Rattle.ssa_print.specs.Codes as shown
 use Rattle.ssa_print.specs.Operands.{setting_of}
 use Rattle.ssa_sane.specs.Sane.{IsSane}

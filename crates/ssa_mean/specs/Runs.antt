@@ -87,6 +87,13 @@ pub record IsRunOf (code : Code) (choices : List ℕ) (bound : ℕ) (output : Li
   pub count : ℕ
   pub leads : steps count answers code first ≡ ends ending output
 
+-- a code that comes, on its way, to an instruction at which the definition of runs gives nothing
+pub record IsStuck (code : Code) (choices : List ℕ) (bound : ℕ) (answers : Answers) : Type 0 where
+  pub first : Machine
+  pub begins : first_machine code choices bound ≡ Some first
+  pub count : ℕ
+  pub leads : steps count answers code first ≡ stuck
+
 -- what a run has written when it stands somewhere on its way
 pub record HasWritten (code : Code) (choices : List ℕ) (bound : ℕ) (output : List ℕ) : Type 0 where
   pub answers : Answers
