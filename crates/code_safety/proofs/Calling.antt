@@ -28,44 +28,6 @@ use Rattle.ssa_mean.specs.Step.{Site, acts, makes, unwinds, begins, alone, recov
 use Rattle.ssa_sane.specs.Sane.{is_new}
 use Rattle.ssa_typed.specs.Calls.{fits_call, fits_deferred}
 
--- ---- entries
-
--- the results go to a register of the frame below, which waits for them; a function without a body gives none
-pub enters_safe : (c : Code) → IsSafe c → (t : Typing) (m : Machine) (g : Goroutine) (entry : Entry) → OpenFits c t m
-    → slice_get m.goroutines m.sched.current.number ≡ Some g → LaterFitsWhere c t g.begin → g.fault ≡ None
-    → (fits : FunctionFits c t entry.function entry.free entry.arguments) → AreBelow c t entry.result g.frames
-    → Takes c fits.function entry.result g.frames
-    → (fits.function.kind ≡ kind.External → AreFrames c t g.frames) → Safe c (enters c m entry)
-enters_safe c safe t m g entry fits there begin calm function below takes restored = ?
-
--- ---- calls that were put off
-
--- a built-in function in a frame of its own
-pub alone_safe : (c : Code) → IsSafe c → (answers : Answers) → AreAnswers c.types answers → (t : Typing) (m : Machine)
-    (g : Goroutine) → MachineFits c t m → slice_get m.goroutines m.sched.current.number ≡ Some g → MayThrow c t g.frames
-    → (called : BuiltIn) (items : List Val) → BuiltInFits c t called items None
-    → Safe c (alone answers c m called items)
-alone_safe c safe answers told t m g fits there may called items is = ?
-
-pub makes_safe : (c : Code) → IsSafe c → (answers : Answers) → AreAnswers c.types answers → (t : Typing) (m : Machine)
-    (g : Goroutine) → MachineFits c t m → slice_get m.goroutines m.sched.current.number ≡ Some g → MayThrow c t g.frames
-    → (it : Later) (deferred : Bool) → LaterFits c t it → Safe c (makes answers c m it deferred it.callee)
-makes_safe c safe answers told t m g fits there may it deferred is = ?
-
--- a frame that returns or panics
-pub unwinds_safe : (c : Code) → IsSafe c → (answers : Answers) → AreAnswers c.types answers → (t : Typing) (m : Machine)
-    (g : Goroutine) (top : Frame) (below : List Frame) → OpenFits c t m
-    → slice_get m.goroutines m.sched.current.number ≡ Some g → g.frames ≡ top ∷ below → LaterFitsWhere c t g.begin
-    → g.fault ≡ None → IsTop c t top below → AreBelow c t top.result below → (top.state ≡ running → ⊥)
-    → Safe c (unwinds answers c m g top below top.defers)
-unwinds_safe c safe answers told t m g top below fits there frames begin calm is lower other = ?
-
--- a goroutine without frames
-pub begins_safe : (c : Code) → IsSafe c → (answers : Answers) → AreAnswers c.types answers → (t : Typing) (m : Machine)
-    (g : Goroutine) → MachineFits c t m → slice_get m.goroutines m.sched.current.number ≡ Some g → g.frames ≡ []
-    → Safe c (begins answers c m g g.begin)
-begins_safe c safe answers told t m g fits there none = ?
-
 -- ---- the instructions
 
 pub call_safe : (t : Typing) (s : Site) (instr : Instr) → SiteFits t s instr → (call : Call) → instr.op ≡ op.Call call
