@@ -3,6 +3,7 @@ use Rattle.std.proofs.Common.{◌≡◌, ◌⊎◌, ◌<◌, ℕ, zero, suc, Boo
 use Rattle.code_safety.specs.Runnable.{operands_of, operands_of_call, runs_op, runs_call}
 use Rattle.code_safety.specs.Safety.{IsSafe}
 use Rattle.code_safety.proofs.Machines.{OpenFits, MachineFits, GoroutineFits, FunctionFits, CallFits, CalleeFits, LaterFits, LaterFitsWhere, BuiltInFits, ResultsFitWhere, Takes, AreBelow, AreFrames, IsTop, FrameFits, Safe}
+use Rattle.code_safety.proofs.Readied.{LaterComes, readied_comes, deferred_comes}
 use Rattle.code_safety.proofs.Sites.{SiteFits, Reads}
 use Rattle.code_safety.proofs.Throwing.{MayThrow}
 use Rattle.code_safety.proofs.Values.{Typing, IsOf, AreOf, under_of}
@@ -26,24 +27,6 @@ use Rattle.ssa_mean.specs.State.{BuiltIn, Callee, Later, Frame, Goroutine, Machi
 use Rattle.ssa_mean.specs.Step.{Site, acts, makes, unwinds, begins, alone, recovers}
 use Rattle.ssa_sane.specs.Sane.{is_new}
 use Rattle.ssa_typed.specs.Calls.{fits_call, fits_deferred}
-
--- ---- calls that are readied
-
-abbrev pub LaterComes : Code → Typing → Option TypeId → Comes Later → Type 0
-LaterComes c t of (to it) = CallFits c t of it.callee it.arguments
-LaterComes c t of (faults it) = Unit {0}
-LaterComes c t of nowhere = ⊥
-
-pub readied_comes : (t : Typing) (s : Site) (at : Op) (call : Call) → Reads t s at → operands_of at ≡ operands_of_call call
-    → runs_op s.code s.function at ≡ runs_call s.code s.function call → (of : Option TypeId)
-    → fits_call s.code s.function call of ≡ true → LaterComes s.code t of (readied s.code s.function s.frame call)
-readied_comes t s at call reads same runnable of typed = ?
-
--- one whose result is let go
-pub deferred_comes : (t : Typing) (s : Site) (at : Op) (call : Call) → Reads t s at → operands_of at ≡ operands_of_call call
-    → runs_op s.code s.function at ≡ runs_call s.code s.function call → fits_deferred s.code s.function call ≡ true
-    → LaterComes s.code t None (readied s.code s.function s.frame call)
-deferred_comes t s at call reads same runnable typed = ?
 
 -- ---- entries
 
