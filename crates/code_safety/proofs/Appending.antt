@@ -1,23 +1,20 @@
 -- What is appended to slices, copied to them and cleared in them keeps stores ones of their typings.
-use Rattle.std.proofs.Common.{◌≡◌, ◌⊎◌, inl, inr, ℕ, ℤ, zero, suc, ◌+◌, ◌-◌, ◌*◌, ◌<◌, ◌≤◌, ◌==◌, ◌||◌, min, max, Bool, true, false, List, [], ◌∷◌, ◌++◌, length, map, replicate, take, Option, Some, None, refl, sym, subst, ap, ◌∙◌, slice_get, if◌then◌else◌, nat_lt, nat_le, unwrap_or, arith, true≢false, is_some, leb-true, leb-false, length-append, length-take}
+use Rattle.std.proofs.Common.{◌≡◌, ℕ, zero, suc, ◌+◌, ◌-◌, ◌<◌, ◌≤◌, ◌==◌, ◌||◌, min, Bool, true, false, List, [], ◌∷◌, ◌++◌, length, replicate, take, Option, Some, None, refl, sym, subst, ap, ◌∙◌, if◌then◌else◌, nat_le, unwrap_or, arith, true≢false, leb-true, length-append}
 use Rattle.std.proofs.lemmas.Option.{none-some}
 use Rattle.std.specs.Cmp.{unsigned_Decides}
-use Rattle.code_safety.proofs.Converting.{numbers_fit}
 use Rattle.code_safety.proofs.Growing.{grows_self}
 use Rattle.code_safety.proofs.Lists as lists
-use Rattle.code_safety.proofs.Machines.{GivesOf, DoneFits, DoneComes}
+use Rattle.code_safety.proofs.Machines.{DoneFits, DoneComes}
 use Rattle.code_safety.proofs.Stores.{with_home, home_grows, makes, new_slices, array_fits, elements_are, run_is, writes_run, later_slices}
 use Rattle.code_safety.proofs.Values.{Typing, Home, many, Fits, IsOf, AllOf, Slices, SlicesFrom, IsStore, under_of}
 use Rattle.code_safety.proofs.Zeros.{zeroed_fits}
 use Rattle.go_base.specs.declared.ids.CellId.{CellId}
 use Rattle.go_base.specs.declared.ids.TypeId.{TypeId}
 use Rattle.go_store.specs.Arrays.{array_of}
-use Rattle.go_store.specs.Conversions.{numbers_of}
-use Rattle.go_store.specs.Slices.{later, most_elements, elements_of, run_in, with_run_in, slice_of_new, has_room, grown_capacity, append_fault, appended_slice, grown_array, copy_count, copied}
+use Rattle.go_store.specs.Slices.{later, most_elements, run_in, with_run_in, slice_of_new, has_room, grown_capacity, append_fault, appended_slice, grown_array, copy_count, copied}
 use Rattle.go_store.specs.Stores.{Stored, made}
-use Rattle.go_type.specs.Kinds.{kind_of_term}
 use Rattle.go_type.specs.declared.term.TypeTerm.TheVariants as term
-use Rattle.go_value.specs.Values.{Val, number, slice}
+use Rattle.go_value.specs.Values.{Val, slice}
 use Rattle.go_value.specs.Zeros.{zeroed}
 use Rattle.go_value.specs.declared.address.SliceValue.{SliceValue}
 use Rattle.go_value.specs.declared.faults.Fault.{Fault}
@@ -89,7 +86,7 @@ module _ (c : Code) (t : Typing) (elem : TypeId) where
         by true e = is
         by false e =
             let some : copy_count into from ≡ 0 → ⊥ =
-                λ h. true≢false (sym ((unsigned_Decides (copy_count into from) 0).1 h) ∙ e) in
+            λ h. true≢false (sym ((unsigned_Decides (copy_count into from) 0).1 h) ∙ e) in
             let within : from.len ≤ from.cap = slice_within from.at.cell from.at.path from.len from.cap slices' in
             let most : min into.len from.len ≤ from.len = omega arith in
             let found = run_is c t store is from elem (copy_count into from) slices' (omega arith) (omega arith) in
@@ -111,9 +108,6 @@ module _ (c : Code) (t : Typing) (store : Stored) (is : IsStore c t store) (of e
   slice_is t' new slices = subst (Fits c t' (slice new)) (sym is_slice) slices
 
   module _ (first : Val) (items : List Val) (all : AllOf c t (first ∷ items) elem) where
-
-
-
     -- into the room that there is
     in_room : has_room it (length (first ∷ items)) ≡ true
         → IsStore c t (with_run_in (array_of (first ∷ items)) store (later it.at it.len))
@@ -144,16 +138,17 @@ module _ (c : Code) (t : Typing) (store : Stored) (is : IsStore c t store) (of e
         let spare = replicate (grown - needed) (zeroed first) in
         let together = (found.0 ++ (first ∷ items)) ++ spare in
         let whole : length together ≡ grown =
-            length-append (found.0 ++ (first ∷ items)) spare
-            ∙ ap (λ n. n + length spare) (length-append found.0 (first ∷ items))
-            ∙ ap (λ n. (n + length (first ∷ items)) + length spare) found.1.1.0
-            ∙ ap (λ n. needed + n) (lists.length_replicate (grown - needed) (zeroed first)) ∙ omega arith in
+        length-append (found.0 ++ (first ∷ items)) spare
+        ∙ ap (λ n. n + length spare) (length-append found.0 (first ∷ items))
+        ∙ ap (λ n. (n + length (first ∷ items)) + length spare) found.1.1.0
+        ∙ ap (λ n. needed + n) (lists.length_replicate (grown - needed) (zeroed first)) ∙ omega arith in
         let each = all_append c t elem (found.0 ++ (first ∷ items)) spare
-            (all_append c t elem found.0 (first ∷ items) found.1.1.1 all)
-            (all_same c t elem (grown - needed) (zeroed first) (zeroed_fits c t first (under_of c elem) (all 0 first refl))) in
-        (subst (λ found. IsStore c (with_home home t) (made store (array_of (unwrap_or found [] ++ (first ∷ items) ++ spare))))
-        (sym found.1.0) (makes c t store is (array_of together) home (array_fits c t together elem grown whole each)),
-        new_slices c t store is elem needed grown large)
+        (all_append c t elem found.0 (first ∷ items) found.1.1.1 all)
+        (all_same c t elem (grown - needed) (zeroed first) (zeroed_fits c t first (under_of c elem) (all 0 first refl))) in (
+          subst (λ found. IsStore c (with_home home t) (made store (array_of (unwrap_or found [] ++ (first ∷ items) ++ spare))))
+              (sym found.1.0) (makes c t store is (array_of together) home (array_fits c t together elem grown whole each)),
+          new_slices c t store is elem needed grown large,
+        )
 
     by_room : (none room : Bool) → (length (first ∷ items) == 0) ≡ none → has_room it (length (first ∷ items)) ≡ room
         → append_fault leaves it (length (first ∷ items)) ≡ None
@@ -172,6 +167,7 @@ module _ (c : Code) (t : Typing) (store : Stored) (is : IsStore c t store) (of e
         record {
           typing = t;
           grows = grows_self t;
+          chans = refl;
           is_store = in_room r;
           is_of =
               slice_is t (record { at = it.at; len = it.len + length (first ∷ items); cap = it.cap })
@@ -179,19 +175,20 @@ module _ (c : Code) (t : Typing) (store : Stored) (is : IsStore c t store) (of e
         }
     by_room false false e r h =
         let fits = leb-true (it.len + length (first ∷ items)) (most_elements leaves)
-            (large_enough (length (first ∷ items) == 0) (has_room it (length (first ∷ items)))
-            (nat_le (it.len + length (first ∷ items)) (most_elements leaves)) e r h) in
+        (large_enough (length (first ∷ items) == 0) (has_room it (length (first ∷ items)))
+        (nat_le (it.len + length (first ∷ items)) (most_elements leaves)) e r h) in
         let new = in_new fits in
         record {
           typing = with_home home t;
           grows = home_grows t home;
+          chans = refl;
           is_store = new.0;
           is_of = slice_is (with_home home t) (slice_of_new store (it.len + length (first ∷ items)) grown) new.1;
         }
 
   pub append_comes : (items : List Val) → AllOf c t items elem → DoneComes c t (Some of) (append leaves store it items)
   unfolding grown more
-  append_comes [] all = record { typing = t; grows = grows_self t; is_store = is; is_of = slice_is t it slices }
+  append_comes [] all = record { typing = t; grows = grows_self t; chans = refl; is_store = is; is_of = slice_is t it slices }
   append_comes (first ∷ items) all = by (append_fault leaves it (length (first ∷ items))) refl
     where
       by : (found : Option Fault) → append_fault leaves it (length (first ∷ items)) ≡ found

@@ -1,5 +1,5 @@
 -- Conversions, interfaces and closures.
-use Rattle.std.proofs.Common.{◌≡◌, ◌⊎◌, inl, inr, ◌&&◌, ◌||◌, ◌==◌, not, ℕ, ℤ, zero, suc, Bool, true, false, List, [], ◌∷◌, ◌++◌, Option, Some, None, Ok, Err, refl, sym, subst, subst₂, ap, ◌∙◌, slice_get, is_some, IsTrue, length, map, replicate, take, nat_lt, nat_le, if◌then◌else◌, arith, true≢false}
+use Rattle.std.proofs.Common.{◌≡◌, ◌⊎◌, inl, inr, ◌&&◌, ◌||◌, ◌==◌, not, ℕ, ℤ, zero, suc, Bool, true, false, List, [], ◌∷◌, ◌++◌, Option, Some, None, Ok, Err, refl, sym, subst, subst₂, ap, ◌∙◌, slice_get, is_some, length, map, replicate, nat_lt, nat_le, if◌then◌else◌, arith}
 use Rattle.std.proofs.lemmas.Option.{none-some, get_or_from_slice_get}
 use Rattle.std.specs.Cmp.{unsigned_Decides}
 use Rattle.std.specs.Cmp.Lexicographic.{pointwise}
@@ -8,35 +8,34 @@ use Rattle.std.specs.Option.{option_map, option_and_then, option_map_or}
 use Rattle.code_safety.proofs.Forms.{number_in, number_fits, text_in, slice_in, pointer_in, interface_in, IsInterfaceValue, is_nil, is_dynamic}
 use Rattle.code_safety.proofs.Growing.{grows_self}
 use Rattle.code_safety.proofs.Lists as lists
-use Rattle.code_safety.proofs.Machines.{ValueComes, StoreComes, StoresCome, StoresFit}
+use Rattle.code_safety.proofs.Machines.{ValueComes, StoresCome}
 use Rattle.code_safety.proofs.Operands.{held_is, held_type_is, held_value, type_fits, values_are}
-use Rattle.code_safety.proofs.Sames.{fits_alike, is_of_alike, under_plain, under_twice, held_id, same_alike, changed_alike}
-use Rattle.code_safety.proofs.Shapes.{Like, LikeTerm, Alike, alike_of, alike_under, alike_from}
-use Rattle.code_safety.proofs.Sites.{Reads, Among, HasValue, KnownFits}
+use Rattle.code_safety.proofs.Sames.{fits_alike, is_of_alike, under_plain, under_twice, same_alike, changed_alike}
+use Rattle.code_safety.proofs.Shapes.{Like, Alike, alike_under, alike_from}
+use Rattle.code_safety.proofs.Sites.{Reads, KnownFits}
 use Rattle.code_safety.proofs.Stores.{with_home, home_grows, makes, new_slices, array_fits, elements_are}
 use Rattle.code_safety.proofs.Terms.{never, either, same_is, same_list, alike_lists, alike_all, no_items, one_item, each_passes, there, text_term, interface_term, any_term, character_kind, characters_term, ok_fits}
-use Rattle.code_safety.proofs.Values.{Typing, Home, many, Fits, IsOf, AreOf, Points, PointsAs, Slices, IsStore, HasMethod, HasAll, HasSignature, BoxFits, BinderFits, under_of}
+use Rattle.code_safety.proofs.Values.{Typing, Home, many, Fits, IsOf, AreOf, Points, PointsAs, IsStore, HasMethod, HasAll, HasSignature, BoxFits, BinderFits, under_of}
 use Rattle.code_safety.proofs.Zeros.{zero_fits}
 use Rattle.code_safety.specs.Safety.{IsSafe}
-use Rattle.code_safety.specs.Runnable.{IsBoxed, by_instr, has_method, has_zero, is_method, captures}
+use Rattle.code_safety.specs.Runnable.{IsBoxed, by_instr, has_method, is_method, captures}
 use Rattle.go_base.specs.declared.ids.FuncId.{FuncId}
 use Rattle.go_base.specs.declared.ids.TypeId.{TypeId}
 use Rattle.go_store.specs.Arrays.{array_of}
-use Rattle.go_store.specs.Conversions.{most_bytes, within_limit, numbers_of, new_slice}
-use Rattle.go_store.specs.Slices.{most_leaves, slice_of_new, elements_of}
+use Rattle.go_store.specs.Conversions.{most_bytes, numbers_of}
+use Rattle.go_store.specs.Slices.{most_leaves, slice_of_new}
 use Rattle.go_store.specs.Stores.{Stored, made}
 use Rattle.go_type.specs.Assignable.{Implements, HasMethodsOf, HasMethodOf, underlying_term_of}
 use Rattle.go_type.proofs.IdenticalTypes.{identical_is}
 use Rattle.go_type.specs.Held.{IsHeld}
 use Rattle.go_type.specs.Kinds.{kind_of, kind_of_term}
-use Rattle.go_type.specs.Same.{both, same_id, same_ids, same_id-Decides}
+use Rattle.go_type.specs.Same.{both, same_id, same_ids}
 use Rattle.go_type.specs.Selector.{is_pointer, is_interface, Place, Finds, is_wanted, signature_named, method_named, members_named, members_below, embedded_of, base_by}
-use Rattle.go_type.specs.Table.{Table, term_at, definition_at, underlying_of, id_of, basic_id}
+use Rattle.go_type.specs.Table.{Table, term_at, definition_at, underlying_of, id_of}
 use Rattle.go_type.specs.declared.kinds.IntKind.{IntKind}
 use Rattle.go_type.specs.declared.members.Member.{Member}
 use Rattle.go_type.specs.declared.members.Wanted.{Wanted}
 use Rattle.go_type.specs.declared.methods.SelectionKind.TheVariants as selected
-use Rattle.go_type.specs.declared.term.Basic.TheVariants as basic
 use Rattle.go_type.specs.declared.term.MethodType.{MethodType}
 use Rattle.go_type.specs.declared.term.Signature.{Signature}
 use Rattle.go_type.specs.declared.term.TypeTerm.{TypeTerm}
@@ -45,7 +44,7 @@ use Rattle.go_value.specs.Depths.{depth}
 use Rattle.go_value.specs.Ints.{wrapped}
 use Rattle.go_value.specs.Interfaces.{is_interface_type, converted, not_too_deep, bound_to}
 use Rattle.go_value.specs.Runes.{rune_bytes}
-use Rattle.go_value.specs.Values.{Val, truth, number, text, slice, pointer, closure, bound, dynamic, nil_interface}
+use Rattle.go_value.specs.Values.{Val, number, text, slice, pointer, closure, bound, dynamic}
 use Rattle.go_value.specs.declared.address.Pointer.{Pointer}
 use Rattle.go_value.specs.declared.faults.Fault.TheVariants as fault
 use Rattle.go_value.specs.declared.values.BoundTarget.TheVariants as target
@@ -56,31 +55,30 @@ use Rattle.ssa_ir.specs.declared.code.FunctionKind.{FunctionKind}
 use Rattle.ssa_ir.specs.declared.code.FunctionKind.TheVariants as kind
 use Rattle.ssa_ir.specs.declared.operands.Operand.{Operand}
 use Rattle.ssa_ir.specs.declared.operands.Operand.TheVariants as operand
-use Rattle.ssa_ir.specs.declared.ops.Infix.{Infix}
 use Rattle.ssa_ir.specs.declared.ops.Op.TheVariants as op
 use Rattle.ssa_mean.specs.Answers.{Answers, AreAnswers}
 use Rattle.ssa_mean.specs.Calls.{method_of}
-use Rattle.ssa_mean.specs.Comes.{Comes, to, faults, nowhere, of_option, of_result, then_to, where_some}
-use Rattle.ssa_mean.specs.Conversions.{Stores, kept, conversion, converted_int, slice_of_ints, slice_of_text, text_of_items, spelling, are_bytes}
-use Rattle.ssa_mean.specs.Making.{held_as, held_by, assertion, pointers_of, is_nil_of, bound_method, binds_interface, closed_over}
-use Rattle.ssa_mean.specs.Operands.{values_of, type_of, term_of, under_in, element_in, pointed_length, function_at}
+use Rattle.ssa_mean.specs.Comes.{to, faults, of_result, then_to, where_some}
+use Rattle.ssa_mean.specs.Conversions.{kept, conversion, converted_int, slice_of_ints, slice_of_text, text_of_items, spelling, are_bytes}
+use Rattle.ssa_mean.specs.Making.{held_as, assertion, pointers_of, is_nil_of, bound_method, binds_interface, closed_over}
+use Rattle.ssa_mean.specs.Operands.{values_of, type_of, term_of, under_in, element_in, function_at}
 use Rattle.ssa_mean.specs.Runes.{runes_of}
 use Rattle.ssa_mean.specs.Zeros.{zero_of}
-use Rattle.ssa_mean.specs.Step.{Site, value, with_one, with_two, kind_at, slice_part, look_up, update, convert, make_interface, make_closure, make_slice, make_chan, assert_type, new_cell, new_map}
+use Rattle.ssa_mean.specs.Step.{Site, value, with_one, convert, make_interface, make_closure, assert_type}
 use Rattle.ssa_typed.specs.Conversions.{converts, converts_type, changes, changes_pointer, same_below}
-use Rattle.ssa_typed.specs.Forms.{FitsGiving, fits_alone, fits_giving, Boxes, ImplementsWhere, Widens, Asserts, gives, closes}
+use Rattle.ssa_typed.specs.Forms.{FitsGiving, fits_giving, Boxes, ImplementsWhere, Widens, Asserts, gives, closes}
 use Rattle.ssa_typed.specs.Operands.{known, held_type, is_function_type, is_operand, is_signature, has_constant, address_of, is_value}
 use Rattle.ssa_typed.specs.Operands.{type_of as typed_type, value_of as known_function}
 use Rattle.ssa_typed.specs.declared.known.Known.{Known}
 use Rattle.ssa_typed.specs.declared.known.Known.TheVariants as known_as
 use Rattle.type_shapes.specs.Shapes as shapes
-use Rattle.type_shapes.specs.Shapes.{is_text, is_any, is_character, is_characters, is_state, is_with_ok, parts_of}
+use Rattle.type_shapes.specs.Shapes.{is_text, is_any, is_characters, is_state}
 
 -- ---- conversions
 
 kept_fits : (c : Code) (t : Typing) (store : Stored) → IsStore c t store → (of : TypeId) (v : Val) → IsOf c t v of
     → StoresCome c t of (to (kept store v))
-kept_fits c t store is of v fits = record { typing = t; grows = grows_self t; is_store = is; is_of = fits }
+kept_fits c t store is of v fits = record { typing = t; grows = grows_self t; chans = refl; is_store = is; is_of = fits }
 
 text_fits : (c : Code) (t : Typing) (bytes : List ℕ) (of : Option TypeTerm) → is_text of ≡ true → Fits c t (text bytes) of
 text_fits c t bytes of h = subst (Fits c t (text bytes)) (sym (text_term of h)) tt
@@ -119,6 +117,7 @@ module _ (c : Code) (t : Typing) (store : Stored) (is : IsStore c t store) (of :
       by false = record {
         typing = with_home home t;
         grows = home_grows t home;
+        chans = refl;
         is_store =
             makes c t store is (array_of (map number ints)) home
             (array_fits c t (map number ints) elem count (length_map number ints) (numbers_fit c t elem kind ints));
@@ -326,9 +325,11 @@ implements_term types from _ h = absurd h
 pub boxed_fits : (c : Code) (t : Typing) → IsSafe c → (from of : TypeId) (v : Val) → IsBoxed c from → Implements c.types from of
     → IsOf c t v from → IsOf c t (dynamic from v) of
 boxed_fits c t safe from of v boxed implements fits =
-    let is = implements_term c.types from (under_of c of) implements in
-    (subst (BoxFits c from) (sym is.1)
-    (boxed, methods_have c safe.held from is.0 (safe.runnable.methods from of is.0 boxed implements is.1)), fits)
+    let is = implements_term c.types from (under_of c of) implements in (
+      subst (BoxFits c from) (sym is.1)
+          (boxed, methods_have c safe.held from is.0 (safe.runnable.methods from of is.0 boxed implements is.1)),
+      fits,
+    )
 
 -- ---- values put into interfaces
 
@@ -390,18 +391,20 @@ module _ (c : Code) (t : Typing) (held : IsHeld c.types) (f : Function) (it : Op
   boxes : (k : Known) → known c f it ≡ Some k → KnownFits c t k v → Boxes c.types (Some k) of
       → (is_interface_type c.types from ≡ false) × (Implements c.types from of ⊎ (is_any (under_of c of) ≡ true))
   boxes (known_as.Held given) e same box =
-      let one : given ≡ from = lists.some_same given from (sym (held_type_is c f it given e) ∙ is) in
-      (no_interface (under_of c from)
-      (subst (λ given. not (shapes.is_interface (under_of c given)) ≡ true) one
-      (both (not (shapes.is_interface (under_of c given))) (not (is_state (under_of c given))) box.0).0),
-      inl (subst (λ given. Implements c.types given of) one box.1))
+      let one : given ≡ from = lists.some_same given from (sym (held_type_is c f it given e) ∙ is) in (
+        no_interface (under_of c from)
+            (subst (λ given. not (shapes.is_interface (under_of c given)) ≡ true) one
+            (both (not (shapes.is_interface (under_of c given))) (not (is_state (under_of c given))) box.0).0),
+        inl (subst (λ given. Implements c.types given of) one box.1),
+      )
   boxes (known_as.Function id) e same box =
       (closure_is_none c t id (under_of c from) (subst (λ v. IsOf c t v from) same.0 fits), inr box)
   boxes (known_as.Address base) e same (inl box) =
       (pointer_is_none c t same.0 (under_of c from) (subst (λ v. IsOf c t v from) same.1.0 fits), inr box)
-  boxes (known_as.Address base) e same (inr box) =
-      (pointer_is_none c t same.0 (under_of c from) (subst (λ v. IsOf c t v from) same.1.0 fits),
-      inl (subst (λ from. ImplementsWhere c.types from of) (sym (address_type c f it base e) ∙ is) box))
+  boxes (known_as.Address base) e same (inr box) = (
+    pointer_is_none c t same.0 (under_of c from) (subst (λ v. IsOf c t v from) same.1.0 fits),
+    inl (subst (λ from. ImplementsWhere c.types from of) (sym (address_type c f it base e) ∙ is) box),
+  )
 
 -- the code puts the operand's type into interfaces
 pub make_interface_comes : (t : Typing) (s : Site) (into : TypeId) (it : Operand) → Reads t s (op.MakeInterface into it)
@@ -423,9 +426,11 @@ make_interface_comes t s into it reads of typed = by (known s.code s.function it
     into_fits : (v : Val) → IsOf s.code t v from.0 → IsBoxed s.code from.0
         → Implements s.code.types from.0 of ⊎ (is_any (under_of s.code of) ≡ true) → IsOf s.code t (dynamic from.0 v) of
     into_fits v fits boxed (inl implements) = boxed_fits s.code t reads.safe from.0 of v boxed implements fits
-    into_fits v fits boxed (inr any) =
-        (subst (BoxFits s.code from.0) (sym (any_term (under_of s.code of) any))
-        (boxed, λ n method is. absurd (none-some method is)), fits)
+    into_fits v fits boxed (inr any) = (
+      subst (BoxFits s.code from.0) (sym (any_term (under_of s.code of) any))
+          (boxed, λ n method is. absurd (none-some method is)),
+      fits,
+    )
 
     by_depth : (v : Val) → IsOf s.code t (dynamic from.0 v) of → (deep : Bool)
         → ValueComes s.code t of (of_result (if deep then Err fault.TooDeep else Ok (dynamic from.0 v)))
@@ -654,11 +659,14 @@ module _ (c : Code) (t : Typing) where
       let split = both (is_pointer (under_of c of)) (list_all (λ of. is_pointer (underlying_term_of c.types of)) ids) h in
       let base = pointer_of (under_of c of) split.0 in
       let one = pointer_in c t v base.0 (subst (Fits c t v) base.1 are.0) in
-      let rest = pointers_are items ids are.1 split.1 in
-      (one.0 ∷ rest.0,
-      (subst (λ v. pointers_of (v ∷ items) ≡ Some (one.0 ∷ rest.0)) (sym one.1.0)
-      (ap (option_map (λ all. one.0 ∷ all)) rest.1.0),
-      (subst (PointsAs c t one.0) (sym base.1) one.1.1, rest.1.1)))
+      let rest = pointers_are items ids are.1 split.1 in (
+        one.0 ∷ rest.0,
+        (
+          subst (λ v. pointers_of (v ∷ items) ≡ Some (one.0 ∷ rest.0)) (sym one.1.0)
+              (ap (option_map (λ all. one.0 ∷ all)) rest.1.0),
+          (subst (PointsAs c t one.0) (sym base.1) one.1.1, rest.1.1),
+        ),
+      )
   pointers_are [] (of ∷ ids) are h = absurd are
   pointers_are (v ∷ items) [] are h = absurd are
 
@@ -672,9 +680,14 @@ module _ (c : Code) (t : Typing) where
         by_depth : (deep : Bool)
             → ValueComes c t of (of_result (if deep then Err fault.TooDeep else Ok (bound (target.Function id) v)))
         by_depth true = tt
-        by_depth false =
-            (receiver, (subst (BinderFits c receiver (target.Function id)) (sym is_term)
-            (record { function = f; there = is; free = free; has = has }), are.0))
+        by_depth false = (
+          receiver,
+          (
+            subst (BinderFits c receiver (target.Function id)) (sym is_term)
+                (record { function = f; there = is; free = free; has = has }),
+            are.0,
+          ),
+        )
 
         by_nil : (b : Bool)
             → ValueComes c t of (if b then faults fault.NilPointer else of_result (bound_to (target.Function id) v))

@@ -110,7 +110,7 @@ chan_in c t _ way elem h = absurd h
 
 -- a function value
 pub data IsFunctionValue (c : Code) (t : Typing) (signature : Signature) : Val → Type 0 where
-  is_nil : IsFunctionValue c t signature nil_function
+  nil_value : IsFunctionValue c t signature nil_function
   is_closure : (id : FuncId) (captured : List Pointer) → IsClosure c t id captured signature
       → IsFunctionValue c t signature (closure id captured)
   is_bound : (target : BoundTarget) (receiver : Val) (of : TypeId) → BindsFor c of signature target → IsOf c t receiver of
@@ -118,7 +118,7 @@ pub data IsFunctionValue (c : Code) (t : Typing) (signature : Signature) : Val �
 
 pub function_in : (c : Code) (t : Typing) (it : Val) (signature : Signature) → Fits c t it (Some (term.Func signature))
     → IsFunctionValue c t signature it
-function_in c t nil_function signature h = is_nil
+function_in c t nil_function signature h = nil_value
 function_in c t (closure id captured) signature h = is_closure id captured h
 function_in c t (bound target receiver) signature h = is_bound target receiver h.0 h.1.0 h.1.1
 function_in c t (dynamic from it) signature h = absurd h.0

@@ -175,37 +175,43 @@ constant_operand c t it of k meaning h = by (has_constant c.types it of) refl h
         }
     by false is h = absurd (none-some k h)
 
--- each operand of an instruction that is no phi has a value
-operand_has : (t : Typing) (s : Site) (instr : Instr) → SiteFits t s instr → (it : Operand)
-    → Among it (operands_of instr.op) → HasValue t s it
-operand_has t s instr site (operand.Param n) among k h =
+-- an operand has a value, where its register is written
+pub operand_reads : (t : Typing) (s : Site) (instr : Instr) → SiteFits t s instr → (it : Operand)
+    → ((register : ℕ) → it ≡ operand.Register register → IsWritten s.frame register) → has_meaning s.code it ≡ true
+    → HasValue t s it
+operand_reads t s instr site (operand.Param n) written meaning k h =
     held_value s.code t s.function.params s.frame.parameters site.fits.parameters n k h
-operand_has t s instr site (operand.Free n) among k h =
+operand_reads t s instr site (operand.Free n) written meaning k h =
     held_value s.code t s.function.free s.frame.free site.fits.free n k h
-operand_has t s instr site (operand.Register n) among k h = by (slice_get s.function.registers n) refl h
+operand_reads t s instr site (operand.Register n) written meaning k h = by (slice_get s.function.registers n) refl h
   where
-    written : IsWritten s.frame n
-    written =
-        operand_written s.function s.frame instr.op site.stands
-        (no_phi s.function s.frame instr site.stands site.at site.sane) site.sane.operands (operand.Register n) among n refl
+    there : IsWritten s.frame n
+    there = written n refl
     by : (found : Option TypeId) → slice_get s.function.registers n ≡ found → type_of found ≡ Some k
         → Valued s.code t k (option_flatten (slice_get s.frame.registers n))
     by None e h = absurd (none-some k h)
     by (Some of) e h =
         record {
-          it = written.it;
-          is = ap option_flatten written.there;
-          fits = subst (λ k. KnownFits s.code t k written.it) (some_same (known_as.Held of) k h)
-              (site.fits.registers n written.it of written.there e);
+          it = there.it;
+          is = ap option_flatten there.there;
+          fits = subst (λ k. KnownFits s.code t k there.it) (some_same (known_as.Held of) k h)
+              (site.fits.registers n there.it of there.there e);
         }
-operand_has t s instr site (operand.Function id) among k h =
+operand_reads t s instr site (operand.Function id) written meaning k h =
     function_value s.code t id k (function_at s.code id) refl h
-operand_has t s instr site (operand.Variable variable) among k h =
+operand_reads t s instr site (operand.Variable variable) written meaning k h =
     variable_value s.code t site.machine.variables variable k (slice_get s.code.variables variable.number) refl h
-operand_has t s instr site (operand.Constant it of) among k h =
-    constant_operand s.code t it of k
-    (meant s.code (operands_of instr.op) (operand.Constant it of) among
-    (both (runs_op s.code s.function instr.op) (list_all (has_meaning s.code) (operands_of instr.op)) site.runnable).1) h
+operand_reads t s instr site (operand.Constant it of) written meaning k h = constant_operand s.code t it of k meaning h
+
+-- each operand of an instruction that is no phi has a value
+operand_has : (t : Typing) (s : Site) (instr : Instr) → SiteFits t s instr → (it : Operand)
+    → Among it (operands_of instr.op) → HasValue t s it
+operand_has t s instr site it among =
+    operand_reads t s instr site it
+    (λ register is. operand_written s.function s.frame instr.op site.stands
+    (no_phi s.function s.frame instr site.stands site.at site.sane) site.sane.operands it among register is)
+    (meant s.code (operands_of instr.op) it among
+    (both (runs_op s.code s.function instr.op) (list_all (has_meaning s.code) (operands_of instr.op)) site.runnable).1)
 
 -- operands of an instruction can be read
 pub site_reads : (t : Typing) (s : Site) (instr : Instr) → SiteFits t s instr → Reads t s instr.op

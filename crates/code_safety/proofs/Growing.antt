@@ -1,7 +1,7 @@
 -- What fits under a typing fits under all that it grows to.
 use Rattle.std.proofs.Common.{◌≡◌, ℕ, zero, suc, List, [], ◌∷◌, length, Option, Some, None, ap, refl, sym, ◌∙◌, slice_get}
 use Rattle.std.specs.List.{AllZip}
-use Rattle.code_safety.proofs.Machines.{FrameFits, AreBelow, AreFrames, GoroutineFits, BuiltInFits, closes, panics, recovers, works, CalleeFits, LaterFits, LaterFitsWhere, ThrownFits, StateFits, ChannelFits, SchedFits}
+use Rattle.code_safety.proofs.Machines.{FrameFits, AreBelow, AreFrames, GoOn, GoroutineFits, BuiltInFits, closes, panics, recovers, works, CalleeFits, LaterFits, LaterFitsWhere, ThrownFits, StateFits, ChannelFits, SchedFits}
 use Rattle.code_safety.proofs.Shapes.{zip_map}
 use Rattle.code_safety.proofs.Values.{Typing, Grows, Home, one, many, MapHome, Fits, PartsFit, IsOf, AreOf, HomeFits, EntriesFit, PointsFrom, PointsAs, SlicesFrom, SliceFits, MapNumberFits, ChanNumberFits, ClosureFits, MapRangeFits, under_of}
 use Rattle.go_base.specs.declared.ids.CellId.{CellId}
@@ -15,6 +15,7 @@ use Rattle.go_sched.specs.Goroutines.{State}
 use Rattle.go_type.specs.declared.term.TypeTerm.{TypeTerm}
 use Rattle.go_type.specs.declared.term.TypeTerm.TheVariants as term
 use Rattle.go_value.specs.Values.{Val, Parts, none, part, truth, number, text, pointer, slice, map_number, chan_number}
+use Rattle.go_value.specs.declared.faults.Fault.{Fault}
 use Rattle.go_value.specs.Values.{nil_function, closure, bound, expression, nil_interface, dynamic, parts, text_range, map_range}
 use Rattle.go_value.specs.declared.address.Pointer.{Pointer}
 use Rattle.go_value.specs.declared.address.SliceValue.{SliceValue}
@@ -240,12 +241,24 @@ frames_grow c t t' g (top ∷ below) h =
     },
     below_grow c t t' g top.result below h.1)
 
+go_on_grow : (c : Code) (t t' : Typing) → Grows t t' → (it : Option Fault) (frames : List Frame) → GoOn c t it frames
+    → GoOn c t' it frames
+go_on_grow c t t' g None frames h = frames_grow c t t' g frames h
+go_on_grow c t t' g (Some it) [] h = tt
+go_on_grow c t t' g (Some it) (top ∷ below) h =
+    record {
+      function = h.function;
+      fits = frame_grows c t t' g h.function top h.fits;
+      begun = h.begun;
+      takes = h.takes;
+      lower = below_grow c t t' g top.result below h.lower;
+    }
+
 pub goroutine_grows : (c : Code) (t t' : Typing) → Grows t t' → (it : Goroutine) → GoroutineFits c t it → GoroutineFits c t' it
 goroutine_grows c t t' g it h =
     record {
-      frames = frames_grow c t t' g it.frames h.frames;
+      frames = go_on_grow c t t' g it.fault it.frames h.frames;
       begin = later_where_grows c t t' g it.begin h.begin;
-      ready = h.ready;
     }
 
 -- ---- channels, where there are no new ones

@@ -25,6 +25,8 @@ pub mod Throwing
 pub mod Outcomes
 pub mod Waiting
 pub mod Going
+pub mod Readied
+pub mod Entering
 pub mod Calling
 pub mod Jumping
 pub mod Stepping

@@ -234,21 +234,26 @@ abbrev pub LaterFitsWhere : Code → Typing → Option Later → Type 0
 LaterFitsWhere c t None = Unit {0}
 LaterFitsWhere c t (Some it) = LaterFits c t it
 
--- a fault that waits is met by a frame that has begun
-pub record HasBegun (c : Code) (frame : Frame) : Type 0 where
+-- a frame that may panic, with those below it
+pub record MayPanic (c : Code) (t : Typing) (top : Frame) (below : List Frame) : Type 0 where
   pub function : Function
-  pub there : function_at c frame.function ≡ Some function
-  pub begun : IsBegun function frame
+  pub fits : FrameFits c t function top
+  pub begun : IsBegun function top
+  pub takes : Takes c function top.result below
+  pub lower : AreBelow c t top.result below
 
-abbrev pub IsReady : Code → Option Fault → List Frame → Type 0
-IsReady c None frames = Unit {0}
-IsReady c (Some it) [] = Unit {0}
-IsReady c (Some it) (top ∷ below) = HasBegun c top
+abbrev pub MayThrow : Code → Typing → List Frame → Type 0
+MayThrow c t [] = Unit {0}
+MayThrow c t (top ∷ below) = MayPanic c t top below
+
+-- the frames of a goroutine as it goes on: where a fault waits it is met, wherever the top frame stands
+abbrev pub GoOn : Code → Typing → Option Fault → List Frame → Type 0
+GoOn c t None frames = AreFrames c t frames
+GoOn c t (Some it) frames = MayThrow c t frames
 
 pub record GoroutineFits (c : Code) (t : Typing) (g : Goroutine) : Type 0 where
-  pub frames : AreFrames c t g.frames
+  pub frames : GoOn c t g.fault g.frames
   pub begin : LaterFitsWhere c t g.begin
-  pub ready : IsReady c g.fault g.frames
 
 -- ---- goroutines that wait
 
@@ -259,6 +264,7 @@ pub record WaitsAt (c : Code) (goroutines : List Goroutine) (number : ℕ) : Typ
   pub top : Frame
   pub below : List Frame
   pub frames : g.frames ≡ top ∷ below
+  pub calm : g.fault ≡ None
   pub runs : top.state ≡ running
   pub function : Function
   pub is_function : function_at c top.function ≡ Some function

@@ -48,7 +48,7 @@ pub some_of : {A : Type 0} (it : Option A) → is_some it ≡ true → (x : A) �
 some_of None h = absurd (true≢false (sym h))
 some_of (Some x) h = (x, refl)
 
-points_to : (of : Option TypeTerm) (base : TypeId) → is_pointer_to of base ≡ true → of ≡ Some (term.Pointer base)
+pub points_to : (of : Option TypeTerm) (base : TypeId) → is_pointer_to of base ≡ true → of ≡ Some (term.Pointer base)
 points_to (Some (term.Pointer other)) base h = ap (λ id. Some (term.Pointer id)) ((same_id-Decides other base).0 h)
 points_to _ base h = absurd (true≢false (sym h))
 

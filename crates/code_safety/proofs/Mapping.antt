@@ -1,5 +1,5 @@
 -- Lookups and updates of maps.
-use Rattle.std.proofs.Common.{◌≡◌, ◌⊎◌, inl, inr, ℕ, zero, suc, Bool, true, false, List, [], ◌∷◌, ◌++◌, Option, Some, None, refl, sym, subst, ap, ◌∙◌, slice_get, is_some, IsTrue, map}
+use Rattle.std.proofs.Common.{◌≡◌, ◌⊎◌, inl, inr, ℕ, zero, suc, Bool, true, false, List, [], ◌∷◌, Option, Some, None, refl, sym, subst, ap, ◌∙◌, slice_get, is_some, IsTrue, map}
 use Rattle.std.proofs.lemmas.Option.{none-some}
 use Rattle.std.specs.List.{AllZip}
 use Rattle.std.specs.Option.{option_map, option_and_then}
@@ -17,25 +17,45 @@ use Rattle.go_base.specs.declared.ids.MapId.{MapId}
 use Rattle.go_base.specs.declared.ids.TypeId.{TypeId}
 use Rattle.go_maps.specs.Entries.{Map as Entries, Pair, entry_at, joined, place_of, value_at, value_of_key, changed, with_value, with_pair, with_pair_at, without_key, without_at, cleared}
 use Rattle.go_maps.specs.Keys.{unhashable}
-use Rattle.go_maps.specs.Maps.{map_in as entries_in, or_none, put_fault}
+use Rattle.go_maps.specs.Maps.{map_in as entries_in, or_none}
 use Rattle.go_store.specs.Stores.{Stored}
 use Rattle.go_type.specs.Held.{IsHeld}
 use Rattle.go_type.specs.Same.{both}
 use Rattle.go_type.specs.declared.term.TypeTerm.{TypeTerm}
 use Rattle.go_type.specs.declared.term.TypeTerm.TheVariants as term
-use Rattle.go_value.specs.Values.{Val, map_number}
+use Rattle.go_value.specs.Values.{Val}
 use Rattle.go_value.specs.declared.faults.Fault.{Fault}
 use Rattle.ssa_ir.specs.declared.code.Code.{Code}
 use Rattle.ssa_ir.specs.declared.operands.Operand.{Operand}
 use Rattle.ssa_ir.specs.declared.ops.Op.TheVariants as op
-use Rattle.ssa_mean.specs.Comes.{to, nowhere, then_to, where_some}
+use Rattle.ssa_mean.specs.Comes.{to, then_to, where_some}
 use Rattle.ssa_mean.specs.Making.{value_or}
 use Rattle.ssa_mean.specs.MapCalls.{map_changed, unless_fault, looked_up, updated, deleted}
-use Rattle.ssa_mean.specs.Operands.{element_in, element_type, under, term_of}
+use Rattle.ssa_mean.specs.Operands.{element_in, element_type}
 use Rattle.ssa_mean.specs.Step.{Site, value, with_one, with_two, look_up, update}
-use Rattle.ssa_mean.specs.Zeros.{zero_of, zero_where}
+use Rattle.ssa_mean.specs.Zeros.{zero_where}
 use Rattle.ssa_typed.specs.Forms.{FitsGiving, fits_alone, fits_giving, looks_up, updates, gives}
 use Rattle.ssa_typed.specs.Operands.{shape, is_operand}
+
+-- ---- lists
+
+-- an item of a list in which one is changed
+changed_get : {A : Type 0} (f : A → A) (items : List A) (k n : ℕ) (y : A) → slice_get (changed f items k) n ≡ Some y
+    → (slice_get items n ≡ Some y) ⊎ ((x : A) × ((slice_get items n ≡ Some x) × (f x ≡ y)))
+changed_get f [] k n y h = inl h
+changed_get f (x ∷ items) zero zero y h = inr (x, (refl, lists.some_same (f x) y h))
+changed_get f (x ∷ items) zero (suc n) y h = inl h
+changed_get f (x ∷ items) (suc k) zero y h = inl h
+changed_get f (x ∷ items) (suc k) (suc n) y h = changed_get f items k n y h
+
+zip_changed : {A B : Type 0} (R : A → B → Type 0) (f : A → A) (xs : List A) (ys : List B) (n : ℕ) (y : B) → AllZip R xs ys
+    → slice_get ys n ≡ Some y → ((x : A) → R x y → R (f x) y) → AllZip R (changed f xs n) ys
+zip_changed R f [] [] n y h is each = tt
+zip_changed R f (x ∷ xs) (z ∷ ys) zero y h is each =
+    (subst (R (f x)) (sym (lists.some_same z y is)) (each x (subst (R x) (lists.some_same z y is) h.0)), h.1)
+zip_changed R f (x ∷ xs) (z ∷ ys) (suc n) y h is each = (h.0, zip_changed R f xs ys n y h.1 is each)
+zip_changed R f [] (z ∷ ys) n y h is each = absurd h
+zip_changed R f (x ∷ xs) [] n y h is each = absurd h
 
 -- ---- entries
 
@@ -46,9 +66,10 @@ module _ (c : Code) (t : Typing) where
   entry_fits store is None by elem fits n pair h = absurd (none-some (Some pair) h)
   entry_fits store is (Some id) by elem fits n pair h =
       let found = lists.zip_right (EntriesFit c t) store.maps t.maps is.maps id.number fits.home fits.there in
-      let one = found.1.1 n pair (subst (λ all. slice_get (or_none all) n ≡ Some (Some pair)) found.1.0 h) in
-      (is_of_alike c t pair.key fits.home.key by fits.same_key one.key,
-      is_of_alike c t pair.value fits.home.elem elem fits.same_elem one.value)
+      let one = found.1.1 n pair (subst (λ all. slice_get (or_none all) n ≡ Some (Some pair)) found.1.0 h) in (
+        is_of_alike c t pair.key fits.home.key by fits.same_key one.key,
+        is_of_alike c t pair.value fits.home.elem elem fits.same_elem one.value,
+      )
 
   entry_there : (entries : Entries) (n : ℕ) (pair : Pair) → entry_at entries n ≡ Some pair → slice_get entries n ≡ Some (Some pair)
   entry_there entries n pair h = by (slice_get entries n) refl h
@@ -80,24 +101,6 @@ module _ (c : Code) (t : Typing) where
       at (Some n) h = at_entry n (entry_at (entries_in store.maps id) n) refl h
 
   -- ---- changes
-
-  -- an item of a list in which one is changed
-  changed_get : {A : Type 0} (f : A → A) (items : List A) (k n : ℕ) (y : A) → slice_get (changed f items k) n ≡ Some y
-      → (slice_get items n ≡ Some y) ⊎ ((x : A) × ((slice_get items n ≡ Some x) × (f x ≡ y)))
-  changed_get f [] k n y h = inl h
-  changed_get f (x ∷ items) zero zero y h = inr (x, (refl, lists.some_same (f x) y h))
-  changed_get f (x ∷ items) zero (suc n) y h = inl h
-  changed_get f (x ∷ items) (suc k) zero y h = inl h
-  changed_get f (x ∷ items) (suc k) (suc n) y h = changed_get f items k n y h
-
-  zip_changed : {A B : Type 0} (R : A → B → Type 0) (f : A → A) (xs : List A) (ys : List B) (n : ℕ) (y : B) → AllZip R xs ys
-      → slice_get ys n ≡ Some y → ((x : A) → R x y → R (f x) y) → AllZip R (changed f xs n) ys
-  zip_changed R f [] [] n y h is each = tt
-  zip_changed R f (x ∷ xs) (z ∷ ys) zero y h is each =
-      (subst (R (f x)) (sym (lists.some_same z y is)) (each x (subst (R x) (lists.some_same z y is) h.0)), h.1)
-  zip_changed R f (x ∷ xs) (z ∷ ys) (suc n) y h is each = (h.0, zip_changed R f xs ys n y h.1 is each)
-  zip_changed R f [] (z ∷ ys) n y h is each = absurd h
-  zip_changed R f (x ∷ xs) [] n y h is each = absurd h
 
   -- a store with the entries of a map changed
   pub changes_map : (store : Stored) → IsStore c t store → (change : Entries → Entries) (id : MapId) (home : MapHome)
@@ -226,8 +229,8 @@ look_up_comes t s it key comma_ok reads of typed = by (shape s.code s.function i
         let map = map_in s.code t found.0 index elem found.1.1 in
         let at = operand_value t s reads.safe.held key (reads.values key (inr (inl refl))) index split.0 in
         let unheld = zero_fits s.code t elem other.0
-            (subst (λ u. zero_where s.code (element_in u) ≡ Some other.0)
-            (shape_term s.code s.function it (term.Map index elem) e) other.1) in
+        (subst (λ u. zero_where s.code (element_in u) ≡ Some other.0)
+        (shape_term s.code s.function it (term.Map index elem) e) other.1) in
         subst (λ found. ValueComes s.code t of (where_some (λ a. where_some (λ b. look_up s it comma_ok a b) (value s key)) found))
         (sym found.1.0)
         (subst (λ found'. ValueComes s.code t of (where_some (λ b. look_up s it comma_ok found.0 b) found')) (sym at.1.0)

@@ -2,7 +2,7 @@
 use Rattle.std.proofs.Common.{◌≡◌, ◌⊎◌, ⊎_elim, ◌<◌, arith, ℕ, List, [], ◌∷◌, ◌++◌, length, length-append, Option, Some, None, sym, subst, ap, ◌∙◌, slice_get, slice_set}
 use Rattle.code_safety.proofs.Growing.{goroutine_grows, sched_grows}
 use Rattle.code_safety.proofs.Lists.{get_set, get_set_other, length_set, get_front, get_either, get_below, some_same}
-use Rattle.code_safety.proofs.Machines.{OpenFits, MachineFits, GoroutineFits, AreFrames, LaterFitsWhere, IsReady, SchedFits, ChannelFits, HasVariables, StartFits, WaitsAt, IsIn}
+use Rattle.code_safety.proofs.Machines.{OpenFits, MachineFits, GoroutineFits, AreFrames, LaterFitsWhere, GoOn, SchedFits, ChannelFits, HasVariables, StartFits, WaitsAt, IsIn}
 use Rattle.code_safety.proofs.Members.{same_or_other, in_left, in_split}
 use Rattle.code_safety.proofs.Values.{Typing, Grows, one, IsStore}
 use Rattle.go_base.specs.declared.ids.FuncId.{FuncId}
@@ -10,6 +10,7 @@ use Rattle.go_base.specs.declared.ids.TypeId.{TypeId}
 use Rattle.go_sched.specs.Channels.{Chan}
 use Rattle.go_sched.specs.Goroutines.{State, spawned}
 use Rattle.go_store.specs.Stores.{Stored}
+use Rattle.go_value.specs.declared.faults.Fault.{Fault}
 use Rattle.ssa_ir.specs.declared.code.Code.{Code}
 use Rattle.ssa_mean.specs.State.{Frame, Goroutine, Machine, with_current, with_frames}
 
@@ -24,6 +25,7 @@ waits_with c goroutines n k g other waits =
       top = waits.top;
       below = waits.below;
       frames = waits.frames;
+      calm = waits.calm;
       runs = waits.runs;
       function = waits.function;
       is_function = waits.is_function;
@@ -98,7 +100,11 @@ pub frames_closed : (c : Code) (t : Typing) (m : Machine) (g : Goroutine) (frame
     → AreFrames c t frames → MachineFits c t (with_frames g frames m)
 frames_closed c t m g frames there fits begin calm are =
     closed_with c t m g (record g { frames = frames }) there fits
-    (record { frames = are; begin = begin; ready = subst (λ f. IsReady c f frames) (sym calm) tt }) calm
+    (record { frames = subst (λ (f : Option Fault). GoOn c t f frames) (sym calm) are; begin = begin }) calm
+
+-- the frames of the goroutine that runs
+pub frames_of : (c : Code) (t : Typing) (m : Machine) → (fits : MachineFits c t m) → AreFrames c t fits.g.frames
+frames_of c t m fits = subst (λ (f : Option Fault). GoOn c t f fits.g.frames) fits.calm fits.fits.frames
 
 -- ---- the rest changes
 
@@ -138,6 +144,7 @@ waits_more c goroutines k g waits =
       top = waits.top;
       below = waits.below;
       frames = waits.frames;
+      calm = waits.calm;
       runs = waits.runs;
       function = waits.function;
       is_function = waits.is_function;

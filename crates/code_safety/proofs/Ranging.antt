@@ -2,7 +2,7 @@
 use Rattle.std.proofs.Common.{◌≡◌, ℕ, ℤ, pos, zero, suc, ◌+◌, ◌-◌, ◌<◌, Bool, true, false, ◌&&◌, cond, List, [], ◌∷◌, reverse, length, Option, Some, None, refl, sym, subst, ap, ◌∙◌, inl, slice_get, is_some, if◌then◌else◌, nat_lt, nat_le, arith}
 use Rattle.std.proofs.lemmas.Option.{none-some, get_or_from_slice_get}
 use Rattle.std.specs.Prelude.{drop, slice_index, option_map, ◌++◌}
-use Rattle.std.specs.List.{filter, list_all}
+use Rattle.std.specs.List.{filter}
 use Rattle.std.specs.Option.{option_and_then}
 use Rattle.code_safety.proofs.Forms.{number_fits, text_in, map_in}
 use Rattle.code_safety.proofs.Lists as lists
@@ -46,15 +46,14 @@ use Rattle.ssa_ir.specs.declared.ops.Op.TheVariants as op
 use Rattle.ssa_mean.specs.Comes.{of_option, where_some}
 use Rattle.ssa_mean.specs.MapCalls.{entries_of}
 use Rattle.ssa_mean.specs.Operands.{function_at, term_of, under}
-use Rattle.ssa_mean.specs.Ranges.{Turn, Drawn, range_of, ranged, next_turn, turn_of, text_turn, is_standing, first_drawn, drawn_among, drawn_at, drawn, sched_after, turn_with, map_turn, key_in, value_in}
+use Rattle.ssa_mean.specs.Ranges.{Turn, range_of, ranged, next_turn, turn_of, text_turn, is_standing, first_drawn, drawn_among, drawn, sched_after, turn_with, map_turn}
 use Rattle.ssa_mean.specs.Runes.{first_rune}
 use Rattle.ssa_mean.specs.Step.{Site, value, with_one}
-use Rattle.ssa_mean.specs.Zeros.{zero_of, zero_where}
+use Rattle.ssa_mean.specs.Zeros.{zero_of}
 use Rattle.ssa_typed.specs.Forms.{FitsGiving, fits_giving, is_ranged, is_iter_of, steps, steps_over, has_steps, has_items}
 use Rattle.ssa_typed.specs.Operands.{known, held_type, shape, is_known, is_value, has_constant, address_of}
 use Rattle.ssa_typed.specs.Operands.{type_of as typed_type, value_of as known_function}
 use Rattle.ssa_typed.specs.Typed.{IsTypedFunction, are_value_types}
-use Rattle.ssa_typed.specs.declared.known.Known.{Known}
 use Rattle.ssa_typed.specs.declared.known.Known.TheVariants as known_as
 use Rattle.type_shapes.specs.Shapes as shapes
 use Rattle.type_shapes.specs.Shapes.{is_value_type, is_text, is_truth, has_nil, parts_of}
@@ -178,8 +177,8 @@ module _ (entries : Map) where
       let below : place < length (k ∷ others) = omega arith in
       let found = lists.below_get (k ∷ others) place below in
       let same : found.0 ≡ n =
-          sym (get_or_from_slice_get (k ∷ others) place found.0 0 found.1)
-          ∙ lists.some_same (slice_index (k ∷ others) place) n h in
+      sym (get_or_from_slice_get (k ∷ others) place found.0 0 found.1)
+      ∙ lists.some_same (slice_index (k ∷ others) place) n h in
       subst (λ n. is_standing entries n ≡ true) same (each place found.0 found.1)
 
   drawn_stands : (sched : State) (left : List ℕ) (n : ℕ) → (drawn sched entries left).entry ≡ Some n
@@ -207,82 +206,87 @@ pub record IsTuple (c : Code) (of more first second : TypeId) : Type 0 where
   pub truth : more ≡ basic_id basic.Bool
 
 module _ (c : Code) (t : Typing) (held : IsHeld c.types) (of more first second : TypeId) (tuple : IsTuple c of more first second)
-    where
-  turn_fits : (was : Bool) (key it : Val) → IsOf c t key first → IsOf c t it second → IsOf c t (turn_of was key it) of
-  turn_fits was key it key_is it_is =
-      subst (Fits c t (turn_of was key it)) (sym tuple.is)
-      (more ∷ first ∷ second ∷ [],
-      (refl, (subst (IsOf c t (truth was)) (sym tuple.truth) (truth_fits c t held was), (key_is, (it_is, tt)))))
+  where
+    turn_fits : (was : Bool) (key it : Val) → IsOf c t key first → IsOf c t it second → IsOf c t (turn_of was key it) of
+    turn_fits was key it key_is it_is =
+        subst (Fits c t (turn_of was key it)) (sym tuple.is) (
+          more ∷ first ∷ second ∷ [],
+          (refl, (subst (IsOf c t (truth was)) (sym tuple.truth) (truth_fits c t held was), (key_is, (it_is, tt)))),
+        )
 
-  -- strings: a place and a code point
-  module _ (state over : TypeId) (is : under_of c state ≡ Some (term.Iter over)) (is_text : TextFits (under_of c over))
-      (place : first ≡ basic_id basic.Int) (point : second ≡ basic_id basic.Int32) where
-    integer : (n : ℤ) (kind : Basic) → is_some (kind_of_term (Some (term.Basic kind))) ≡ true → IsOf c t (number n) (basic_id kind)
-    integer n kind h =
-        number_fits c t n (under_of c (basic_id kind))
-        (subst (λ u. is_some (kind_of_term u) ≡ true) (sym (basic_term c.types held kind)) h)
+    -- strings: a place and a code point
+    module _ (state over : TypeId) (is : under_of c state ≡ Some (term.Iter over)) (is_text : TextFits (under_of c over))
+        (place : first ≡ basic_id basic.Int) (point : second ≡ basic_id basic.Int32) where
+      integer : (n : ℤ) (kind : Basic) → is_some (kind_of_term (Some (term.Basic kind))) ≡ true → IsOf c t (number n) (basic_id kind)
+      integer n kind h =
+          number_fits c t n (under_of c (basic_id kind))
+          (subst (λ u. is_some (kind_of_term u) ≡ true) (sym (basic_term c.types held kind)) h)
 
-    text_turns : (sched : State) (bytes : List ℕ) (next : ℕ) → TurnFits c t of state sched (text_turn sched bytes next)
-    text_turns sched bytes next = by (nat_lt next (length bytes))
-      where
-        range_is : (next : ℕ) → IsOf c t (text_range bytes next) state
-        range_is next = subst (TextRangeFits c) (sym is) is_text
+      text_turns : (sched : State) (bytes : List ℕ) (next : ℕ) → TurnFits c t of state sched (text_turn sched bytes next)
+      text_turns sched bytes next = by (nat_lt next (length bytes))
+        where
+          range_is : (next : ℕ) → IsOf c t (text_range bytes next) state
+          range_is next = subst (TextRangeFits c) (sym is) is_text
 
-        number_is : (was : Bool) (a b : ℕ) → IsOf c t (turn_of was (number (pos a)) (number (pos b))) of
-        number_is was a b =
-            turn_fits was (number (pos a)) (number (pos b))
-            (subst (IsOf c t (number (pos a))) (sym place) (integer (pos a) basic.Int refl))
-            (subst (IsOf c t (number (pos b))) (sym point) (integer (pos b) basic.Int32 refl))
+          number_is : (was : Bool) (a b : ℕ) → IsOf c t (turn_of was (number (pos a)) (number (pos b))) of
+          number_is was a b =
+              turn_fits was (number (pos a)) (number (pos b))
+              (subst (IsOf c t (number (pos a))) (sym place) (integer (pos a) basic.Int refl))
+              (subst (IsOf c t (number (pos b))) (sym point) (integer (pos b) basic.Int32 refl))
 
-        by : (b : Bool) → TurnFits c t of state sched
-            (if b then record {
-              value = turn_of true (number (pos next)) (number (pos (first_rune (drop next bytes)).point));
-              range = text_range bytes (next + (first_rune (drop next bytes)).width);
-              sched = sched;
-            }
-            else record {
-              value = turn_of false (number (pos 0)) (number (pos 0));
-              range = text_range bytes next;
-              sched = sched;
-            })
-        by true = record {
-          value = number_is true next (first_rune (drop next bytes)).point;
-          range = range_is (next + (first_rune (drop next bytes)).width);
-          same = same_sched sched;
-        }
-        by false = record { value = number_is false 0 0; range = range_is next; same = same_sched sched }
+          by : (b : Bool) → TurnFits c t of state sched
+              (if b then record {
+                value = turn_of true (number (pos next)) (number (pos (first_rune (drop next bytes)).point));
+                range = text_range bytes (next + (first_rune (drop next bytes)).width);
+                sched = sched;
+              }
+              else record {
+                value = turn_of false (number (pos 0)) (number (pos 0));
+                range = text_range bytes next;
+                sched = sched;
+              })
+          by true = record {
+            value = number_is true next (first_rune (drop next bytes)).point;
+            range = range_is (next + (first_rune (drop next bytes)).width);
+            same = same_sched sched;
+          }
+          by false = record { value = number_is false 0 0; range = range_is next; same = same_sched sched }
 
-  -- maps: a key and its value
-  module _ (store : Stored) (is_store : IsStore c t store) (state over : TypeId)
-      (is : under_of c state ≡ Some (term.Iter over)) (is_map : under_of c over ≡ Some (term.Map first second)) (id : Option MapId)
-      (fits : MapFits c t id first second) (key it : Val) (key_is : IsOf c t key first) (it_is : IsOf c t it second) where
-    range_fits : (left : List ℕ) → IsOf c t (map_range id left) state
-    range_fits left =
-        subst (MapRangeFits c t id) (sym is) (subst (MapNumberFits c t id) (sym is_map) fits)
+    -- maps: a key and its value
+    module _ (store : Stored) (is_store : IsStore c t store) (state over : TypeId)
+        (is : under_of c state ≡ Some (term.Iter over)) (is_map : under_of c over ≡ Some (term.Map first second)) (id : Option MapId)
+        (fits : MapFits c t id first second) (key it : Val) (key_is : IsOf c t key first) (it_is : IsOf c t it second) where
+      range_fits : (left : List ℕ) → IsOf c t (map_range id left) state
+      range_fits left =
+          subst (MapRangeFits c t id) (sym is) (subst (MapNumberFits c t id) (sym is_map) fits)
 
-    drawn_turns : (old sched : State) → SameSched old sched → (entry : Option ℕ) (left : List ℕ)
-        → ((n : ℕ) → entry ≡ Some n → is_standing (entries_of store id) n ≡ true)
-        → (turn : Turn)
-        × ((turn_with sched id (entries_of store id) (Some key) (Some it) (record { entry = entry; left = left }) ≡ Some turn)
-        × TurnFits c t of state old turn)
-    drawn_turns old sched same None left stands =
-        (record { value = turn_of false key it; range = map_range id left; sched = sched },
-        (refl, record { value = turn_fits false key it key_is it_is; range = range_fits left; same = same }))
-    drawn_turns old sched same (Some n) left stands =
-        let pair = there (entry_at (entries_of store id) n) (stands n refl) in
-        let pair_is = numbered_fits c t store is_store id first second fits n pair.0 pair.1 in
-        (record { value = turn_of true pair.0.key pair.0.value; range = map_range id left; sched = sched },
-        (ap (option_map (λ (entry : Pair). record { value = turn_of true entry.key entry.value; range = map_range id left; sched = sched }))
-        pair.1,
-        record { value = turn_fits true pair.0.key pair.0.value pair_is.0 pair_is.1; range = range_fits left; same = same }))
+      drawn_turns : (old sched : State) → SameSched old sched → (entry : Option ℕ) (left : List ℕ)
+          → ((n : ℕ) → entry ≡ Some n → is_standing (entries_of store id) n ≡ true)
+          → (turn : Turn)
+          × ((turn_with sched id (entries_of store id) (Some key) (Some it) (record { entry = entry; left = left }) ≡ Some turn)
+          × TurnFits c t of state old turn)
+      drawn_turns old sched same None left stands = (
+        record { value = turn_of false key it; range = map_range id left; sched = sched },
+        (refl, record { value = turn_fits false key it key_is it_is; range = range_fits left; same = same }),
+      )
+      drawn_turns old sched same (Some n) left stands =
+          let pair = there (entry_at (entries_of store id) n) (stands n refl) in
+          let pair_is = numbered_fits c t store is_store id first second fits n pair.0 pair.1 in (
+            record { value = turn_of true pair.0.key pair.0.value; range = map_range id left; sched = sched },
+            (
+              ap (option_map (λ (entry : Pair). record { value = turn_of true entry.key entry.value; range = map_range id left; sched = sched }))
+                  pair.1,
+              record { value = turn_fits true pair.0.key pair.0.value pair_is.0 pair_is.1; range = range_fits left; same = same },
+            ),
+          )
 
-    map_turns : (sched : State) (left : List ℕ)
-        → (turn : Turn)
-        × ((map_turn id (entries_of store id) (Some key) (Some it) sched left ≡ Some turn) × TurnFits c t of state sched turn)
-    map_turns sched left =
-        drawn_turns sched (sched_after sched (entries_of store id) left) (after_same sched (entries_of store id) left)
-        (drawn sched (entries_of store id) left).entry (drawn sched (entries_of store id) left).left
-        (drawn_stands (entries_of store id) sched left)
+      map_turns : (sched : State) (left : List ℕ)
+          → (turn : Turn)
+          × ((map_turn id (entries_of store id) (Some key) (Some it) sched left ≡ Some turn) × TurnFits c t of state sched turn)
+      map_turns sched left =
+          drawn_turns sched (sched_after sched (entries_of store id) left) (after_same sched (entries_of store id) left)
+          (drawn sched (entries_of store id) left).entry (drawn sched (entries_of store id) left).left
+          (drawn_stands (entries_of store id) sched left)
 
 -- ---- registers alone hold states of ranges
 
@@ -392,17 +396,17 @@ module _ (t : Typing) (s : Site) (it : Operand) (reads : Reads t s (op.Next it))
   turns_map id left e (Some (term.Map key elem)) is_over fits h =
       let split = both (same_id key first) (same_id elem second) h in
       let is_map : Some (term.Map key elem) ≡ Some (term.Map first second) =
-          λ i. Some (term.Map (same_is key first split.0 i) (same_is elem second split.1 i)) in
+      λ i. Some (term.Map (same_is key first split.0 i) (same_is elem second split.1 i)) in
       let over_map : under_of s.code over ≡ Some (term.Map first second) = is_over ∙ is_map in
       let ready : has_turns s.code (Some (term.Map first second)) ≡ true =
-          subst (λ u. has_turns s.code u ≡ true) (is_ranged_over ∙ over_map)
-          (both (has_turns s.code (ranged s.code (term_of s.code s.function it))) _ reads.runnable).0 in
+      subst (λ u. has_turns s.code u ≡ true) (is_ranged_over ∙ over_map)
+      (both (has_turns s.code (ranged s.code (term_of s.code s.function it))) _ reads.runnable).0 in
       let zeros = both (is_some (zero_of s.code first)) (is_some (zero_of s.code second)) ready in
       let one = there (zero_of s.code first) zeros.0 in
       let two = there (zero_of s.code second) zeros.1 in
       let turn = map_turns s.code t reads.safe.held of more first second tuple s.machine.store reads.store state over is over_map
-          id (subst (MapNumberFits s.code t id) is_map fits) one.0 two.0 (zero_fits s.code t first one.0 one.1)
-          (zero_fits s.code t second two.0 two.1) s.machine.sched left in
+      id (subst (MapNumberFits s.code t id) is_map fits) one.0 two.0 (zero_fits s.code t first one.0 one.1)
+      (zero_fits s.code t second two.0 two.1) s.machine.sched left in
       record {
         turn = turn.0;
         comes =
@@ -456,12 +460,12 @@ next_comes t s it reads of typed = by (held_type (known s.code s.function it)) r
         } in
         let found = held_value t s it (reads.values it (inl refl)) state e in
         let ranged_over : ranged s.code (term_of s.code s.function it) ≡ under_of s.code over =
-            ap (λ of. ranged s.code (under s.code of))
-            (held_type_is s.code s.function it state (held_is s.code s.function it state e))
-            ∙ ap (ranged s.code) is in
+        ap (λ of. ranged s.code (under s.code of))
+        (held_type_is s.code s.function it state (held_is s.code s.function it state e))
+        ∙ ap (ranged s.code) is in
         let register = register_state s.code s.function function state over is_term is it e in
         let turn = turns_of t s it reads of more first second state over tuple is ranged_over found.0 found.1.0
-            (state_in s.code t found.0 over (subst (Fits s.code t found.0) is found.1.1)) split.1 in
+        (state_in s.code t found.0 over (subst (Fits s.code t found.0) is found.1.1)) split.1 in
         record {
           range = register.0;
           is = register.1.0;

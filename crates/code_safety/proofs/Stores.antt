@@ -441,7 +441,7 @@ unfolding IsFault
 not_ok {A} f y h = subst (IsFault {A = A}) h tt
 
 -- a place is within the length
-placed : (index : ℤ) (len place : ℕ) → place_at index len ≡ Ok place → place < len
+pub placed : (index : ℤ) (len place : ℕ) → place_at index len ≡ Ok place → place < len
 placed index len place is = by (int_lt index (pos 0) || int_le (pos len) index) refl is
   where
     by : (b : Bool) → (int_lt index (pos 0) || int_le (pos len) index) ≡ b

@@ -5,8 +5,8 @@ use Rattle.std.specs.Cmp.{unsigned_Decides}
 use Rattle.std.specs.List.{AllZip, list_all}
 use Rattle.code_safety.proofs.Lists as lists
 use Rattle.code_safety.proofs.Sames.{under_plain}
-use Rattle.code_safety.proofs.Shapes.{Alike, alike_of, alike_self}
-use Rattle.code_safety.proofs.Values.{Typing, Fits, IsOf, under_of}
+use Rattle.code_safety.proofs.Shapes.{Alike, alike_self}
+use Rattle.code_safety.proofs.Values.{Typing, Fits, IsOf}
 use Rattle.go_base.specs.declared.ids.TypeId.{TypeId}
 use Rattle.go_type.specs.Assignable.{underlying_term_of}
 use Rattle.go_type.specs.Held.{IsHeld}
@@ -14,7 +14,6 @@ use Rattle.go_type.specs.Kinds.{kind_of_term}
 use Rattle.go_type.specs.Same.{both, same_id, same_ids, same_id-Decides, same_ids-Decides}
 use Rattle.go_type.specs.Table.{Table, term_at, basic_id}
 use Rattle.go_type.specs.declared.term.Basic.TheVariants as basic
-use Rattle.go_type.specs.declared.term.Dir.{Dir}
 use Rattle.go_type.specs.declared.term.MethodType.{MethodType}
 use Rattle.go_type.specs.declared.term.TypeTerm.{TypeTerm}
 use Rattle.go_type.specs.declared.term.TypeTerm.TheVariants as term
@@ -22,7 +21,7 @@ use Rattle.go_value.specs.Values.{Val, truth}
 use Rattle.ssa_ir.specs.declared.code.Code.{Code}
 use Rattle.ssa_mean.specs.Making.{with_ok}
 use Rattle.ssa_typed.specs.Forms.{gives}
-use Rattle.type_shapes.specs.Shapes.{is_text, is_truth, is_interface, is_any, is_byte, is_character, is_characters, is_pointer_to, parts_of, is_with_ok}
+use Rattle.type_shapes.specs.Shapes.{is_text, is_truth, is_interface, is_any, is_character, is_characters, is_pointer_to, parts_of, is_with_ok}
 
 -- ---- tests
 

@@ -7,7 +7,8 @@ use Rattle.code_safety.specs.Safety.{IsSafe}
 use Rattle.code_safety.proofs.Available.{recovery_stands, state_stands}
 use Rattle.code_safety.proofs.Forms.{IsInterfaceValue, is_nil, is_dynamic as is_dynamic_of, interface_in}
 use Rattle.code_safety.proofs.Lists.{below_get, get_set, some_same}
-use Rattle.code_safety.proofs.Machines.{OpenFits, GoroutineFits, SchedFits, IsIn, FrameFits, Stands, IsBegun, Recovers, StateFits, Takes, AreBelow, AreFrames, TopStands, fresh, begun, lost, IsTop, IsReady, LaterFitsWhere, ThrownFits, IsThrown, Safe, is_panicking}
+pub use Rattle.code_safety.proofs.Machines.{MayPanic, MayThrow}
+use Rattle.code_safety.proofs.Machines.{OpenFits, GoroutineFits, SchedFits, IsIn, FrameFits, Stands, IsBegun, Recovers, StateFits, Takes, AreBelow, AreFrames, TopStands, fresh, begun, lost, IsTop, GoOn, LaterFitsWhere, ThrownFits, IsThrown, Safe, is_panicking}
 use Rattle.code_safety.proofs.Members.{in_split}
 use Rattle.code_safety.proofs.Opening.{RestFits, open_with, frames_closed}
 use Rattle.code_safety.proofs.Values.{Typing, TextFits}
@@ -35,18 +36,6 @@ use Rattle.value_texts.specs.Texts.{fault_string}
 pub there_safe : {A : Type 0} (c : Code) (next : A → Next) (found : Option A) (it : A) → found ≡ Some it → Safe c (next it)
     → Safe c (where_there next found)
 there_safe c next found it is h = subst (λ x. Safe c (where_there next x)) (sym is) h
-
--- a frame that may panic, with those below it
-pub record MayPanic (c : Code) (t : Typing) (top : Frame) (below : List Frame) : Type 0 where
-  pub function : Function
-  pub fits : FrameFits c t function top
-  pub begun : IsBegun function top
-  pub takes : Takes c function top.result below
-  pub lower : AreBelow c t top.result below
-
-abbrev pub MayThrow : Code → Typing → List Frame → Type 0
-MayThrow c t [] = Unit {0}
-MayThrow c t (top ∷ below) = MayPanic c t top below
 
 -- ---- what is thrown
 
@@ -317,20 +306,6 @@ in_place [] i less = absurd (omega (arith, less))
 in_place (x ∷ xs) zero less = inl refl
 in_place (x ∷ xs) (suc i) less = inr (in_place xs i (omega (arith, less)))
 
--- a goroutine that waited for its turn may throw where a fault waits for it
-ready_throws : (c : Code) (t : Typing) (frames : List Frame) (it : Fault) → AreFrames c t frames → IsReady c (Some it) frames
-    → MayThrow c t frames
-ready_throws c t [] it are ready = tt
-ready_throws c t (top ∷ below) it are ready =
-    record {
-      function = are.0.function;
-      fits = are.0.fits;
-      begun = subst (λ f. IsBegun f top)
-          (some_same ready.function are.0.function (sym ready.there ∙ are.0.fits.there)) ready.begun;
-      takes = are.0.takes;
-      lower = are.1;
-    }
-
 goes_with_safe : (c : Code) → IsSafe c → (t : Typing) (m : Machine) (g : Goroutine) → OpenFits c t m
     → slice_get m.goroutines m.sched.current.number ≡ Some g → GoroutineFits c t g → (it : Option Fault) → g.fault ≡ it
     → Safe c (goes_with c m g it)
@@ -340,7 +315,7 @@ goes_with_safe c safe t m g fits there is (Some it) e =
     meets_safe c safe t (with_current (record g { fault = None }) m) (record g { fault = None })
     (open_with c t m (record g { fault = None }) fits)
     (get_set m.goroutines m.sched.current.number (record g { fault = None }) g there) is.begin refl
-    (ready_throws c t g.frames it is.frames (subst (λ f. IsReady c f g.frames) e is.ready)) it
+    (subst (λ (f : Option Fault). GoOn c t f g.frames) e is.frames) it
 
 pub switches_safe : (c : Code) → IsSafe c → (t : Typing) (m : Machine) → RestFits c t m → (point : Point)
     → Safe c (switches c point m)
