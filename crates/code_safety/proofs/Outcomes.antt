@@ -290,6 +290,7 @@ sender_entered c t goroutines n runnable waits it same may chan elem value fits 
             top = waits.top;
             below = waits.below;
             frames = waits.frames;
+            calm = waits.calm;
             runs = waits.runs;
             function = waits.function;
             is_function = waits.is_function;
@@ -323,6 +324,7 @@ receiver_entered c t goroutines n runnable waits it same chan elem may fits =
             top = waits.top;
             below = waits.below;
             frames = waits.frames;
+            calm = waits.calm;
             runs = waits.runs;
             function = waits.function;
             is_function = waits.is_function;
@@ -609,6 +611,7 @@ all_entered_fits c t goroutines state waits after same (case ∷ cases) index ea
       top = waits.top;
       below = waits.below;
       frames = waits.frames;
+      calm = waits.calm;
       runs = waits.runs;
       function = waits.function;
       is_function = waits.is_function;
