@@ -10,7 +10,7 @@ use Rattle.code_safety.proofs.Entering.{known_goroutine, enters_safe}
 use Rattle.code_safety.proofs.Going.{site_reads, result_fits, result_written, result_same, behind_fit, site_throws, site_meets, goes_behind_safe, finishes_safe, no_type}
 use Rattle.code_safety.proofs.Growing.{grows_self}
 use Rattle.code_safety.proofs.Lists.{get_set, get_front, some_same}
-use Rattle.code_safety.proofs.Machines.{OpenFits, MachineFits, GoroutineFits, FunctionFits, CallFits, CalleeFits, LaterFits, BuiltInFits, closes, panics, recovers, works, IsThrown, StateFits, ResultsFit, ResultsFitWhere, GivesOf, DoneComes, IsTaken, Takes, IsBelow, AreBelow, AreFrames, IsTop, FrameFits, Stands, IsBegun, IsFresh, IsWritten, TopStands, fresh, begun, lost, Recovers, IsReady, is_panicking, Safe}
+use Rattle.code_safety.proofs.Machines.{OpenFits, MachineFits, GoroutineFits, GoOn, FunctionFits, CallFits, CalleeFits, LaterFits, BuiltInFits, closes, panics, recovers, works, IsThrown, StateFits, ResultsFit, ResultsFitWhere, GivesOf, DoneComes, IsTaken, Takes, IsBelow, AreBelow, AreFrames, IsTop, FrameFits, Stands, IsBegun, IsFresh, IsWritten, TopStands, fresh, begun, lost, Recovers, is_panicking, Safe}
 use Rattle.code_safety.proofs.Members.{both}
 use Rattle.code_safety.proofs.Opening.{open_with, frames_closed, spawned_fits, rest_of}
 use Rattle.code_safety.proofs.Operands.{any_value, values_are}
@@ -115,7 +115,7 @@ behind_is : (t : Typing) (s : Site) (instr : Instr) → SiteFits t s instr → A
     → GoroutineFits s.code t (behind_goroutine s)
 unfolding behind_goroutine
 behind_is t s instr site are =
-    record { frames = are; begin = site.begin; ready = subst (λ f. IsReady s.code f (advanced s.frame ∷ s.below)) (sym site.calm) tt }
+    record { frames = subst (λ f. GoOn s.code t f (advanced s.frame ∷ s.below)) (sym site.calm) are; begin = site.begin }
 
 -- ---- calls of functions
 
@@ -413,7 +413,7 @@ go_safe t s instr site it is =
         switches_safe s.code site.safe t (with_new later (behind_call s))
         (rest_of s.code t (with_new later (behind_call s))
         (record {
-          opened = spawned_fits s.code t (behind_call s) new (record { frames = tt; begin = h; ready = tt }) closed.opened;
+          opened = spawned_fits s.code t (behind_call s) new (record { frames = tt; begin = h }) closed.opened;
           g = closed.g;
           there = get_front (behind_call s).goroutines (new ∷ []) s.machine.sched.current.number closed.g closed.there;
           fits = closed.fits;

@@ -9,7 +9,7 @@ use Rattle.code_safety.proofs.Available.{has_body, entry_stands, state_stands}
 use Rattle.code_safety.proofs.Forms.{number_in}
 use Rattle.code_safety.proofs.Growing.{grows_self, goroutine_grows}
 use Rattle.code_safety.proofs.Lists.{zip_length, get_replicate, length_replicate, get_set, some_same}
-use Rattle.code_safety.proofs.Machines.{OpenFits, MachineFits, GoroutineFits, FunctionFits, CalleeFits, LaterFits, LaterFitsWhere, BuiltInFits, closes, panics, recovers, works, DoneComes, Takes, AreBelow, AreFrames, IsTop, FrameFits, Stands, IsFresh, TopStands, fresh, begun, lost, IsBegun, Recovers, StartFits, IsReady, Safe}
+use Rattle.code_safety.proofs.Machines.{OpenFits, MachineFits, GoroutineFits, GoOn, FunctionFits, CalleeFits, LaterFits, LaterFitsWhere, BuiltInFits, closes, panics, recovers, works, DoneComes, Takes, AreBelow, AreFrames, IsTop, FrameFits, Stands, IsFresh, TopStands, fresh, begun, lost, IsBegun, Recovers, StartFits, Safe}
 use Rattle.code_safety.proofs.Members.{both, either, one_of_both, not_true}
 use Rattle.code_safety.proofs.Opening.{store_changed, starts_changed, closed_with, frames_closed, open_with, rest_of}
 use Rattle.code_safety.proofs.Throwing.{MayThrow, there_safe, meets_safe, panics_safe, unwound_safe, spends_safe, switches_safe, begun_as}
@@ -43,6 +43,9 @@ pub known_goroutine : (c : Code) (t : Typing) (m : Machine) (g : Goroutine) → 
     → slice_get m.goroutines m.sched.current.number ≡ Some g → GoroutineFits c t g × (g.fault ≡ None)
 known_goroutine c t m g fits there =
     subst (λ g. GoroutineFits c t g × (g.fault ≡ None)) (some_same fits.g g (sym fits.there ∙ there)) (fits.fits, fits.calm)
+
+running_frames : (c : Code) (t : Typing) (g : Goroutine) → GoroutineFits c t g × (g.fault ≡ None) → AreFrames c t g.frames
+running_frames c t g is = subst (λ f. GoOn c t f g.frames) is.1 is.0.frames
 
 set_same : {A : Type 0} (xs : List A) (n : ℕ) (x : A) → slice_get xs n ≡ Some x → slice_set xs n x ≡ xs
 set_same [] n x is = refl
@@ -146,9 +149,8 @@ enters_safe c safe t m g entry fits there begin calm function below takes restor
           g = g;
           there = there;
           fits = record {
-            frames = restored e;
+            frames = subst (λ f. GoOn c t f g.frames) (sym calm) (restored e);
             begin = begin;
-            ready = subst (λ f. IsReady c f g.frames) (sym calm) tt;
           };
           calm = calm;
         })
@@ -233,7 +235,7 @@ makes_safe c safe answers told t m g fits there may below it deferred is = by it
     by : (callee : Callee) → CalleeFits c t callee it.arguments → Safe c (makes answers c m it deferred callee)
     by (of_function id free) is =
         enters_safe c safe t m g (entry_of c m id free it deferred None) fits.opened there known.0.begin known.1 is below tt
-        (λ e. known.0.frames)
+        (λ e. running_frames c t g known)
     by (of_built_in called) is = alone_safe c safe answers told t m g fits there may called it.arguments is
     by of_nil is = meets_safe c safe t m g fits.opened there known.0.begin known.1 may fault.NilPointer
 
@@ -299,7 +301,7 @@ starts_safe c safe t m g fits there none (id ∷ others) e =
       frees = subst (AreOf c t []) (sym start.free) tt;
       takes = subst (AreOf c t []) (sym start.params) tt;
     })
-    (subst (AreBelow c t None) (sym none) tt) tt (λ e. known.0.frames)
+    (subst (AreBelow c t None) (sym none) tt) tt (λ e. running_frames c t g known)
 
 pub begins_safe : (c : Code) → IsSafe c → (answers : Answers) → AreAnswers c.types answers → (t : Typing) (m : Machine)
     (g : Goroutine) → MachineFits c t m → slice_get m.goroutines m.sched.current.number ≡ Some g → g.frames ≡ []
@@ -317,7 +319,7 @@ begins_safe c safe answers told t m g fits there none = by g.begin refl
         let g' : Goroutine = record g { begin = None } in
         makes_safe c safe answers told t (with_current g' m) g'
         (closed_with c t m g g' there fits.opened
-        (record { frames = known.0.frames; begin = tt; ready = known.0.ready }) known.1)
+        (record { frames = known.0.frames; begin = tt }) known.1)
         (get_set m.goroutines m.sched.current.number g' g there)
         (subst (MayThrow c t) (sym none) tt) (subst (AreBelow c t None) (sym none) tt) it false
         (subst (LaterFitsWhere c t) e known.0.begin)
