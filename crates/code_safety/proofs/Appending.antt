@@ -167,6 +167,7 @@ module _ (c : Code) (t : Typing) (store : Stored) (is : IsStore c t store) (of e
         record {
           typing = t;
           grows = grows_self t;
+          chans = refl;
           is_store = in_room r;
           is_of =
               slice_is t (record { at = it.at; len = it.len + length (first ∷ items); cap = it.cap })
@@ -180,13 +181,14 @@ module _ (c : Code) (t : Typing) (store : Stored) (is : IsStore c t store) (of e
         record {
           typing = with_home home t;
           grows = home_grows t home;
+          chans = refl;
           is_store = new.0;
           is_of = slice_is (with_home home t) (slice_of_new store (it.len + length (first ∷ items)) grown) new.1;
         }
 
   pub append_comes : (items : List Val) → AllOf c t items elem → DoneComes c t (Some of) (append leaves store it items)
   unfolding grown more
-  append_comes [] all = record { typing = t; grows = grows_self t; is_store = is; is_of = slice_is t it slices }
+  append_comes [] all = record { typing = t; grows = grows_self t; chans = refl; is_store = is; is_of = slice_is t it slices }
   append_comes (first ∷ items) all = by (append_fault leaves it (length (first ∷ items))) refl
     where
       by : (found : Option Fault) → append_fault leaves it (length (first ∷ items)) ≡ found

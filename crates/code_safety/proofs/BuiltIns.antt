@@ -80,7 +80,7 @@ Works c t called items of =
 
 done : (c : Code) (t : Typing) (of : Option TypeId) (it : Option Val) (store : Stored) (written : List ℕ) → IsStore c t store
     → GivesOf c t it of → DoneComes c t of (to (record { value = it; store = store; written = written }))
-done c t of it store written is gives = record { typing = t; grows = grows_self t; is_store = is; is_of = gives }
+done c t of it store written is gives = record { typing = t; grows = grows_self t; chans = refl; is_store = is; is_of = gives }
 
 stored : (c : Code) (t : Typing) (it : Comes Stored) → StoreComes c t it → DoneComes c t None (then_to changes it)
 stored c t (to store) h = done c t None None store [] h tt

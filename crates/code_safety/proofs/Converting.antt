@@ -78,7 +78,7 @@ use Rattle.type_shapes.specs.Shapes.{is_text, is_any, is_characters, is_state}
 
 kept_fits : (c : Code) (t : Typing) (store : Stored) → IsStore c t store → (of : TypeId) (v : Val) → IsOf c t v of
     → StoresCome c t of (to (kept store v))
-kept_fits c t store is of v fits = record { typing = t; grows = grows_self t; is_store = is; is_of = fits }
+kept_fits c t store is of v fits = record { typing = t; grows = grows_self t; chans = refl; is_store = is; is_of = fits }
 
 text_fits : (c : Code) (t : Typing) (bytes : List ℕ) (of : Option TypeTerm) → is_text of ≡ true → Fits c t (text bytes) of
 text_fits c t bytes of h = subst (Fits c t (text bytes)) (sym (text_term of h)) tt
@@ -117,6 +117,7 @@ module _ (c : Code) (t : Typing) (store : Stored) (is : IsStore c t store) (of :
       by false = record {
         typing = with_home home t;
         grows = home_grows t home;
+        chans = refl;
         is_store =
             makes c t store is (array_of (map number ints)) home
             (array_fits c t (map number ints) elem count (length_map number ints) (numbers_fit c t elem kind ints));

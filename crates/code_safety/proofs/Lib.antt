@@ -26,6 +26,7 @@ pub mod Outcomes
 pub mod Waiting
 pub mod Going
 pub mod Readied
+pub mod Entering
 pub mod Calling
 pub mod Jumping
 pub mod Stepping
