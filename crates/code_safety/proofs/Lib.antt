@@ -24,6 +24,7 @@ pub mod Opening
 pub mod Throwing
 pub mod Outcomes
 pub mod Waiting
+pub mod Waking
 pub mod Going
 pub mod Readied
 pub mod Entering
