@@ -397,7 +397,7 @@ pending_stands f frame instr stands at sane goes_on =
     moved h = record { it = h.it; there = h.there }
 
 -- at the same place
-elsewhere : (f : Function) (frame new : Frame) (old pending : Option ℕ) → Stands f frame old → new.block ≡ frame.block
+pub elsewhere : (f : Function) (frame new : Frame) (old pending : Option ℕ) → Stands f frame old → new.block ≡ frame.block
     → new.place ≡ frame.place
     → ((register : ℕ) → (old ≡ Some register) ⊎ IsWritten frame register
     → (pending ≡ Some register) ⊎ IsWritten new register)

@@ -31,7 +31,7 @@ use Rattle.go_type.specs.declared.term.TypeTerm.{TypeTerm}
 use Rattle.go_type.specs.declared.term.TypeTerm.TheVariants as term
 use Rattle.go_value.specs.Values.{Val, truth, number, text, pointer, closure}
 use Rattle.go_value.specs.declared.faults.Fault.{Fault}
-use Rattle.ssa_ir.specs.Blocks.{is_end_op}
+use Rattle.ssa_ir.specs.Blocks.{instrs_at, is_end_op}
 use Rattle.ssa_ir.specs.declared.code.Code.{Code}
 use Rattle.ssa_ir.specs.declared.code.CodeVariable.{CodeVariable}
 use Rattle.ssa_ir.specs.declared.code.Function.{Function}
@@ -50,7 +50,7 @@ use Rattle.ssa_mean.specs.Operands.{constant_value, function_at, variable_cell}
 use Rattle.ssa_mean.specs.State.{Frame, Goroutine, Machine, advanced, with_result}
 use Rattle.ssa_mean.specs.Step.{Site, gives_stored, gives_value, changes_store, gives_channel, goes_behind, finishes}
 use Rattle.ssa_mean.specs.Unwinding.{is_phi, meets}
-use Rattle.ssa_sane.specs.Sane.{is_new}
+use Rattle.ssa_sane.specs.Sane.{IsInstr, is_new}
 use Rattle.ssa_typed.specs.Operands as typed_operands
 use Rattle.ssa_typed.specs.Operands.{type_of, address_of, has_constant, is_value}
 use Rattle.ssa_typed.specs.declared.known.Known.{Known}
@@ -286,41 +286,42 @@ result_same (Some register) (Some it) frame = refl
 result_same (Some register) None frame = refl
 result_same None it frame = refl
 
--- the frames behind the instruction, where its register gets a value of its type, if it has one
+-- the frames behind an instruction, where its register gets a value of its type, if it has one
+pub frames_behind : (c : Code) (t : Typing) (f : Function) (frame : Frame) (below : List Frame) (instr : Instr) → FrameFits c t f frame
+    → Stands f frame None → IsBegun f frame ⊎ IsFresh f frame → Takes c f frame.result below → AreBelow c t frame.result below
+    → slice_get (instrs_at f frame.block) frame.place ≡ Some instr → IsInstr f frame.block frame.place instr
+    → is_end_op instr.op ≡ false → (it : Option Val) (of : Option TypeId) → IsRegister f instr.register of → GivesOf c t it of
+    → AreFrames c t (advanced (with_result instr.register it frame) ∷ below)
+frames_behind c t f frame below instr fits stands started takes lower at sane goes_on it of register gives =
+    (record {
+      function = f;
+      fits = moved_fits c t f (with_result instr.register it frame) (with_result instr.register it frame).block
+          (suc (with_result instr.register it frame).place) (with_result instr.register it frame).state result result.state;
+      stands = top (⊎_elim (λ new. fresh_next f frame instr it started at new)
+          (λ old. inl (begun_as f (with_result instr.register it frame) (advanced (with_result instr.register it frame)) refl
+          (begun_with f frame instr.register it (begun_at f frame instr stands started at old))))
+          (either (is_new instr)));
+      takes = subst (λ r. Takes c f r below) (sym (result_same instr.register it frame)) takes;
+    },
+    subst (λ r. AreBelow c t r below) (sym (result_same instr.register it frame)) lower)
+  where
+    result : FrameFits c t f (with_result instr.register it frame)
+    result = result_fits c t f frame instr.register it of register gives fits
+    behind : Stands f (advanced (with_result instr.register it frame)) None
+    behind =
+        next_stands f frame instr stands at sane goes_on it (result_written c t f frame instr.register it of register gives fits)
+    top : IsBegun f (advanced (with_result instr.register it frame)) ⊎ IsFresh f (advanced (with_result instr.register it frame))
+        → TopStands f (advanced (with_result instr.register it frame))
+    top (inl begun_now) = begun behind begun_now
+    top (inr new) = fresh behind new
+
 pub behind_fit : (t t' : Typing) (s : Site) (instr : Instr) (site : SiteFits t s instr) → Grows t t'
     → is_end_op instr.op ≡ false → (it : Option Val) → GivesOf s.code t' it site.of
     → AreFrames s.code t' (advanced (with_result instr.register it s.frame) ∷ s.below)
 behind_fit t t' s instr site grows goes_on it gives =
-    (record {
-      function = s.function;
-      fits = moved_fits s.code t' s.function (with_result instr.register it s.frame) (with_result instr.register it s.frame).block
-          (suc (with_result instr.register it s.frame).place) (with_result instr.register it s.frame).state
-          result result.state;
-      stands = top (⊎_elim
-          (λ new. fresh_next s.function s.frame instr it site.started site.at new)
-          (λ old. inl (begun_as s.function (with_result instr.register it s.frame) (advanced (with_result instr.register it s.frame)) refl
-          (begun_with s.function s.frame instr.register it
-          (begun_at s.function s.frame instr site.stands site.started site.at old))))
-          (either (is_new instr)));
-      takes = subst (λ r. Takes s.code s.function r s.below) (sym (result_same instr.register it s.frame)) site.takes;
-    },
-    subst (λ r. AreBelow s.code t' r s.below) (sym (result_same instr.register it s.frame))
-    (below_grow s.code t t' grows s.frame.result s.below site.lower))
-  where
-    result : FrameFits s.code t' s.function (with_result instr.register it s.frame)
-    result =
-        result_fits s.code t' s.function s.frame instr.register it site.of site.register gives
-        (frame_grows s.code t t' grows s.function s.frame site.fits)
-    stands : Stands s.function (advanced (with_result instr.register it s.frame)) None
-    stands =
-        next_stands s.function s.frame instr site.stands site.at site.sane goes_on it
-        (result_written s.code t' s.function s.frame instr.register it site.of site.register gives
-        (frame_grows s.code t t' grows s.function s.frame site.fits))
-    top : IsBegun s.function (advanced (with_result instr.register it s.frame))
-        ⊎ IsFresh s.function (advanced (with_result instr.register it s.frame))
-        → TopStands s.function (advanced (with_result instr.register it s.frame))
-    top (inl started) = begun stands started
-    top (inr new) = fresh stands new
+    frames_behind s.code t' s.function s.frame s.below instr (frame_grows s.code t t' grows s.function s.frame site.fits) site.stands
+    site.started site.takes (below_grow s.code t t' grows s.frame.result s.below site.lower) site.at site.sane goes_on it site.of
+    site.register gives
 
 -- the frames of the site may throw where it makes no cell
 pub site_throws : (t : Typing) (s : Site) (instr : Instr) → SiteFits t s instr → is_new instr ≡ false
