@@ -38,7 +38,7 @@ use Rattle.ssa_typed.specs.Typed.{IsTypedInstr, FitsRegister, FitsTyped, is_allo
 
 -- ---- instructions that give no register
 
-no_register : (s : Site) (it : Op) → ((of : TypeId) → FitsGiving s.code s.function it of → ⊥) → (register : Option ℕ)
+pub no_register : (s : Site) (it : Op) → ((of : TypeId) → FitsGiving s.code s.function it of → ⊥) → (register : Option ℕ)
     → (of : Option TypeId) → IsRegister s.function register of → FitsOp s.code s.function it of → register ≡ None
 no_register s it never None of is typed = refl
 no_register s it never (Some register) of is typed =

@@ -25,6 +25,7 @@ pub mod Throwing
 pub mod Channels
 pub mod Outcomes
 pub mod Waiting
+pub mod Waking
 pub mod Going
 pub mod Readied
 pub mod Entering
