@@ -11,8 +11,9 @@ with_edge from to rows = slice_set rows from (next rows from ++ to ∷ [])
 abbrev pub with_edges : ℕ → List ℕ → List (List ℕ) → List (List ℕ)
 with_edges from targets rows = slice_set rows from (next rows from ++ targets)
 
--- The nodes of a graph in an order in which each comes after what it leads to, except for what leads back to it: for each
--- node the number of its component, the nodes of one component together, and marks at the nodes that lead to themselves.
+-- The nodes of a graph in an order in which each comes after what it leads to, except for what leads back to it: for
+-- each node the number of its component, the nodes of one component together, and marks at the nodes that lead to
+-- themselves.
 pub record IsOrder (rows : List (List ℕ)) (of nodes : List ℕ) (marks : List Bool) : Type 0 where
   pub graph : IsGraph rows
   pub components : AreComponents rows of nodes

@@ -9,8 +9,8 @@ use Rattle.typed_parts.specs.Joining.{with_last}
 use Rattle.typed_parts.specs.Judged.{Judged, fine, reported, unsound}
 use Rattle.typed_parts.specs.Limits.{Basis, basis, on_basis}
 
--- the answer is what a rule makes, with what it stands on before and after: the types, and what is known of their sizes;
--- what it breaks was reported, and of the ground only the basis became another
+-- the answer is what a rule makes, with what it stands on before and after: the types, and what is known of their
+-- sizes; what it breaks was reported, and of the ground only the basis became another
 pub record Turned {A : Type 0} (old new : Ground) (answer : Option A) (Is : Basis → Basis → Judged A → Type 0)
     : Type 0 where
   pub judged : Judged A

@@ -127,8 +127,8 @@ module _ (p : Program) (tests : Tests) where
   fits_program =
       fit_bodies 0 p.functions p.bodies && (list_all fits_step p.initialisers && fits_main p.main)
 
--- whichever tests tell what is true of the types, by them each node has parts of the types that it needs, and each name,
--- field and method that a node selects exists
+-- whichever tests tell what is true of the types, by them each node has parts of the types that it needs, and each
+-- name, field and method that a node selects exists
 abbrev pub IsTypedProgram : Program → Type 0
 IsTypedProgram p = (tests : Tests) → AreTold p.types tests → IsTrue (fits_program p tests)
 

@@ -1,5 +1,5 @@
--- Which names are used. Go specification, "Variable declarations": it is illegal "to declare a variable inside a function
--- body if the variable is never used"; "Type switches": the variables of all clauses have one name.
+-- Which names are used. Go specification, "Variable declarations": it is illegal "to declare a variable inside a
+-- function body if the variable is never used"; "Type switches": the variables of all clauses have one name.
 use Rattle.std.specs.Prelude.{ℕ, suc, ◌==◌, Bool, false, not, ◌&&◌, List, [], ◌∷◌, ◌++◌, slice_get, if◌then◌else◌}
 use Rattle.std.specs.Prelude.{unwrap_or}
 use Rattle.std.specs.List.{list_any}
