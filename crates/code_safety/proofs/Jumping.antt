@@ -1,40 +1,39 @@
 -- Jumps: the phis of the block are read, and then written.
-use Rattle.std.proofs.Common.{◌≡◌, ◌⊎◌, inl, inr, ℕ, zero, suc, Bool, true, false, true≢false, if◌then◌else◌, cond, ◌&&◌, ◌==◌, List, [], ◌∷◌, ◌++◌, Option, Some, None, refl, sym, subst, ap, ◌∙◌, slice_get, Contains, option_map, IsTrue}
+use Rattle.std.proofs.Common.{◌≡◌, inl, inr, ℕ, zero, suc, Bool, true, false, true≢false, if◌then◌else◌, cond, ◌&&◌, ◌==◌, List, [], ◌∷◌, Option, Some, None, refl, sym, subst, ap, ◌∙◌, slice_get, option_map}
 use Rattle.std.proofs.lemmas.Option.{none-some}
 use Rattle.std.specs.List.{list_all, find}
 use Rattle.std.specs.Option.{option_and_then}
-use Rattle.code_safety.specs.Runnable.{has_meaning, runs, runs_op, operands_of, operands_of_edges}
+use Rattle.code_safety.specs.Runnable.{has_meaning, runs, runs_op, operands_of_edges}
 use Rattle.code_safety.proofs.Available.{sane_of, typed_of, jump_stands, edge_written, written_with, begun_at}
 use Rattle.code_safety.proofs.Going.{operand_reads, result_fits, result_written, result_same}
 use Rattle.code_safety.proofs.Lists.{some_same}
-use Rattle.code_safety.proofs.Machines.{Safe, FrameFits, Stands, IsBegun, IsWritten, TopStands, begun, Takes, AreBelow, GivesOf, AreFrames}
+use Rattle.code_safety.proofs.Machines.{Safe, FrameFits, IsBegun, IsWritten, begun, Takes, AreBelow, AreFrames}
 use Rattle.code_safety.proofs.Members.{both, member, given_at}
 use Rattle.code_safety.proofs.Opening.{frames_closed}
 use Rattle.code_safety.proofs.Operands.{operand_value, truth_value}
 use Rattle.code_safety.proofs.Going.{site_reads}
-use Rattle.code_safety.proofs.Sites.{SiteFits, Reads, IsRegister, HasValue}
+use Rattle.code_safety.proofs.Sites.{SiteFits, Reads, IsRegister}
 use Rattle.code_safety.proofs.Throwing.{moved_fits}
 use Rattle.code_safety.proofs.Values.{Typing, IsOf}
 use Rattle.go_base.specs.declared.ids.BlockId.{BlockId}
 use Rattle.go_base.specs.declared.ids.TypeId.{TypeId}
-use Rattle.go_value.specs.Values.{Val, truth}
+use Rattle.go_value.specs.Values.{Val}
 use Rattle.ssa_ir.specs.Blocks.{instrs_at}
 use Rattle.ssa_ir.specs.Uses.{given_registers}
 use Rattle.ssa_ir.specs.declared.code.Code.{Code}
 use Rattle.ssa_ir.specs.declared.code.Function.{Function}
 use Rattle.ssa_ir.specs.declared.operands.Operand.{Operand}
-use Rattle.ssa_ir.specs.declared.operands.Operand.TheVariants as operand
 use Rattle.ssa_ir.specs.declared.ops.Instr.{Instr}
 use Rattle.ssa_ir.specs.declared.ops.Op.{Op}
 use Rattle.ssa_ir.specs.declared.ops.Op.TheVariants as op
 use Rattle.ssa_ir.specs.declared.ops.PhiEdge.{PhiEdge}
-use Rattle.ssa_mean.specs.State.{Frame, goes, stuck, where_there, with_frames, with_result}
-use Rattle.ssa_mean.specs.Step.{Site, value, edge_value, phi_value, with_phis, front_phis, jumps, branches, acts}
+use Rattle.ssa_mean.specs.State.{Frame, goes, where_there, with_frames, with_result}
+use Rattle.ssa_mean.specs.Step.{Site, value, phi_value, with_phis, front_phis, jumps, branches, acts}
 use Rattle.ssa_mean.specs.Unwinding.{is_phi, at_block}
 use Rattle.ssa_sane.specs.Sane.{IsTarget, is_new}
 use Rattle.ssa_typed.specs.Forms.{FitsOp, FitsGiving, fits_giving, fits_alone}
-use Rattle.ssa_typed.specs.Operands.{is_operand, register_at}
-use Rattle.ssa_typed.specs.Typed.{IsTypedInstr, FitsRegister, FitsTyped, is_allowed, given_in}
+use Rattle.ssa_typed.specs.Operands.{is_operand}
+use Rattle.ssa_typed.specs.Typed.{IsTypedInstr, FitsRegister, FitsTyped}
 
 -- ---- instructions that give no register
 
@@ -123,13 +122,13 @@ phi_gives t s instr site to place phi target none there is =
     let typed = phi_typed c f phi edges.0 _ edges.1 ((typed_of c site.safe n f site.fits.there).instrs to place phi there) in
     let edge = edge_written f s.frame instr to place phi edges.0 (sane_of c site.safe n f site.fits.there) site.stands site.at target none there edges.1 in
     let runnable : runs c f (op.Phi edges.0) ≡ true =
-            subst (λ it. runs c f it ≡ true) edges.1 (site.safe.runnable.instrs n to place f phi site.fits.there there) in
+    subst (λ it. runs c f it ≡ true) edges.1 (site.safe.runnable.instrs n to place f phi site.fits.there there) in
     let mean = edges_mean c edges.0 (both (runs_op c f (op.Phi edges.0)) _ runnable).1 in
     let v = operand_value t s site.safe.held edge.0.value
-            (operand_reads t s instr site edge.0.value edge.1.1
-            (found_passes (λ edge. has_meaning c edge.value) (λ edge. edge.from.number == s.frame.block) edges.0 edge.0 mean edge.1.0))
-            typed.of
-            (found_passes (λ edge. is_operand c f edge.value typed.of) (λ edge. edge.from.number == s.frame.block) edges.0 edge.0 typed.typed edge.1.0) in
+    (operand_reads t s instr site edge.0.value edge.1.1
+    (found_passes (λ edge. has_meaning c edge.value) (λ edge. edge.from.number == s.frame.block) edges.0 edge.0 mean edge.1.0))
+    typed.of
+    (found_passes (λ edge. is_operand c f edge.value typed.of) (λ edge. edge.from.number == s.frame.block) edges.0 edge.0 typed.typed edge.1.0) in
     record {
       register = typed.register;
       is = typed.is;
@@ -172,7 +171,7 @@ phis_fit t s fits (phi ∷ phis) each =
     let rest = phis_fit t s fits phis (λ k. each (suc k)) in
     let first = each 0 phi refl in
     let registered : IsRegister s.function phi.register (Some first.of) =
-            subst (λ register. IsRegister s.function register (Some first.of)) (sym first.is) (first.of, (refl, first.held)) in
+    subst (λ register. IsRegister s.function register (Some first.of)) (sym first.is) (first.of, (refl, first.held)) in
     record {
       new = with_result phi.register (Some first.it) rest.new;
       is =
@@ -205,25 +204,26 @@ jumps_safe t s instr site block target none other =
     let f = s.function in
     let to = block.number in
     let phis = phis_fit t s site.fits (front_phis (instrs_at f to)) (λ k phi is.
-            let at = front_get (instrs_at f to) k phi is in
-            phi_gives t s instr site to k phi target none at.0 at.1) in
+    let at = front_get (instrs_at f to) k phi is in
+    phi_gives t s instr site to k phi target none at.0 at.1) in
     let new = phis.new in
     let stands = jump_stands c site.safe s.frame.function.number f site.fits.there s.frame new instr to site.stands site.at target none
-            phis.keeps
-            (λ register h.
-            let given = given_at (front_phis (instrs_at f to)) register (member (given_registers (front_phis (instrs_at f to))) register h) in
-            phis.gives given.0 given.1.0 register given.1.1.0 given.1.1.1) in
+    phis.keeps
+    (λ register h.
+    let given = given_at (front_phis (instrs_at f to)) register (member (given_registers (front_phis (instrs_at f to))) register h) in
+    phis.gives given.0 given.1.0 register given.1.1.0 given.1.1.1) in
     let old = begun_at f s.frame instr site.stands site.started site.at other in
     let started : IsBegun f (at_block f to new) =
-            λ register h. let is = phis.keeps register (old register h) in record { it = is.it; there = is.there } in
-    let frames : AreFrames c t (at_block f to new ∷ s.below) =
-            (record {
-              function = f;
-              fits = moved_fits c t f new (at_block f to new).block (at_block f to new).place new.state phis.fits phis.fits.state;
-              stands = begun stands started;
-              takes = subst (λ r. Takes c f r s.below) (sym phis.same_result) site.takes;
-            },
-            subst (λ r. AreBelow c t r s.below) (sym phis.same_result) site.lower) in
+    λ register h. let is = phis.keeps register (old register h) in record { it = is.it; there = is.there } in
+    let frames : AreFrames c t (at_block f to new ∷ s.below) = (
+      record {
+        function = f;
+        fits = moved_fits c t f new (at_block f to new).block (at_block f to new).place new.state phis.fits phis.fits.state;
+        stands = begun stands started;
+        takes = subst (λ r. Takes c f r s.below) (sym phis.same_result) site.takes;
+      },
+      subst (λ r. AreBelow c t r s.below) (sym phis.same_result) site.lower,
+    ) in
     subst (λ found. Safe c (where_there (λ frame. goes (with_frames s.goroutine (at_block f to frame ∷ s.below) s.machine)) found))
     (sym phis.is)
     (t, frames_closed c t s.machine s.goroutine (at_block f to new ∷ s.below) site.there site.machine site.begin site.calm frames)
@@ -251,12 +251,12 @@ pub if_safe : (t : Typing) (s : Site) (instr : Instr) → SiteFits t s instr →
 unfolding acts fits_alone
 if_safe t s instr site test one other is =
     let none = no_register s (op.If test one other) (if_gives_none s.code s.function test one other) instr.register site.of site.register
-            (subst (λ it. FitsOp s.code s.function it site.of) is site.typed) in
+    (subst (λ it. FitsOp s.code s.function it site.of) is site.typed) in
     let untyped = subst (λ register. IsRegister s.function register site.of) none site.register in
     let typed = subst (λ of. FitsOp s.code s.function (op.If test one other) of) untyped
-            (subst (λ it. FitsOp s.code s.function it site.of) is site.typed) in
+    (subst (λ it. FitsOp s.code s.function it site.of) is site.typed) in
     let b = truth_value t s test
-            ((subst (λ it. Reads t s it) is (site_reads t s instr site)).values test (inl refl)) typed in
+    ((subst (λ it. Reads t s it) is (site_reads t s instr site)).values test (inl refl)) typed in
     let plain = ap (λ it. is_new (record instr { op = it })) is in
     subst (λ found. Safe s.code (where_there (branches s one other) found)) (sym b.1)
     (by b.0

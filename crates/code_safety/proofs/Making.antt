@@ -1,22 +1,22 @@
 -- New cells, maps, slices and channels.
-use Rattle.std.proofs.Common.{◌≡◌, ◌≤◌, inl, inr, ℕ, ℤ, pos, Bool, true, false, true≢false, ◌&&◌, ◌||◌, List, [], ◌∷◌, ◌++◌, length, replicate, Option, Some, None, refl, sym, subst, ap, ◌∙◌, slice_get, is_some, IsTrue, if◌then◌else◌, int_lt, unsigned_abs, arith}
-use Rattle.std.proofs.lemmas.Bool.{cases_Bool, or_parts}
+use Rattle.std.proofs.Common.{◌≡◌, ◌≤◌, inl, inr, ℕ, ℤ, pos, Bool, true, false, true≢false, ◌||◌, [], ◌∷◌, ◌++◌, length, replicate, Option, Some, None, refl, sym, subst, ap, ◌∙◌, slice_get, is_some, if◌then◌else◌, int_lt, unsigned_abs, arith}
+use Rattle.std.proofs.lemmas.Bool.{or_parts}
 use Rattle.std.proofs.lemmas.Int.{ints}
 use Rattle.std.proofs.lemmas.Option.{none-some}
 use Rattle.std.specs.Option.{option_and_then}
-use Rattle.code_safety.specs.Runnable.{runs, runs_op, operands_of, has_meaning, has_zero}
+use Rattle.code_safety.specs.Runnable.{has_zero}
 use Rattle.code_safety.proofs.Growing.{cells_grow, maps_grow}
 use Rattle.code_safety.proofs.Lists as lists
 use Rattle.code_safety.proofs.Machines.{StoresCome, StoresFit}
 use Rattle.code_safety.proofs.Operands.{integer_value}
 use Rattle.code_safety.proofs.Sames.{under_plain}
-use Rattle.code_safety.proofs.Shapes.{alike_self, alike_of, alike_sym}
-use Rattle.code_safety.proofs.Sites.{Reads, Among}
+use Rattle.code_safety.proofs.Shapes.{alike_self}
+use Rattle.code_safety.proofs.Sites.{Reads}
 use Rattle.code_safety.proofs.Stores.{with_home, home_grows, makes, new_home, with_map_home, map_home_grows, new_slices, array_fits}
-use Rattle.code_safety.proofs.Values.{Typing, Grows, Home, one, many, MapHome, Fits, IsOf, IsStore, EntriesFit, PointsInto, under_of}
+use Rattle.code_safety.proofs.Values.{Typing, one, many, MapHome, Fits, IsOf, IsStore, EntriesFit, PointsInto, under_of}
 use Rattle.code_safety.proofs.Zeros.{zero_fits}
 use Rattle.go_base.specs.declared.ids.TypeId.{TypeId}
-use Rattle.go_sched.specs.Goroutines.{State, with_new_chan}
+use Rattle.go_sched.specs.Goroutines.{with_new_chan}
 use Rattle.go_store.specs.Arrays.{array_of}
 use Rattle.go_store.specs.Slices.{make_fault, most_elements, with_zeros, slice_of_new}
 use Rattle.go_store.specs.Stores.{made}
@@ -29,10 +29,8 @@ use Rattle.go_value.specs.Values.{Val, number, pointer, slice, map_number, chan_
 use Rattle.go_value.specs.declared.faults.Fault.{Fault}
 use Rattle.go_value.specs.declared.faults.Fault.TheVariants as fault
 use Rattle.ssa_ir.specs.declared.operands.Operand.{Operand}
-use Rattle.ssa_ir.specs.declared.ops.Op.{Op}
 use Rattle.ssa_ir.specs.declared.ops.Op.TheVariants as op
 use Rattle.ssa_mean.specs.Comes.{Comes, to, faults, nowhere, of_option, then_to, where_some}
-use Rattle.ssa_mean.specs.Conversions.{Stores}
 use Rattle.ssa_mean.specs.Making.{Channels, leaves_of, is_no_size, made_chan, made_where, made_slice}
 use Rattle.ssa_mean.specs.Operands.{element_in}
 use Rattle.ssa_mean.specs.Places.{new_pointer}
@@ -80,15 +78,15 @@ new_comes t s base reads of typed =
     let grown = with_home (one base) t in
     let under = under_plain c.types reads.safe.held of (term.Pointer base) (points_to (term_at c.types of) base typed) refl in
     let into : PointsInto c grown (record { number = length store.cells }) [] base =
-            record { home = one base; there = new_home c t store (one base) reads.store; of = base; at = refl; alike = alike_self c.types base } in
+    record { home = one base; there = new_home c t store (one base) reads.store; of = base; at = refl; alike = alike_self c.types base } in
     let fit : StoresFit c t of (pointer (new_pointer store)) (made store zero.0) =
-            record {
-              typing = grown;
-              grows = home_grows t (one base);
-              chans = refl;
-              is_store = makes c t store reads.store zero.0 (one base) (zero_fits c t base zero.0 zero.1);
-              is_of = subst (λ term. Fits c grown (pointer (new_pointer store)) term) (sym under) into;
-            } in
+    record {
+      typing = grown;
+      grows = home_grows t (one base);
+      chans = refl;
+      is_store = makes c t store reads.store zero.0 (one base) (zero_fits c t base zero.0 zero.1);
+      is_of = subst (λ term. Fits c grown (pointer (new_pointer store)) term) (sym under) into;
+    } in
     subst (λ found. StoresCome c t of
     (then_to (λ it. record { value = pointer (new_pointer store); store = made store it }) (of_option found)))
     (sym zero.1) fit
@@ -188,9 +186,9 @@ make_slice_comes t s made len cap reads of typed =
     let is = slice_is (under_of c of) l.0 in
     let elem = is.0 in
     let element : element_in (under_of c made) ≡ Some elem =
-            ap (λ id. element_in (under_of c id)) ((same_id-Decides made of).0 k.0) ∙ ap element_in is.1 in
+    ap (λ id. element_in (under_of c id)) ((same_id-Decides made of).0 k.0) ∙ ap element_in is.1 in
     let zero = some_of (zero_of c elem)
-            (sym (ap (λ found. is_some (option_and_then (zero_of c) found)) element) ∙ (both (has_zero c (element_in (under_of c made))) _ reads.runnable).0) in
+    (sym (ap (λ found. is_some (option_and_then (zero_of c) found)) element) ∙ (both (has_zero c (element_in (under_of c made))) _ reads.runnable).0) in
     let n = integer_value t s len (reads.values len (inl refl)) m.0 in
     let o = integer_value t s cap (reads.values cap (inr (inl refl))) m.1 in
     subst (StoresCome c t of)
@@ -259,7 +257,7 @@ make_chan_comes t s made size reads of typed count =
     let is = chan_is (under_of c of) l.0 in
     let elem = is.1 in
     let element : element_in (under_of c made) ≡ Some elem =
-            ap (λ id. element_in (under_of c id)) ((same_id-Decides made of).0 k.0) ∙ ap element_in is.2 in
+    ap (λ id. element_in (under_of c id)) ((same_id-Decides made of).0 k.0) ∙ ap element_in is.2 in
     let n = integer_value t s size (reads.values size (inl refl)) l.1 in
     subst (ChannelComes t s of)
     (sym (ap (where_some (λ elem. with_integer s size (made_chan (leaves_of c.types elem) s.machine.sched))) element

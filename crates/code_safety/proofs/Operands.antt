@@ -1,7 +1,6 @@
 -- What operands are, from what typed code says of them.
-use Rattle.std.proofs.Common.{◌≡◌, ◌⊎◌, inl, inr, ℕ, ℤ, zero, suc, Bool, true, false, true≢false, ◌==◌, ◌&&◌, List, [], ◌∷◌, length, Option, Some, None, refl, sym, subst, ap, ◌∙◌, slice_get, is_some, IsTrue, if◌then◌else◌, option_map, arith}
+use Rattle.std.proofs.Common.{◌≡◌, inl, inr, ℕ, ℤ, zero, suc, Bool, true, false, true≢false, ◌==◌, List, [], ◌∷◌, length, Option, Some, None, refl, sym, subst, ap, ◌∙◌, slice_get, is_some, if◌then◌else◌, option_map, arith}
 use Rattle.std.proofs.lemmas.Option.{none-some, cond_some, option_and_then_some}
-use Rattle.std.specs.Bool.{beq}
 use Rattle.std.specs.Cmp.{booleans_Decides, unsigned_Decides}
 use Rattle.std.specs.Cmp.Lexicographic.{pointwise}
 use Rattle.std.specs.List.{AllZip}
@@ -12,7 +11,7 @@ use Rattle.code_safety.proofs.Machines.{IsThrown}
 use Rattle.code_safety.proofs.Sames.{under_plain, held_id, zip_tested, same_id_alike}
 use Rattle.code_safety.proofs.Shapes.{Alike, alike_sym, zip_turned}
 use Rattle.code_safety.proofs.Sites.{Among, KnownFits, Valued, HasValue}
-use Rattle.code_safety.proofs.Values.{Typing, Fits, IsOf, AreOf, Points, PointsAs, IsClosure, HasSignature, under_of}
+use Rattle.code_safety.proofs.Values.{Typing, Fits, IsOf, AreOf, Points, PointsAs, HasSignature, under_of}
 use Rattle.go_base.specs.declared.ids.FuncId.{FuncId}
 use Rattle.go_base.specs.declared.ids.TypeId.{TypeId}
 use Rattle.go_type.specs.Held.{IsHeld}
@@ -33,8 +32,7 @@ use Rattle.ssa_ir.specs.declared.code.Function.{Function}
 use Rattle.ssa_ir.specs.declared.operands.Operand.{Operand}
 use Rattle.ssa_ir.specs.declared.operands.Operand.TheVariants as operand
 use Rattle.ssa_mean.specs.Operands as means
-use Rattle.ssa_mean.specs.State.{Frame}
-use Rattle.ssa_mean.specs.Step.{Site, value, kind_at}
+use Rattle.ssa_mean.specs.Step.{Site, value}
 use Rattle.ssa_typed.specs.Operands.{known, is_known, is_operand, shape, held_type, is_integer_operand, is_truth_operand, is_any_operand, pointee}
 use Rattle.ssa_typed.specs.Operands.{is_function_type, is_signature, is_value, type_of, address_of, value_of, has_constant, term_of, is_integer_type, is_any_type, pointee_of}
 use Rattle.ssa_typed.specs.declared.known.Known.{Known}
@@ -290,10 +288,14 @@ any_value t s held it has h = by (held_type (known s.code s.function it)) refl h
         → (v : Val) × ((value s it ≡ Some v) × IsThrown s.code t v)
     by None e h = absurd (true≢false (sym h))
     by (Some of) e h =
-        let v = held_value t s it has of e in
-        (v.0, (v.1.0,
-        subst (λ term. Fits s.code t v.0 term)
-        (under_plain s.code.types held of (term.Interface []) (any_is (term_at s.code.types of) h) refl) v.1.1))
+        let v = held_value t s it has of e in (
+          v.0,
+          (
+            v.1.0,
+            subst (λ term. Fits s.code t v.0 term)
+                (under_plain s.code.types held of (term.Interface []) (any_is (term_at s.code.types of) h) refl) v.1.1,
+          ),
+        )
 
 -- ---- pointers
 
@@ -386,6 +388,10 @@ pub all_are : (t : Typing) (s : Site) → IsHeld s.code.types → (its : List Op
 all_are t s held [] of has h = ([], (refl, λ n v is. absurd (none-some v is)))
 all_are t s held (it ∷ its) of has h =
     let v = operand_value t s held it (has it (inl refl)) of (h it (inl refl)) in
-    let rest = all_are t s held its of (λ other among. has other (inr among)) (λ other among. h other (inr among)) in
-    (v.0 ∷ rest.0, (with_values (value s it) (means.values_of s.code s.frame its) v.0 rest.0 v.1.0 rest.1.0,
-    all_of s.code t v.0 rest.0 of v.1.1 rest.1.1))
+    let rest = all_are t s held its of (λ other among. has other (inr among)) (λ other among. h other (inr among)) in (
+      v.0 ∷ rest.0,
+      (
+        with_values (value s it) (means.values_of s.code s.frame its) v.0 rest.0 v.1.0 rest.1.0,
+        all_of s.code t v.0 rest.0 of v.1.1 rest.1.1,
+      ),
+    )

@@ -1,36 +1,34 @@
 -- Loads, stores, fields, elements and slices.
-use Rattle.std.proofs.Common.{◌≡◌, ◌⊎◌, inl, inr, ◌<◌, ℕ, ℤ, pos, zero, suc, Bool, true, false, true≢false, not, ◌&&◌, List, [], ◌∷◌, ◌++◌, length, map, replicate, Option, Some, None, Result, Ok, Err, is_none, is_some, refl, sym, subst, ap, ◌∙◌, slice_get, unwrap_or, IsTrue, if◌then◌else◌, arith}
+use Rattle.std.proofs.Common.{◌≡◌, inl, inr, ◌<◌, ℕ, ℤ, pos, zero, suc, true, true≢false, not, List, [], ◌∷◌, ◌++◌, length, map, replicate, Option, Some, None, Result, Ok, Err, is_none, is_some, refl, sym, subst, ap, ◌∙◌, slice_get, unwrap_or, IsTrue, if◌then◌else◌, arith}
 use Rattle.std.proofs.lemmas.Option.{none-some}
 use Rattle.std.specs.List.{AllZip}
-use Rattle.std.specs.Option.{option_and_then}
-use Rattle.code_safety.specs.Runnable.{operands_of, operands_if}
-use Rattle.code_safety.proofs.Forms.{text_in, number_fits, pointer_in, slice_in, parts_in}
+use Rattle.code_safety.specs.Runnable.{operands_if}
+use Rattle.code_safety.proofs.Forms.{text_in, number_fits, slice_in, parts_in}
 use Rattle.code_safety.proofs.Lists as lists
 use Rattle.code_safety.proofs.Lists.{some_same}
 use Rattle.code_safety.proofs.Machines.{ValueComes, StoreComes}
 use Rattle.code_safety.proofs.Making.{points_to, with_integer_is}
-use Rattle.code_safety.proofs.Operands.{known_of, operand_value, shape_is, shape_value, held_value, integer_value, pointee_value, pointee_is}
+use Rattle.code_safety.proofs.Operands.{operand_value, shape_is, shape_value, held_value, integer_value, pointee_value, pointee_is}
 use Rattle.code_safety.proofs.Operators.{result_comes, two_are}
 use Rattle.code_safety.proofs.Sames.{under_plain}
 use Rattle.code_safety.proofs.Sites.{Reads, Among, HasValue}
 use Rattle.code_safety.proofs.Stores.{parts_are, part_is, loads, puts, part_points, element_points, sliced_slices, whole_slices, placed}
-use Rattle.code_safety.proofs.Values.{Typing, Fits, IsOf, IsStore, Points, Slices, item_types, under_of}
+use Rattle.code_safety.proofs.Values.{Typing, Fits, IsOf, Points, Slices, item_types, under_of}
 use Rattle.go_base.specs.declared.ids.CellId.{CellId}
 use Rattle.go_base.specs.declared.ids.TypeId.{TypeId}
 use Rattle.go_store.specs.Arrays.{values_in}
-use Rattle.go_store.specs.Cells.{value_at}
 use Rattle.go_store.specs.Slices.{sliced, whole_array, element_of}
-use Rattle.go_store.specs.Stores.{Stored, loaded, put_in}
+use Rattle.go_store.specs.Stores.{loaded, put_in}
 use Rattle.go_type.specs.Kinds.{kind_of_term}
-use Rattle.go_type.specs.Same.{both, same_id, same_id-Decides}
-use Rattle.go_type.specs.Table.{Table, term_at, basic_id}
+use Rattle.go_type.specs.Same.{both, same_id-Decides}
+use Rattle.go_type.specs.Table.{term_at, basic_id}
 use Rattle.go_type.specs.declared.term.Basic.TheVariants as basic
 use Rattle.go_type.specs.declared.term.Field.{Field}
 use Rattle.go_type.specs.declared.term.TypeTerm.{TypeTerm}
 use Rattle.go_type.specs.declared.term.TypeTerm.TheVariants as term
 use Rattle.go_value.specs.Address.{part_of}
 use Rattle.go_value.specs.Texts.{place_at, text_between}
-use Rattle.go_value.specs.Values.{Val, number, text, pointer, slice, parts}
+use Rattle.go_value.specs.Values.{Val, number, text, pointer, slice}
 use Rattle.go_value.specs.declared.address.Pointer.{Pointer}
 use Rattle.go_value.specs.declared.address.SliceValue.{SliceValue}
 use Rattle.go_value.specs.declared.faults.Fault.{Fault}
@@ -40,14 +38,12 @@ use Rattle.ssa_ir.specs.declared.code.Function.{Function}
 use Rattle.ssa_ir.specs.declared.operands.Operand.{Operand}
 use Rattle.ssa_ir.specs.declared.ops.Op.{Op}
 use Rattle.ssa_ir.specs.declared.ops.Op.TheVariants as op
-use Rattle.ssa_mean.specs.Comes.{Comes, to, faults, nowhere, of_option, of_result, then_to, and_then, where_some}
+use Rattle.ssa_mean.specs.Comes.{Comes, to, faults, of_option, of_result, then_to, and_then, where_some}
 use Rattle.ssa_mean.specs.Operands.{under, pointed_length, length_in}
 use Rattle.ssa_mean.specs.Places.{followed, load, assigned, field_of, field_address, element_value, index_of, element_address, index_address, Bounds, cut, part_between}
-use Rattle.ssa_mean.specs.Step.{Site, value, with_one, with_two, with_integer, with_bound, slice_part}
+use Rattle.ssa_mean.specs.Step.{Site, value, with_one, with_two, with_bound, slice_part}
 use Rattle.ssa_typed.specs.Forms.{FitsGiving, fits_giving, fits_alone, has_field, has_field_address, has_elem, elem_below, array_elem_at, is_pointer_where, is_slice_where, is_bound, are_bounds, slices, has_part, extracts}
 use Rattle.ssa_typed.specs.Operands.{known, is_known, held_type, shape, is_operand, is_where, is_integer_operand, pointee}
-use Rattle.ssa_typed.specs.declared.known.Known.{Known}
-use Rattle.ssa_typed.specs.declared.known.Known.TheVariants as known_as
 use Rattle.type_shapes.specs.Shapes as shapes
 
 -- ---- pointers that are followed
@@ -252,7 +248,7 @@ index_comes t s it index reads of typed =
         let bytes = text_in c t v.0 v.1.1 in
         let held = reads.safe.held in
         let under = ap (under_of c) ((same_id-Decides of (basic_id basic.Uint8)).0 h)
-                ∙ under_plain c.types held (basic_id basic.Uint8) (term.Basic basic.Uint8) (held.basics basic.Uint8) refl in
+        ∙ under_plain c.types held (basic_id basic.Uint8) (term.Basic basic.Uint8) (held.basics basic.Uint8) refl in
         subst (ValueComes c t of)
         (sym (two_are s it index index_of (text bytes.0) (number n.0) (v.1.0 ∙ ap Some bytes.1) n.1))
         (text_value_comes c t bytes.0 of n.0 under)
@@ -383,11 +379,11 @@ slice_comes t s it low high max reads of typed =
     let more = operands_if high ++ operands_if max in
     let first = bound_value t s low (λ other among. reads.values other (inr (among_left other (operands_if low) more among))) l.0 in
     let second = bound_value t s high
-            (λ other among. reads.values other
-            (inr (among_right other (operands_if low) more (among_left other (operands_if high) (operands_if max) among)))) m.0 in
+    (λ other among. reads.values other
+    (inr (among_right other (operands_if low) more (among_left other (operands_if high) (operands_if max) among)))) m.0 in
     let third = bound_value t s max
-            (λ other among. reads.values other
-            (inr (among_right other (operands_if low) more (among_right other (operands_if high) (operands_if max) among)))) m.1 in
+    (λ other among. reads.values other
+    (inr (among_right other (operands_if low) more (among_right other (operands_if high) (operands_if max) among)))) m.1 in
     by (shape c f it) refl (record { low = first.0; high = second.0; max = third.0 })
     (λ whole is.
     ap (where_some (λ whole. with_bound s low (λ low. with_bound s high (λ high. with_bound s max (λ max.

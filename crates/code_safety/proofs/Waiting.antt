@@ -35,7 +35,7 @@ use Rattle.go_type.specs.Same.{same_id}
 use Rattle.go_type.specs.Table.{term_at, basic_id}
 use Rattle.go_type.specs.declared.term.Basic.TheVariants as basic
 use Rattle.go_type.specs.declared.term.TypeTerm.TheVariants as term
-use Rattle.go_value.specs.Values.{Val, none, chan_number}
+use Rattle.go_value.specs.Values.{Val, chan_number}
 use Rattle.go_value.specs.declared.faults.Fault.{Fault}
 use Rattle.go_value.specs.declared.faults.Fault.TheVariants as fault
 use Rattle.ssa_ir.specs.declared.code.Code.{Code}
@@ -79,14 +79,15 @@ current_there c t m after g on there = ap (λ (id : GoId). slice_get m.goroutine
 woken_with : (c : Code) (t : Typing) (goroutines : List Goroutine) (n : ℕ) (runnable : List ℕ) (new : Goroutine) (others : List Woken)
     → AreWoken c t goroutines n runnable others → AreWoken c t (slice_set goroutines n new) n runnable others
 woken_with c t goroutines n runnable new [] are = tt
-woken_with c t goroutines n runnable new (it ∷ others) are =
-    (record {
-      waits = waits_with c goroutines n it.goroutine.number new are.0.other are.0.waits;
-      fits = are.0.fits;
-      other = are.0.other;
-      runs = are.0.runs;
-    },
-    (are.1.0, woken_with c t goroutines n runnable new others are.1.1))
+woken_with c t goroutines n runnable new (it ∷ others) are = (
+  record {
+    waits = waits_with c goroutines n it.goroutine.number new are.0.other are.0.waits;
+    fits = are.0.fits;
+    other = are.0.other;
+    runs = are.0.runs;
+  },
+  (are.1.0, woken_with c t goroutines n runnable new others are.1.1),
+)
 
 -- an operation is done, and the current goroutine goes on
 done_safe : (c : Code) → IsSafe c → (t : Typing) (m : Machine) (after : State) (g new : Goroutine) → OpenFits c t m
@@ -98,12 +99,12 @@ done_safe c safe t m after g new fits on there is calm others are =
     let here = current_there c t m after g on there in
     let opened = open_with c t (with_sched after m) new (open_sched c t m after fits on) in
     let next = all_woken_fit c safe t (with_current new (with_sched after m)) others opened
-            (woken_with c t m.goroutines n after.runnable new others
-            (subst (λ (id : GoId). AreWoken c t m.goroutines id.number after.runnable others) (sym on.same) are)) in
+    (woken_with c t m.goroutines n after.runnable new others
+    (subst (λ (id : GoId). AreWoken c t m.goroutines id.number after.runnable others) (sym on.same) are)) in
     let same = next.1.1.1.1 in
     let found : slice_get next.0.goroutines next.0.sched.current.number ≡ Some new =
-            ap (λ (state : State). slice_get next.0.goroutines state.current.number) same ∙ next.1.1.1.0
-            ∙ get_set m.goroutines n new g here in
+    ap (λ (state : State). slice_get next.0.goroutines state.current.number) same ∙ next.1.1.1.0
+    ∙ get_set m.goroutines n new g here in
     there_safe c (switches c point.After) (all_woken c others (with_current new (with_sched after m))) next.0 next.1.0
     (switches_safe c safe t next.0
     (rest_of c t next.0 (record { opened = next.1.1.0; g = new; there = found; fits = is; calm = calm })) point.After)
@@ -355,7 +356,7 @@ receive_safe t s instr site channel comma_ok is =
     let v = shape_value t s channel (reads.values channel (inl refl)) (term.Chan way.0 elem.0) way.1 in
     let id = chan_in c t v.0 way.0 elem.0 v.1.1 in
     let from : ReceivesFrom c f channel elem.0 =
-            record { of = elem.0; is = element_is c f channel elem.0 elem.1; alike = alike_self c.types elem.0 } in
+    record { of = elem.0; is = element_is c f channel elem.0 elem.1; alike = alike_self c.types elem.0 } in
     let after = (receives 0 m.sched id.0).after in
     there_safe c (receive_from s instr.register channel comma_ok) (value s channel) (chan_number id.0) (v.1.0 ∙ ap Some id.1.0)
     (operation_safe t s instr site (receive_plain c f 0 elem.0 instr o is from) after
@@ -363,7 +364,7 @@ receive_safe t s instr site channel comma_ok is =
     (λ index it. option_map (λ given. behind_with s instr.register after (Some given)) (received c f channel comma_ok it)) None
     (λ index found took.
     let got = receive_gets c site.safe t f channel comma_ok site.of typed runnable found
-            (case_received c t f channel comma_ok id.0 found (subst (λ o. GivesCase c t f 0 o found (chans.receive id.0)) is took.1)) in
+    (case_received c t f channel comma_ok id.0 found (subst (λ o. GivesCase c t f 0 o found (chans.receive id.0)) is took.1)) in
     record {
       it = Some got.0;
       is = ap (option_map (λ given. behind_with s instr.register after (Some given))) got.1.0;
@@ -422,7 +423,7 @@ cases_fit t s safe blocking all (case.Receive channel ∷ cases) n (of ∷ ids) 
     let k = both (is_id (received_elem (shape c s.function channel)) of) (takes_cases c s.function cases ids) typed in
     let elem = id_is (received_elem (shape c s.function channel)) of k.0 in
     let rest = cases_fit t s safe blocking all cases (suc n) ids k.1 (λ it among. has it (inr among))
-            (λ k. subst (λ m. slice_get all m ≡ slice_get cases k) (omega arith) (same (suc k))) in
+    (λ k. subst (λ m. slice_get all m ≡ slice_get cases k) (omega arith) (same (suc k))) in
     let way = received_term (shape c s.function channel) of elem in
     let v = shape_value t s channel (has channel (inl refl)) (term.Chan way.0 of) way.1 in
     let id = chan_in c t v.0 way.0 of v.1.1 in
@@ -434,9 +435,19 @@ cases_fit t s safe blocking all (case.Receive channel ∷ cases) n (of ∷ ids) 
           (ap (λ found. option_map chans.receive (option_and_then meant_channel found)) (v.1.0 ∙ ap Some id.1.0))
           ∙ ap (with_case (Some (chans.receive id.0))) rest.is;
       fits =
-          case_each c t s.function (op.Select blocking all) n (chans.receive id.0) rest.asked
-          (of, (id.1.1, (channel, (here,
-          record { of = of; is = element_is c s.function channel of elem; alike = alike_self c.types of })))) rest.fits;
+          case_each c t s.function (op.Select blocking all) n (chans.receive id.0) rest.asked (
+            of,
+            (
+              id.1.1,
+              (
+                channel,
+                (
+                  here,
+                  record { of = of; is = element_is c s.function channel of elem; alike = alike_self c.types of },
+                ),
+              ),
+            ),
+          ) rest.fits;
     }
 
 select_typed : (c : Code) (f : Function) (blocking : Bool) (cases : List SelectCase) (of : Option TypeId)
@@ -473,11 +484,11 @@ select_safe t s instr site blocking cases is =
     let ids = select_typed c f blocking cases site.of typed in
     let reads = subst (λ o. Reads t s o) is (site_reads t s instr site) in
     let asked = cases_fit t s site.safe blocking cases cases 0 ids.0 ids.1 reads.values
-            (λ k. ap (slice_get cases) (omega arith)) in
+    (λ k. ap (slice_get cases) (omega arith)) in
     let outcome = selects m.sched asked.asked (not blocking) in
     let after = outcome.after in
     let next : ℕ → Option Val → Option Machine =
-            λ index it. option_map (λ given. behind_with s instr.register after (Some given)) (selected c f cases (Some index) it) in
+    λ index it. option_map (λ given. behind_with s instr.register after (Some given)) (selected c f cases (Some index) it) in
     let otherwise = option_map (λ given. behind_with s instr.register after (Some given)) (selected c f cases None None) in
     let other = select_gets c site.safe t f blocking cases site.of typed runnable None None tt in
     there_safe c (λ asked. select_among s instr.register blocking cases (selects m.sched asked (not blocking))) (cases_of c s.frame cases)
@@ -486,7 +497,7 @@ select_safe t s instr site blocking cases is =
     (λ n found. (it : Case) × ((slice_get asked.asked n ≡ Some it) × GivesCase c t f n instr.op found it)) next otherwise
     (λ index found took.
     let got = select_gets c site.safe t f blocking cases site.of typed runnable (Some index) found
-            (case_selected c t f blocking cases index found took.0 (subst (λ o. GivesCase c t f index o found took.0) is took.1.1)) in
+    (case_selected c t f blocking cases index found took.0 (subst (λ o. GivesCase c t f index o found took.0) is took.1.1)) in
     record {
       it = Some got.0;
       is = ap (option_map (λ given. behind_with s instr.register after (Some given))) got.1.0;
