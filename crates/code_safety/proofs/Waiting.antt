@@ -244,6 +244,12 @@ record Gone (t : Typing) (s : Site) (instr : Instr) (site : SiteFits t s instr) 
   is : found ≡ Some (behind_with s instr.register after it)
   gives : GivesOf s.code t it site.of
 
+gone_with : (t : Typing) (s : Site) (instr : Instr) (site : SiteFits t s instr) (after : State) (found : Option Val) (v : Val)
+    → found ≡ Some v → GivesOf s.code t (Some v) site.of
+    → Gone t s instr site after (option_map (λ given. behind_with s instr.register after (Some given)) found)
+gone_with t s instr site after found v is gives =
+    record { it = Some v; is = ap (option_map (λ given. behind_with s instr.register after (Some given))) is; gives = gives }
+
 gone_safe : (t : Typing) (s : Site) (instr : Instr) (site : SiteFits t s instr) → Plain instr → (after : State)
     → RunsOn s.code t s.machine.goroutines s.machine.sched after → (others : List Woken)
     → AreWoken s.code t s.machine.goroutines s.machine.sched.current.number after.runnable others → (found : Option Machine)
@@ -364,11 +370,7 @@ receive_safe t s instr site channel comma_ok is =
     (λ index found took.
     let got = receive_gets c site.safe t f channel comma_ok site.of typed runnable found
             (case_received c t f channel comma_ok id.0 found (subst (λ o. GivesCase c t f 0 o found (chans.receive id.0)) is took.1)) in
-    record {
-      it = Some got.0;
-      is = ap (option_map (λ given. behind_with s instr.register after (Some given))) got.1.0;
-      gives = got.1.1;
-    })
+    gone_with t s instr site after (received c f channel comma_ok found) got.0 got.1.0 got.1.1)
     (receives 0 m.sched id.0).answer (inl (receives_plain 0 m.sched id.0))
     (receives_fit c t m.goroutines m.sched site.machine.sched site.machine.current (site_waits t s instr site) 0 id.0
     (elem.0, (id.1.1, subst (λ o. MayReceive c f 0 elem.0 o) (sym is) from))))
@@ -487,17 +489,8 @@ select_safe t s instr site blocking cases is =
     (λ index found took.
     let got = select_gets c site.safe t f blocking cases site.of typed runnable (Some index) found
             (case_selected c t f blocking cases index found took.0 (subst (λ o. GivesCase c t f index o found took.0) is took.1.1)) in
-    record {
-      it = Some got.0;
-      is = ap (option_map (λ given. behind_with s instr.register after (Some given))) got.1.0;
-      gives = got.1.1;
-    })
-    outcome.answer
-    (inr (record {
-      it = Some other.0;
-      is = ap (option_map (λ given. behind_with s instr.register after (Some given))) other.1.0;
-      gives = other.1.1;
-    }))
+    gone_with t s instr site after (selected c f cases (Some index) found) got.0 got.1.0 got.1.1)
+    outcome.answer (inr (gone_with t s instr site after (selected c f cases None None) other.0 other.1.0 other.1.1))
     (selects_fit c t m.goroutines m.sched site.machine.sched site.machine.current (site_waits t s instr site) asked.asked (not blocking)
     (λ n it found.
     subst (λ o. CaseFits c t f n o it) (sym is)
