@@ -22,6 +22,7 @@ pub mod BuiltIns
 pub mod Available
 pub mod Opening
 pub mod Throwing
+pub mod Channels
 pub mod Outcomes
 pub mod Waiting
 pub mod Waking

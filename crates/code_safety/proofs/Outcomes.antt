@@ -1,26 +1,23 @@
 -- What operations on channels come to: who goes on, with what, and what the channels hold after.
-use Rattle.std.proofs.Common.{◌≡◌, ◌⊎◌, inl, inr, ⊎_elim, ◌<◌, ◌+◌, ◌==◌, ◌||◌, arith, ℕ, zero, suc, Bool, true, false, not, cond, if◌then◌else◌, nat_le, nat_lt, List, [], ◌∷◌, ◌++◌, length, map, drop, filter, Option, Some, None, Ok, Err, Result, refl, sym, subst, ap, ◌∙◌, slice_get, slice_set, slice_index, true≢false}
-use Rattle.std.proofs.lemmas.List.{length-map}
-use Rattle.std.proofs.lemmas.Option.{none-some}
+use Rattle.std.proofs.Common.{◌≡◌, ◌<◌, ◌+◌, ◌==◌, ◌||◌, arith, ℕ, suc, Bool, true, false, not, if◌then◌else◌, List, [], ◌∷◌, ◌++◌, length, map, Option, Some, None, Ok, Err, Result, refl, sym, subst, ap, ◌∙◌, slice_get, slice_index, true≢false}
 use Rattle.std.specs.Cmp.{unsigned_Decides}
 use Rattle.std.specs.Option.{option_map_or}
-use Rattle.code_safety.proofs.Lists.{get_set, get_set_other, length_set, get_either, get_below, below_get, get_drop, some_same}
-use Rattle.code_safety.proofs.Machines.{SchedFits, ChannelFits, SenderFits, ReceiverFits, ReceivesFrom, WaitsAt, MaySend, MayReceive, IsIn}
-use Rattle.code_safety.proofs.Members.{Member, same_or_other}
+use Rattle.code_safety.proofs.Lists.{get_below, below_get}
+use Rattle.code_safety.proofs.Machines.{SchedFits, ChannelFits, SenderFits, ReceiverFits, WaitsAt, MaySend, MayReceive, IsIn}
 use Rattle.code_safety.proofs.Sames.{is_of_alike}
-use Rattle.code_safety.proofs.Shapes.{Alike, alike_sym, alike_trans}
-use Rattle.code_safety.proofs.Throwing.{OnlyPicked, picked_same, sched_smaller}
-use Rattle.code_safety.proofs.Values.{Typing, IsOf, ChanFits, IsChanOf}
+use Rattle.code_safety.proofs.Shapes.{alike_sym}
+use Rattle.code_safety.proofs.Throwing.{picked_same, sched_smaller}
+use Rattle.code_safety.proofs.Values.{Typing, IsOf, ChanFits}
 use Rattle.go_base.specs.declared.ids.ChanId.{ChanId}
 use Rattle.go_base.specs.declared.ids.GoId.{GoId}
 use Rattle.go_base.specs.declared.ids.TypeId.{TypeId}
 use Rattle.go_sched.specs.Channels as chans
-use Rattle.go_sched.specs.Channels.{Case, Chan, Sending, is_other, left_by, has_room, with_value, with_sender, with_receiver, without_value, without_receiver, closed_down, front_value, moved_on, passed_on, passed}
+use Rattle.go_sched.specs.Channels.{Case, Chan, Sending, has_room, with_value, with_sender, with_receiver, without_value, without_receiver, closed_down, front_value, passed_on}
 use Rattle.go_sched.specs.Choices as choices
 use Rattle.go_sched.specs.Choices.{picked}
-use Rattle.go_sched.specs.Goroutines.{State, with_chan, changed, inserted, removed, stopped, gone_on}
+use Rattle.go_sched.specs.Goroutines.{State, with_chan, stopped, gone_on}
 use Rattle.go_sched.specs.Operations as operations
-use Rattle.go_sched.specs.Operations.{How, Woken, Answer, Outcome, done, default, blocks, sends, receives, closes, selects, sent_on, given, given_to, first_receives, receiver_served, kept, waits_to_send, received_from, taken, taken_from, first_sends, sender_served, drawn_from, waits_to_receive, closed_receiver, closed_sender, goes_on, with_first, with_firsts, served_by_close, all_gone_on, shut, closed_at, ready_from, acts_at, entered, all_entered, none_ready, with_choice, selects_among}
+use Rattle.go_sched.specs.Operations.{How, Woken, Answer, Outcome, done, default, blocks, sends, receives, closes, selects, sent_on, given, given_to, first_receives, receiver_served, received_from, taken, taken_from, first_sends, sender_served, closed_receiver, closed_sender, goes_on, with_first, with_firsts, served_by_close, all_gone_on, shut, closed_at, ready_from, entered, all_entered, none_ready, with_choice, selects_among}
 use Rattle.go_sched.specs.declared.channels.Receiver.{Receiver}
 use Rattle.go_value.specs.Values.{Val}
 use Rattle.go_value.specs.declared.faults.Fault.{Fault}
@@ -28,8 +25,8 @@ use Rattle.go_value.specs.declared.faults.Fault.TheVariants as fault
 use Rattle.ssa_ir.specs.declared.code.Code.{Code}
 use Rattle.ssa_ir.specs.declared.code.Function.{Function}
 use Rattle.ssa_ir.specs.declared.ops.Op.{Op}
-use Rattle.ssa_ir.specs.declared.ops.Op.TheVariants as op
 use Rattle.ssa_mean.specs.State.{Goroutine}
+use Rattle.code_safety.proofs.Channels.{in_inserted, inserted_keeps, map_from, gone_on_fits, with_chan_fits, stopped_fits, changed_is, may_receive_alike, chan_elem, sender_entered, receiver_entered, receiver_left, value_kept, value_drawn, sender_left, closed_down_fits}
 
 -- ---- those that go on
 
@@ -94,246 +91,7 @@ GivesCase c t f index op None (chans.receive chan) = (elem : TypeId) × MayRecei
 GivesCase c t f index op (Some it) (chans.receive chan) =
     (elem : TypeId) × (MayReceive c f index elem op × IsOf c t it elem)
 
--- ---- who may run
-
-in_inserted : (n : ℕ) (xs : List ℕ) → IsIn n (inserted n xs)
-in_inserted n [] = inl refl
-in_inserted n (x ∷ xs) = by (nat_lt n x) (x == n) refl (in_inserted n xs)
-  where
-    by : (less same : Bool) → (x == n) ≡ same → IsIn n (inserted n xs)
-        → IsIn n (if less then n ∷ x ∷ xs else (if same then x ∷ xs else x ∷ inserted n xs))
-    by true same e rest = inl refl
-    by false true e rest = inl ((unsigned_Decides x n).0 e)
-    by false false e rest = inr rest
-
-inserted_keeps : (n k : ℕ) (xs : List ℕ) → IsIn k xs → IsIn k (inserted n xs)
-inserted_keeps n k [] h = absurd h
-inserted_keeps n k (x ∷ xs) h = by (nat_lt n x) (x == n) h (inserted_keeps n k xs)
-  where
-    by : (less same : Bool) → IsIn k (x ∷ xs) → (IsIn k xs → IsIn k (inserted n xs))
-        → IsIn k (if less then n ∷ x ∷ xs else (if same then x ∷ xs else x ∷ inserted n xs))
-    by true same h rest = inr h
-    by false true h rest = h
-    by false false (inl e) rest = inl e
-    by false false (inr h) rest = inr (rest h)
-
-inserted_from : (n k : ℕ) (xs : List ℕ) → IsIn k (inserted n xs) → (n ≡ k) ⊎ IsIn k xs
-inserted_from n k [] (inl e) = inl e
-inserted_from n k [] (inr h) = absurd h
-inserted_from n k (x ∷ xs) h = by (nat_lt n x) (x == n) (inserted_from n k xs) h
-  where
-    by : (less same : Bool) → (IsIn k (inserted n xs) → (n ≡ k) ⊎ IsIn k xs)
-        → IsIn k (if less then n ∷ x ∷ xs else (if same then x ∷ xs else x ∷ inserted n xs)) → (n ≡ k) ⊎ IsIn k (x ∷ xs)
-    by true same rest (inl e) = inl e
-    by true same rest (inr h) = inr h
-    by false true rest h = inr h
-    by false false rest (inl e) = inr (inl e)
-    by false false rest (inr h) = ⊎_elim (λ e. inl e) (λ old. inr (inr old)) (rest h)
-
-removed_from : (n k : ℕ) (xs : List ℕ) → IsIn k (removed n xs) → IsIn k xs
-removed_from n k [] h = h
-removed_from n k (x ∷ xs) h = by (not (x == n)) (removed_from n k xs) h
-  where
-    by : (b : Bool) → (IsIn k (removed n xs) → IsIn k xs) → IsIn k (cond b (x ∷ removed n xs) (removed n xs))
-        → IsIn k (x ∷ xs)
-    by true rest (inl e) = inl e
-    by true rest (inr h) = inr (rest h)
-    by false rest h = inr (rest h)
-
-removed_not : (n : ℕ) (xs : List ℕ) → IsIn n (removed n xs) → ⊥
-removed_not n [] h = h
-removed_not n (x ∷ xs) h = by (x == n) refl (removed_not n xs) h
-  where
-    by : (same : Bool) → (x == n) ≡ same → (IsIn n (removed n xs) → ⊥)
-        → IsIn n (cond (not same) (x ∷ removed n xs) (removed n xs)) → ⊥
-    by true e rest h = rest h
-    by false e rest (inl same) = true≢false (sym ((unsigned_Decides x n).1 same) ∙ e)
-    by false e rest (inr h) = rest h
-
--- ---- who is in lists
-
-filter_from : {A : Type 0} (p : A → Bool) (xs : List A) (n : ℕ) (x : A) → slice_get (filter p xs) n ≡ Some x
-    → (k : ℕ) × ((slice_get xs k ≡ Some x) × (p x ≡ true))
-filter_from p [] n x is = absurd (none-some x is)
-filter_from {A = A} p (y ∷ ys) n x is = by (p y) refl n (filter_from p ys) is
-  where
-    by : (b : Bool) → p y ≡ b → (n : ℕ)
-        → ((n : ℕ) (x : A) → slice_get (filter p ys) n ≡ Some x → (k : ℕ) × ((slice_get ys k ≡ Some x) × (p x ≡ true)))
-        → slice_get (cond b (y ∷ filter p ys) (filter p ys)) n ≡ Some x
-        → (k : ℕ) × ((slice_get (y ∷ ys) k ≡ Some x) × (p x ≡ true))
-    by true e zero rest is = (0, (is, ap p (sym (some_same y x is)) ∙ e))
-    by true e (suc n) rest is = let found = rest n x is in (suc found.0, found.1)
-    by false e n rest is = let found = rest n x is in (suc found.0, found.1)
-
-map_from : {A B : Type 0} (f : A → B) (xs : List A) (n : ℕ) (y : B) → slice_get (map f xs) n ≡ Some y
-    → (x : A) × ((slice_get xs n ≡ Some x) × (f x ≡ y))
-map_from f [] n y is = absurd (none-some y is)
-map_from f (x ∷ xs) zero y is = (x, (refl, some_same (f x) y is))
-map_from f (x ∷ xs) (suc n) y is = map_from f xs n y is
-
-is_apart : (n : ℕ) (it : GoId) → is_other n it ≡ true → n ≡ it.number → ⊥
-is_apart n it h same =
-    true≢false (sym h ∙ ap not ((unsigned_Decides it.number n).1 (sym same)))
-
--- ---- channels that change
-
-left_fits : (c : Code) (t : Typing) (goroutines : List Goroutine) (n : ℕ) (runnable : List ℕ) (chan : Chan) (elem : TypeId)
-    → ChannelFits c t goroutines runnable chan elem
-    → ChannelFits c t goroutines (inserted n runnable) (left_by n chan) elem
-left_fits c t goroutines n runnable chan elem fits =
-    record {
-      queue = fits.queue;
-      senders = λ k it is.
-          let found = filter_from (λ (it : Sending). is_other n it.goroutine) chan.senders k it is in
-          let old = fits.senders found.0 it found.1.0 in
-          record {
-            value = old.value;
-            waits = old.waits;
-            sends = old.sends;
-            sleeps = λ runs.
-                ⊎_elim (is_apart n it.goroutine found.1.1) old.sleeps (inserted_from n it.goroutine.number runnable runs);
-          };
-      receivers = λ k it is.
-          let found = filter_from (λ (it : Receiver). is_other n it.goroutine) chan.receivers k it is in
-          let old = fits.receivers found.0 it found.1.0 in
-          record {
-            waits = old.waits;
-            receives = old.receives;
-            sleeps = λ runs.
-                ⊎_elim (is_apart n it.goroutine found.1.1) old.sleeps (inserted_from n it.goroutine.number runnable runs);
-          };
-    }
-
-gone_on_fits : (c : Code) (t : Typing) (goroutines : List Goroutine) (it : GoId) (state : State)
-    → SchedFits c t goroutines state → it.number < length goroutines → SchedFits c t goroutines (gone_on it state)
-gone_on_fits c t goroutines it state fits less =
-    record {
-      count = fits.count;
-      below = λ n h.
-          ⊎_elim (λ e. subst (λ n. n < length goroutines) e less) (fits.below n)
-          (inserted_from it.number n state.runnable h);
-      chans = fits.chans ∙ sym (length-map state.channels (left_by it.number));
-      channels = λ k chan elem is there.
-          let old = map_from (left_by it.number) state.channels k chan is in
-          subst (λ chan. ChannelFits c t goroutines (inserted it.number state.runnable) chan elem) old.1.1
-          (left_fits c t goroutines it.number state.runnable old.0 elem (fits.channels k old.0 elem old.1.0 there));
-    }
-
-with_chan_fits : (c : Code) (t : Typing) (goroutines : List Goroutine) (id : ChanId) (old new : Chan) (state : State)
-    → SchedFits c t goroutines state → slice_get state.channels id.number ≡ Some old
-    → ((elem : TypeId) → slice_get t.chans id.number ≡ Some elem → ChannelFits c t goroutines state.runnable new elem)
-    → SchedFits c t goroutines (with_chan id new state)
-with_chan_fits c t goroutines id old new state fits there is =
-    record {
-      count = fits.count;
-      below = fits.below;
-      chans = fits.chans ∙ sym (length_set state.channels id.number new);
-      channels = λ k chan elem at has.
-          ⊎_elim (λ same. subst (λ chan. ChannelFits c t goroutines state.runnable chan elem)
-          (some_same new chan (sym (get_set state.channels id.number new old there)
-          ∙ ap (slice_get (slice_set state.channels id.number new)) (sym same) ∙ at))
-          (is elem (ap (slice_get t.chans) (sym same) ∙ has)))
-          (λ other. fits.channels k chan elem (sym (get_set_other state.channels id.number k new other) ∙ at) has)
-          (same_or_other k id.number);
-    }
-
-stopped_fits : (c : Code) (t : Typing) (goroutines : List Goroutine) (state : State) → SchedFits c t goroutines state
-    → SchedFits c t goroutines (stopped state)
-stopped_fits c t goroutines state fits =
-    sched_smaller c t goroutines state (stopped state) fits refl refl
-    (λ n. removed_from state.current.number n state.runnable)
-
-changed_is : (change : Chan → Chan) (id : ChanId) (state : State) (chan : Chan)
-    → slice_get state.channels id.number ≡ Some chan → changed change id state ≡ with_chan id (change chan) state
-changed_is change id state chan there =
-    ap (λ found. option_map_or (λ chan. with_chan id (change chan) state) found state) there
-
--- ---- what a channel is for
-
-may_receive_alike : (c : Code) (f : Function) (index : ℕ) (a b : TypeId) → Alike c.types a b → (it : Op)
-    → MayReceive c f index b it → MayReceive c f index a it
-may_receive_alike c f index a b like (op.Receive channel comma_ok) h =
-    record { of = h.of; is = h.is; alike = alike_trans c.types a b h.of like h.alike }
-may_receive_alike c f index a b like (op.Select blocking cases) h =
-    (h.0, (h.1.0, record { of = h.1.1.of; is = h.1.1.is; alike = alike_trans c.types a b h.1.1.of like h.1.1.alike }))
-may_receive_alike c f index a b like _ h = absurd h
-
--- the elements of the channel are alike
-chan_elem : (c : Code) (t : Typing) (id : ChanId) (elem of : TypeId) → IsChanOf c t id elem
-    → slice_get t.chans id.number ≡ Some of → Alike c.types of elem
-chan_elem c t id elem of is there =
-    subst (λ of. Alike c.types of elem) (some_same is.of of (sym is.there ∙ there)) is.alike
-
 -- ---- the current goroutine comes to wait
-
-sender_entered : (c : Code) (t : Typing) (goroutines : List Goroutine) (n : ℕ) (runnable : List ℕ)
-    (waits : WaitsAt c goroutines n) (it : Sending) → it.goroutine.number ≡ n → MaySend waits.instr.op → (chan : Chan)
-    (elem : TypeId) → IsOf c t it.value elem → ChannelFits c t goroutines (removed n runnable) chan elem
-    → ChannelFits c t goroutines (removed n runnable) (with_sender it chan) elem
-sender_entered c t goroutines n runnable waits it same may chan elem value fits =
-    record {
-      queue = fits.queue;
-      senders = λ k other is.
-          ⊎_elim (fits.senders k other)
-          (λ e. subst (SenderFits c t goroutines (removed n runnable) elem) e new)
-          (get_either chan.senders it k other is);
-      receivers = fits.receivers;
-    }
-  where
-    new : SenderFits c t goroutines (removed n runnable) elem it
-    new =
-        record {
-          value = value;
-          waits = record {
-            g = waits.g;
-            there = ap (slice_get goroutines) same ∙ waits.there;
-            top = waits.top;
-            below = waits.below;
-            frames = waits.frames;
-            calm = waits.calm;
-            runs = waits.runs;
-            function = waits.function;
-            is_function = waits.is_function;
-            instr = waits.instr;
-            at = waits.at;
-          };
-          sends = may;
-          sleeps = λ runs. removed_not n runnable (subst (λ k. IsIn k (removed n runnable)) same runs);
-        }
-
-receiver_entered : (c : Code) (t : Typing) (goroutines : List Goroutine) (n : ℕ) (runnable : List ℕ)
-    (waits : WaitsAt c goroutines n) (it : Receiver) → it.goroutine.number ≡ n → (chan : Chan) (elem : TypeId)
-    → MayReceive c waits.function it.index elem waits.instr.op → ChannelFits c t goroutines (removed n runnable) chan elem
-    → ChannelFits c t goroutines (removed n runnable) (with_receiver it chan) elem
-receiver_entered c t goroutines n runnable waits it same chan elem may fits =
-    record {
-      queue = fits.queue;
-      senders = fits.senders;
-      receivers = λ k other is.
-          ⊎_elim (fits.receivers k other)
-          (λ e. subst (ReceiverFits c goroutines (removed n runnable) elem) e new)
-          (get_either chan.receivers it k other is);
-    }
-  where
-    new : ReceiverFits c goroutines (removed n runnable) elem it
-    new =
-        record {
-          waits = record {
-            g = waits.g;
-            there = ap (slice_get goroutines) same ∙ waits.there;
-            top = waits.top;
-            below = waits.below;
-            frames = waits.frames;
-            calm = waits.calm;
-            runs = waits.runs;
-            function = waits.function;
-            is_function = waits.is_function;
-            instr = waits.instr;
-            at = waits.at;
-          };
-          receives = may;
-          sleeps = λ runs. removed_not n runnable (subst (λ k. IsIn k (removed n runnable)) same runs);
-        }
 
 -- what a case that is entered changes
 record Entered (c : Code) (t : Typing) (goroutines : List Goroutine) (old after : State) : Type 0 where
@@ -351,6 +109,7 @@ entered_fits c t goroutines state waits index (chans.send (Some id) it) is fits 
   where
     new : Sending
     new = record { goroutine = state.current; index = index; value = it }
+
     by : (found : Option Chan) → slice_get state.channels id.number ≡ found
         → Entered c t goroutines state (option_map_or (λ chan. with_chan id (with_sender new chan) state) found state)
     by None e = record { fits = fits; same = refl }
@@ -368,6 +127,7 @@ entered_fits c t goroutines state waits index (chans.receive (Some id)) is fits 
   where
     new : Receiver
     new = record { goroutine = state.current; index = index }
+
     by : (found : Option Chan) → slice_get state.channels id.number ≡ found
         → Entered c t goroutines state (option_map_or (λ chan. with_chan id (with_receiver new chan) state) found state)
     by None e = record { fits = fits; same = refl }
@@ -379,57 +139,6 @@ entered_fits c t goroutines state waits index (chans.receive (Some id)) is fits 
               is.1.1) (fits.channels id.number chan elem e there));
           same = refl;
         }
-
--- ---- channels from which one is taken
-
-receiver_left : (c : Code) (t : Typing) (goroutines : List Goroutine) (runnable : List ℕ) (chan : Chan) (elem : TypeId)
-    → ChannelFits c t goroutines runnable chan elem
-    → ChannelFits c t goroutines runnable (without_receiver chan) elem
-receiver_left c t goroutines runnable chan elem fits =
-    record {
-      queue = fits.queue;
-      senders = fits.senders;
-      receivers = λ k it is. let found = get_drop 1 chan.receivers k it is in fits.receivers found.0 it found.1;
-    }
-
-value_kept : (c : Code) (t : Typing) (goroutines : List Goroutine) (runnable : List ℕ) (chan : Chan) (elem : TypeId) (it : Val)
-    → IsOf c t it elem → ChannelFits c t goroutines runnable chan elem
-    → ChannelFits c t goroutines runnable (with_value it chan) elem
-value_kept c t goroutines runnable chan elem it value fits =
-    record {
-      queue = λ k other is.
-          ⊎_elim (fits.queue k other) (λ e. subst (λ v. IsOf c t v elem) e value) (get_either chan.queue it k other is);
-      senders = fits.senders;
-      receivers = fits.receivers;
-    }
-
-value_drawn : (c : Code) (t : Typing) (goroutines : List Goroutine) (runnable : List ℕ) (chan : Chan) (elem : TypeId)
-    → ChannelFits c t goroutines runnable chan elem → ChannelFits c t goroutines runnable (without_value chan) elem
-value_drawn c t goroutines runnable chan elem fits =
-    record {
-      queue = λ k it is. let found = get_drop 1 chan.queue k it is in fits.queue found.0 it found.1;
-      senders = fits.senders;
-      receivers = fits.receivers;
-    }
-
-sender_left : (c : Code) (t : Typing) (goroutines : List Goroutine) (runnable : List ℕ) (chan : Chan) (elem : TypeId)
-    (first : Sending) (others : List Sending) → chan.senders ≡ first ∷ others
-    → ChannelFits c t goroutines runnable chan elem
-    → ChannelFits c t goroutines runnable (passed_on chan (first ∷ others)) elem
-sender_left c t goroutines runnable chan elem first others are fits =
-    record {
-      queue = moved chan.queue fits.queue;
-      senders = λ k it is. fits.senders (suc k) it (ap (λ its. slice_get its (suc k)) are ∙ is);
-      receivers = fits.receivers;
-    }
-  where
-    moved : (queue : List Val) → ((k : ℕ) (it : Val) → slice_get queue k ≡ Some it → IsOf c t it elem) → (k : ℕ) (it : Val)
-        → slice_get (moved_on first.value queue) k ≡ Some it → IsOf c t it elem
-    moved [] each k it is = absurd (none-some it is)
-    moved (x ∷ xs) each k it is =
-        ⊎_elim (each (suc k) it)
-        (λ e. subst (λ v. IsOf c t v elem) e (fits.senders 0 first (ap (λ its. slice_get its 0) are)).value)
-        (get_either xs first.value k it is)
 
 -- ---- sends
 
@@ -449,11 +158,14 @@ sent_on_fits c t goroutines state fits runs waits index it id is chan e =
         (if b then operations.faults fault.SendOnClosed state else given index it state id chan.receivers (has_room chan))
     unless true h = record { fits = fits; same = refl; runs = runs }
     unless false h = h
+
     old : ChannelFits c t goroutines state.runnable chan is.1.0.of
     old = fits.channels id.number chan is.1.0.of e is.1.0.there
+
     value : (elem : TypeId) → slice_get t.chans id.number ≡ Some elem → IsOf c t it elem
     value elem there =
         is_of_alike c t it is.0 elem (alike_sym c.types elem is.0 (chan_elem c t id is.0 elem is.1.0 there)) is.1.1.0
+
     given_fits : (receivers : List Receiver) → chan.receivers ≡ receivers → (room : Bool)
         → OutcomeFits c t goroutines state (λ n found. (n ≡ index) × (found ≡ None))
         (given index it state id receivers room)
@@ -464,31 +176,41 @@ sent_on_fits c t goroutines state fits runs waits index it id is chan e =
         ap (λ found. option_map_or (λ (chan : Chan). first_receives id state chan chan.receivers) found state) e
         ∙ ap (first_receives id state chan) are in
         subst (λ after. OutcomeFits c t goroutines state (λ n found. (n ≡ index) × (found ≡ None))
-        (operations.completes index None (given_to first it ∷ []) after)) (sym served)
-        (record {
-          fits = gone_on_fits c t goroutines first.goroutine (with_chan id (without_receiver chan) state)
-              (with_chan_fits c t goroutines id chan (without_receiver chan) state fits e
-              (λ elem there. receiver_left c t goroutines state.runnable chan elem
-              (fits.channels id.number chan elem e there)))
-              (get_below goroutines first.goroutine.number r.waits.g r.waits.there);
-          same = refl;
-          runs = inserted_keeps first.goroutine.number state.current.number state.runnable runs;
-        }, ((refl, refl), (record {
-          waits = r.waits;
-          fits = (is.1.0.of, (r.receives, value is.1.0.of is.1.0.there));
-          other = λ same. r.sleeps (subst (λ k. IsIn k state.runnable) (sym same) runs);
-          runs = in_inserted first.goroutine.number state.runnable;
-        }, (tt, tt))))
+        (operations.completes index None (given_to first it ∷ []) after)) (sym served) (
+          record {
+            fits = gone_on_fits c t goroutines first.goroutine (with_chan id (without_receiver chan) state)
+                (with_chan_fits c t goroutines id chan (without_receiver chan) state fits e
+                (λ elem there. receiver_left c t goroutines state.runnable chan elem
+                (fits.channels id.number chan elem e there)))
+                (get_below goroutines first.goroutine.number r.waits.g r.waits.there);
+            same = refl;
+            runs = inserted_keeps first.goroutine.number state.current.number state.runnable runs;
+          },
+          (
+            (refl, refl),
+            (
+              record {
+                waits = r.waits;
+                fits = (is.1.0.of, (r.receives, value is.1.0.of is.1.0.there));
+                other = λ same. r.sleeps (subst (λ k. IsIn k state.runnable) (sym same) runs);
+                runs = in_inserted first.goroutine.number state.runnable;
+              },
+              (tt, tt),
+            ),
+          ),
+        )
     given_fits [] are true =
         subst (λ after. OutcomeFits c t goroutines state (λ n found. (n ≡ index) × (found ≡ None))
-        (operations.completes index None [] after)) (sym (changed_is (with_value it) id state chan e))
-        (record {
-          fits = with_chan_fits c t goroutines id chan (with_value it chan) state fits e
-              (λ elem there. value_kept c t goroutines state.runnable chan elem it (value elem there)
-              (fits.channels id.number chan elem e there));
-          same = refl;
-          runs = runs;
-        }, ((refl, refl), tt))
+        (operations.completes index None [] after)) (sym (changed_is (with_value it) id state chan e)) (
+          record {
+            fits = with_chan_fits c t goroutines id chan (with_value it chan) state fits e
+                (λ elem there. value_kept c t goroutines state.runnable chan elem it (value elem there)
+                (fits.channels id.number chan elem e there));
+            same = refl;
+            runs = runs;
+          },
+          ((refl, refl), tt),
+        )
     given_fits [] are false =
         (entered_fits c t goroutines state waits index (chans.send (Some id) it) is
         (stopped_fits c t goroutines state fits)).fits
@@ -522,14 +244,17 @@ received_from_fits c t goroutines state fits runs waits index id is chan e =
   where
     old : ChannelFits c t goroutines state.runnable chan is.1.0.of
     old = fits.channels id.number chan is.1.0.of e is.1.0.there
+
     gives : (it : Val) → IsOf c t it is.1.0.of
         → GivesCase c t waits.function index waits.instr.op (Some it) (chans.receive (Some id))
     gives it value = (is.0, (is.1.1, is_of_alike c t it is.1.0.of is.0 is.1.0.alike value))
+
     front : (it : Val) (queue : List Val) → IsOf c t it is.1.0.of
         → ((k : ℕ) (it : Val) → slice_get queue k ≡ Some it → IsOf c t it is.1.0.of)
         → IsOf c t (front_value it queue) is.1.0.of
     front it [] value each = value
     front it (x ∷ xs) value each = each 0 x refl
+
     taken_fits : (senders : List Sending) → chan.senders ≡ senders → (queue : List Val) → chan.queue ≡ queue
         → (closed : Bool)
         → OutcomeFits c t goroutines state
@@ -545,33 +270,46 @@ received_from_fits c t goroutines state fits runs waits index id is chan e =
         ∙ ap (λ its. gone_on first.goroutine (with_chan id (passed_on chan its) state)) are in
         subst (λ after. OutcomeFits c t goroutines state
         (λ n found. (n ≡ index) × GivesCase c t waits.function index waits.instr.op found (chans.receive (Some id)))
-        (operations.completes index (Some (front_value first.value queue)) (taken_from first ∷ []) after)) (sym served)
-        (record {
-          fits = gone_on_fits c t goroutines first.goroutine (with_chan id (passed_on chan (first ∷ others)) state)
-              (with_chan_fits c t goroutines id chan (passed_on chan (first ∷ others)) state fits e
-              (λ elem there. sender_left c t goroutines state.runnable chan elem first others are
-              (fits.channels id.number chan elem e there)))
-              (get_below goroutines first.goroutine.number r.waits.g r.waits.there);
-          same = refl;
-          runs = inserted_keeps first.goroutine.number state.current.number state.runnable runs;
-        }, ((refl, gives (front_value first.value queue)
-        (front first.value queue r.value (λ k it at. old.queue k it (ap (λ its. slice_get its k) is_queue ∙ at)))), (record {
-          waits = r.waits;
-          fits = r.sends;
-          other = λ same. r.sleeps (subst (λ k. IsIn k state.runnable) (sym same) runs);
-          runs = in_inserted first.goroutine.number state.runnable;
-        }, (tt, tt))))
+        (operations.completes index (Some (front_value first.value queue)) (taken_from first ∷ []) after)) (sym served) (
+          record {
+            fits = gone_on_fits c t goroutines first.goroutine (with_chan id (passed_on chan (first ∷ others)) state)
+                (with_chan_fits c t goroutines id chan (passed_on chan (first ∷ others)) state fits e
+                (λ elem there. sender_left c t goroutines state.runnable chan elem first others are
+                (fits.channels id.number chan elem e there)))
+                (get_below goroutines first.goroutine.number r.waits.g r.waits.there);
+            same = refl;
+            runs = inserted_keeps first.goroutine.number state.current.number state.runnable runs;
+          },
+          (
+            (
+              refl,
+              gives (front_value first.value queue)
+                  (front first.value queue r.value (λ k it at. old.queue k it (ap (λ its. slice_get its k) is_queue ∙ at))),
+            ),
+            (
+              record {
+                waits = r.waits;
+                fits = r.sends;
+                other = λ same. r.sleeps (subst (λ k. IsIn k state.runnable) (sym same) runs);
+                runs = in_inserted first.goroutine.number state.runnable;
+              },
+              (tt, tt),
+            ),
+          ),
+        )
     taken_fits [] are (first ∷ others) is_queue closed =
         subst (λ after. OutcomeFits c t goroutines state
         (λ n found. (n ≡ index) × GivesCase c t waits.function index waits.instr.op found (chans.receive (Some id)))
-        (operations.completes index (Some first) [] after)) (sym (changed_is without_value id state chan e))
-        (record {
-          fits = with_chan_fits c t goroutines id chan (without_value chan) state fits e
-              (λ elem there. value_drawn c t goroutines state.runnable chan elem
-              (fits.channels id.number chan elem e there));
-          same = refl;
-          runs = runs;
-        }, ((refl, gives first (old.queue 0 first (ap (λ its. slice_get its 0) is_queue))), tt))
+        (operations.completes index (Some first) [] after)) (sym (changed_is without_value id state chan e)) (
+          record {
+            fits = with_chan_fits c t goroutines id chan (without_value chan) state fits e
+                (λ elem there. value_drawn c t goroutines state.runnable chan elem
+                (fits.channels id.number chan elem e there));
+            same = refl;
+            runs = runs;
+          },
+          ((refl, gives first (old.queue 0 first (ap (λ its. slice_get its 0) is_queue))), tt),
+        )
     taken_fits [] are [] is_queue true =
         (record { fits = fits; same = refl; runs = runs }, ((refl, (is.0, is.1.1)), tt))
     taken_fits [] are [] is_queue false =
@@ -645,9 +383,13 @@ answer_picked c t goroutines old takes taken each n after (Ok blocks) h =
     sched_smaller c t goroutines after (picked n after) h only.goroutines only.channels
     (λ k h. subst (IsIn k) only.runnable h)
 answer_picked c t goroutines old takes taken each n after (Ok default) h = runs_picked c t goroutines old after n h
-answer_picked c t goroutines old takes taken each n after (Ok (done index it others)) h =
-    (runs_picked c t goroutines old after n h.0, (each index it h.1.0,
-    subst (λ r. AreWoken c t goroutines old.current.number r others) (sym (picked_same n after).runnable) h.1.1))
+answer_picked c t goroutines old takes taken each n after (Ok (done index it others)) h = (
+  runs_picked c t goroutines old after n h.0,
+  (
+    each index it h.1.0,
+    subst (λ r. AreWoken c t goroutines old.current.number r others) (sym (picked_same n after).runnable) h.1.1,
+  ),
+)
 
 pub selects_fit : (c : Code) (t : Typing) (goroutines : List Goroutine) (state : State) → SchedFits c t goroutines state
     → IsIn state.current.number state.runnable → (waits : WaitsAt c goroutines state.current.number)
@@ -678,10 +420,16 @@ selects_fit c t goroutines state fits runs waits cases has_default each =
         answer_picked c t goroutines state
         (λ n found. (n ≡ i) × GivesCase c t waits.function i waits.instr.op found (chans.receive chan))
         (λ n it. (case : Case) × ((slice_get cases n ≡ Some case) × GivesCase c t waits.function n waits.instr.op it case))
-        (λ n found h. (chans.receive chan, (ap (slice_get cases) h.0 ∙ e,
-        subst (λ k. GivesCase c t waits.function k waits.instr.op found (chans.receive chan)) (sym h.0) h.1))) n
+        (λ n found h. (
+          chans.receive chan,
+          (
+            ap (slice_get cases) h.0 ∙ e,
+            subst (λ k. GivesCase c t waits.function k waits.instr.op found (chans.receive chan)) (sym h.0) h.1,
+          ),
+        )) n
         (receives i state chan).after (receives i state chan).answer
         (receives_fit c t goroutines state fits runs waits i chan (each i (chans.receive chan) e))
+
     none : (has_default : Bool)
         → OutcomeFits c t goroutines state
         (λ n it. (case : Case) × ((slice_get cases n ≡ Some case) × GivesCase c t waits.function n waits.instr.op it case))
@@ -691,6 +439,7 @@ selects_fit c t goroutines state fits runs waits cases has_default each =
         all_entered_fits c t goroutines state waits state refl cases 0
         (λ n k case same is. let e : k ≡ n = omega (arith, same) in each k case (ap (slice_get cases) e ∙ is))
         (stopped_fits c t goroutines state fits)
+
     among : (ready : List ℕ) (has_default : Bool)
         → OutcomeFits c t goroutines state
         (λ n it. (case : Case) × ((slice_get cases n ≡ Some case) × GivesCase c t waits.function n waits.instr.op it case))
@@ -731,9 +480,13 @@ once_more : (c : Code) (t : Typing) (goroutines : List Goroutine) (runnable : Li
     → AreOnce c t goroutines runnable (woken ++ it ∷ [])
 once_more c t goroutines runnable it [] wakes once e = (wakes, (tt, tt))
 once_more c t goroutines runnable it (first ∷ others) wakes once e =
-    let apart = not_among first.goroutine.number it.goroutine.number (goes_on it.goroutine others) e in
-    (once.0, (other_more first.goroutine.number others it once.1.0 (λ same. apart.0 (sym same)),
-    once_more c t goroutines runnable it others wakes once.1.1 apart.1))
+    let apart = not_among first.goroutine.number it.goroutine.number (goes_on it.goroutine others) e in (
+      once.0,
+      (
+        other_more first.goroutine.number others it once.1.0 (λ same. apart.0 (sym same)),
+        once_more c t goroutines runnable it others wakes once.1.1 apart.1,
+      ),
+    )
 
 firsts_once : (c : Code) (t : Typing) (goroutines : List Goroutine) (runnable : List ℕ) (items woken : List Woken)
     → ((n : ℕ) (it : Woken) → slice_get items n ≡ Some it → Wakes c t goroutines runnable it)
@@ -776,25 +529,20 @@ all_are_woken c t goroutines current runnable runs [] state once fits after with
 all_are_woken c t goroutines current runnable runs (it ∷ others) state once fits after within =
     let next : SchedFits c t goroutines (gone_on it.goroutine state) =
     gone_on_fits c t goroutines it.goroutine state fits
-    (get_below goroutines it.goroutine.number once.0.waits.g once.0.waits.there) in
-    (record {
-      waits = once.0.waits;
-      fits = once.0.fits;
-      other = λ same. once.0.sleeps (subst (λ k. IsIn k runnable) (sym same) runs);
-      runs = within it.goroutine.number
-          ((all_gone_fits c t goroutines runnable others (gone_on it.goroutine state) once.1.1 next).keeps it.goroutine.number
-          (in_inserted it.goroutine.number state.runnable));
-    }, (once.1.0,
-    all_are_woken c t goroutines current runnable runs others (gone_on it.goroutine state) once.1.1 next after within))
-
-closed_down_fits : (c : Code) (t : Typing) (goroutines : List Goroutine) (runnable : List ℕ) (chan : Chan) (elem : TypeId)
-    → ChannelFits c t goroutines runnable chan elem → ChannelFits c t goroutines runnable (closed_down chan) elem
-closed_down_fits c t goroutines runnable chan elem fits =
-    record {
-      queue = fits.queue;
-      senders = λ k it is. absurd (none-some it is);
-      receivers = λ k it is. absurd (none-some it is);
-    }
+    (get_below goroutines it.goroutine.number once.0.waits.g once.0.waits.there) in (
+      record {
+        waits = once.0.waits;
+        fits = once.0.fits;
+        other = λ same. once.0.sleeps (subst (λ k. IsIn k runnable) (sym same) runs);
+        runs = within it.goroutine.number
+            ((all_gone_fits c t goroutines runnable others (gone_on it.goroutine state) once.1.1 next).keeps it.goroutine.number
+            (in_inserted it.goroutine.number state.runnable));
+      },
+      (
+        once.1.0,
+        all_are_woken c t goroutines current runnable runs others (gone_on it.goroutine state) once.1.1 next after within,
+      ),
+    )
 
 served_once : (c : Code) (t : Typing) (goroutines : List Goroutine) (runnable : List ℕ) (chan : Chan) (elem : TypeId)
     → ChannelFits c t goroutines runnable chan elem → AreOnce c t goroutines runnable (served_by_close chan)
@@ -836,22 +584,29 @@ closes_fit c t goroutines state fits runs (Some id) = by (slice_get state.channe
         once new in
         subst (λ shut. OutcomeFits c t goroutines state (λ n found. Unit {0})
         (operations.completes 0 None (served_by_close chan) (all_gone_on (served_by_close chan) shut)))
-        (sym (changed_is closed_down id state chan e))
-        (record {
-          fits = gone.fits;
-          same = gone.same;
-          runs = subst (λ (g : GoId). IsIn g.number
-              (all_gone_on (served_by_close chan) (with_chan id (closed_down chan) state)).runnable) (sym gone.same)
-              (gone.keeps state.current.number runs);
-        }, (tt, all_are_woken c t goroutines state.current.number state.runnable runs (served_by_close chan)
-        (with_chan id (closed_down chan) state) once new
-        (all_gone_on (served_by_close chan) (with_chan id (closed_down chan) state)).runnable (λ k h. h)))
+        (sym (changed_is closed_down id state chan e)) (
+          record {
+            fits = gone.fits;
+            same = gone.same;
+            runs = subst (λ (g : GoId). IsIn g.number
+                (all_gone_on (served_by_close chan) (with_chan id (closed_down chan) state)).runnable) (sym gone.same)
+                (gone.keeps state.current.number runs);
+          },
+          (
+            tt,
+            all_are_woken c t goroutines state.current.number state.runnable runs (served_by_close chan)
+                (with_chan id (closed_down chan) state) once new
+                (all_gone_on (served_by_close chan) (with_chan id (closed_down chan) state)).runnable (λ k h. h),
+          ),
+        )
+
     open_or : (chan : Chan) → slice_get state.channels id.number ≡ Some chan → (b : Bool)
         → OutcomeFits c t goroutines state (λ n found. Unit {0})
         (if b then operations.faults fault.CloseOfClosed state
         else operations.completes 0 None (served_by_close chan) (all_gone_on (served_by_close chan) (shut id state)))
     open_or chan e true = record { fits = fits; same = refl; runs = runs }
     open_or chan e false = down chan e
+
     by : (found : Option Chan) → slice_get state.channels id.number ≡ found
         → OutcomeFits c t goroutines state (λ n found. Unit {0}) (closed_at state id found)
     by None e = record { fits = fits; same = refl; runs = runs }

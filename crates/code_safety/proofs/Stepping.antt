@@ -51,7 +51,7 @@ use Rattle.ssa_mean.specs.Places.{new_pointer}
 use Rattle.ssa_mean.specs.Runs as runs_of
 use Rattle.ssa_mean.specs.Runs.{first_machine, steps, then_step, starts_of, those_from, is_init_kind, is_main, is_none_left, new_goroutine}
 use Rattle.ssa_mean.specs.State.{FrameState, running, returning, panicking, Frame, Goroutine, Machine, Next, goes, ends, stuck, with_register, with_result, with_frames, with_current, advanced, current}
-use Rattle.ssa_mean.specs.Step.{Site, acts, step, steps_on, moves, runs, does, unwinds, new_cell, gives_stored, goes_behind, next_of, turns, value}
+use Rattle.ssa_mean.specs.Step.{Site, acts, step, steps_on, moves, runs, does, unwinds, new_map, new_cell, gives_stored, goes_behind, next_of, turns, value}
 use Rattle.ssa_mean.specs.Unwinding.{is_phi, is_source_kind, panics_with}
 use Rattle.ssa_mean.specs.Zeros.{zero_of}
 use Rattle.ssa_sane.specs.Sane.{is_new}
@@ -287,7 +287,7 @@ act_safe t s instr site (op.MakeClosure id captured) is =
     gives_value_safe t s instr site g.goes_on g.other g.of g.is _ (make_closure_comes t s id captured g.reads g.of g.typed)
 act_safe t s instr site (op.MakeMap of) is =
     let g = giving t s instr site (op.MakeMap of) refl is in
-    gives_stored_safe t s instr site g.goes_on g.other g.of g.is _ (make_map_comes t s of g.reads g.of g.typed)
+    gives_stored_safe t s instr site g.goes_on g.other g.of g.is (to (new_map s)) (make_map_comes t s of g.reads g.of g.typed)
 act_safe t s instr site (op.MakeChan of size) is =
     let g = giving t s instr site (op.MakeChan of size) refl is in
     gives_channel_safe t s instr site g.goes_on g.other g.of g.is _
@@ -314,7 +314,7 @@ act_safe t s instr site (op.Extract it part) is =
     gives_value_safe t s instr site g.goes_on g.other g.of g.is _ (extract_comes t s it part g.reads g.of g.typed)
 act_safe t s instr site op.Tick is = tick_safe t s instr site is
 act_safe t s instr site (op.Jump block) is = jump_safe t s instr site block is
-act_safe t s instr site (op.If test yes no) is = if_safe t s instr site test yes no is
+act_safe t s instr site (op.If test block other) is = if_safe t s instr site test block other is
 act_safe t s instr site (op.Return results) is = return_safe t s instr site results is
 act_safe t s instr site (op.Panic it) is = panic_safe t s instr site it is
 
