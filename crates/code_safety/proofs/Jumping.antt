@@ -1,40 +1,39 @@
 -- Jumps: the phis of the block are read, and then written.
-use Rattle.std.proofs.Common.{◌≡◌, ◌⊎◌, inl, inr, ℕ, zero, suc, Bool, true, false, true≢false, if◌then◌else◌, cond, ◌&&◌, ◌==◌, List, [], ◌∷◌, ◌++◌, Option, Some, None, refl, sym, subst, ap, ◌∙◌, slice_get, Contains, option_map, IsTrue}
+use Rattle.std.proofs.Common.{◌≡◌, inl, inr, ℕ, zero, suc, Bool, true, false, true≢false, if◌then◌else◌, cond, ◌&&◌, ◌==◌, List, [], ◌∷◌, Option, Some, None, refl, sym, subst, ap, ◌∙◌, slice_get, option_map}
 use Rattle.std.proofs.lemmas.Option.{none-some}
 use Rattle.std.specs.List.{list_all, find}
 use Rattle.std.specs.Option.{option_and_then}
-use Rattle.code_safety.specs.Runnable.{has_meaning, runs, runs_op, operands_of, operands_of_edges}
+use Rattle.code_safety.specs.Runnable.{has_meaning, runs, runs_op, operands_of_edges}
 use Rattle.code_safety.proofs.Available.{sane_of, typed_of, jump_stands, edge_written, written_with, begun_at}
 use Rattle.code_safety.proofs.Going.{operand_reads, result_fits, result_written, result_same}
 use Rattle.code_safety.proofs.Lists.{some_same}
-use Rattle.code_safety.proofs.Machines.{Safe, FrameFits, Stands, IsBegun, IsWritten, TopStands, begun, Takes, AreBelow, GivesOf, AreFrames}
+use Rattle.code_safety.proofs.Machines.{Safe, FrameFits, IsBegun, IsWritten, begun, Takes, AreBelow, AreFrames}
 use Rattle.code_safety.proofs.Members.{both, member, given_at}
 use Rattle.code_safety.proofs.Opening.{frames_closed}
 use Rattle.code_safety.proofs.Operands.{operand_value, truth_value}
 use Rattle.code_safety.proofs.Going.{site_reads}
-use Rattle.code_safety.proofs.Sites.{SiteFits, Reads, IsRegister, HasValue}
+use Rattle.code_safety.proofs.Sites.{SiteFits, Reads, IsRegister}
 use Rattle.code_safety.proofs.Throwing.{moved_fits}
 use Rattle.code_safety.proofs.Values.{Typing, IsOf}
 use Rattle.go_base.specs.declared.ids.BlockId.{BlockId}
 use Rattle.go_base.specs.declared.ids.TypeId.{TypeId}
-use Rattle.go_value.specs.Values.{Val, truth}
+use Rattle.go_value.specs.Values.{Val}
 use Rattle.ssa_ir.specs.Blocks.{instrs_at}
 use Rattle.ssa_ir.specs.Uses.{given_registers}
 use Rattle.ssa_ir.specs.declared.code.Code.{Code}
 use Rattle.ssa_ir.specs.declared.code.Function.{Function}
 use Rattle.ssa_ir.specs.declared.operands.Operand.{Operand}
-use Rattle.ssa_ir.specs.declared.operands.Operand.TheVariants as operand
 use Rattle.ssa_ir.specs.declared.ops.Instr.{Instr}
 use Rattle.ssa_ir.specs.declared.ops.Op.{Op}
 use Rattle.ssa_ir.specs.declared.ops.Op.TheVariants as op
 use Rattle.ssa_ir.specs.declared.ops.PhiEdge.{PhiEdge}
-use Rattle.ssa_mean.specs.State.{Frame, goes, stuck, where_there, with_frames, with_result}
-use Rattle.ssa_mean.specs.Step.{Site, value, edge_value, phi_value, with_phis, front_phis, jumps, branches, acts}
+use Rattle.ssa_mean.specs.State.{Frame, goes, where_there, with_frames, with_result}
+use Rattle.ssa_mean.specs.Step.{Site, value, phi_value, with_phis, front_phis, jumps, branches, acts}
 use Rattle.ssa_mean.specs.Unwinding.{is_phi, at_block}
 use Rattle.ssa_sane.specs.Sane.{IsTarget, is_new}
 use Rattle.ssa_typed.specs.Forms.{FitsOp, FitsGiving, fits_giving, fits_alone}
-use Rattle.ssa_typed.specs.Operands.{is_operand, register_at}
-use Rattle.ssa_typed.specs.Typed.{IsTypedInstr, FitsRegister, FitsTyped, is_allowed, given_in}
+use Rattle.ssa_typed.specs.Operands.{is_operand}
+use Rattle.ssa_typed.specs.Typed.{IsTypedInstr, FitsRegister, FitsTyped}
 
 -- ---- instructions that give no register
 

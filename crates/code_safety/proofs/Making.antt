@@ -1,22 +1,22 @@
 -- New cells, maps, slices and channels.
-use Rattle.std.proofs.Common.{◌≡◌, ◌≤◌, inl, inr, ℕ, ℤ, pos, Bool, true, false, true≢false, ◌&&◌, ◌||◌, List, [], ◌∷◌, ◌++◌, length, replicate, Option, Some, None, refl, sym, subst, ap, ◌∙◌, slice_get, is_some, IsTrue, if◌then◌else◌, int_lt, unsigned_abs, arith}
-use Rattle.std.proofs.lemmas.Bool.{cases_Bool, or_parts}
+use Rattle.std.proofs.Common.{◌≡◌, ◌≤◌, inl, inr, ℕ, ℤ, pos, Bool, true, false, true≢false, ◌||◌, [], ◌∷◌, ◌++◌, length, replicate, Option, Some, None, refl, sym, subst, ap, ◌∙◌, slice_get, is_some, if◌then◌else◌, int_lt, unsigned_abs, arith}
+use Rattle.std.proofs.lemmas.Bool.{or_parts}
 use Rattle.std.proofs.lemmas.Int.{ints}
 use Rattle.std.proofs.lemmas.Option.{none-some}
 use Rattle.std.specs.Option.{option_and_then}
-use Rattle.code_safety.specs.Runnable.{runs, runs_op, operands_of, has_meaning, has_zero}
+use Rattle.code_safety.specs.Runnable.{has_zero}
 use Rattle.code_safety.proofs.Growing.{cells_grow, maps_grow}
 use Rattle.code_safety.proofs.Lists as lists
 use Rattle.code_safety.proofs.Machines.{StoresCome, StoresFit}
 use Rattle.code_safety.proofs.Operands.{integer_value}
 use Rattle.code_safety.proofs.Sames.{under_plain}
-use Rattle.code_safety.proofs.Shapes.{alike_self, alike_of, alike_sym}
-use Rattle.code_safety.proofs.Sites.{Reads, Among}
+use Rattle.code_safety.proofs.Shapes.{alike_self}
+use Rattle.code_safety.proofs.Sites.{Reads}
 use Rattle.code_safety.proofs.Stores.{with_home, home_grows, makes, new_home, with_map_home, map_home_grows, new_slices, array_fits}
-use Rattle.code_safety.proofs.Values.{Typing, Grows, Home, one, many, MapHome, Fits, IsOf, IsStore, EntriesFit, PointsInto, under_of}
+use Rattle.code_safety.proofs.Values.{Typing, one, many, MapHome, Fits, IsOf, IsStore, EntriesFit, PointsInto, under_of}
 use Rattle.code_safety.proofs.Zeros.{zero_fits}
 use Rattle.go_base.specs.declared.ids.TypeId.{TypeId}
-use Rattle.go_sched.specs.Goroutines.{State, with_new_chan}
+use Rattle.go_sched.specs.Goroutines.{with_new_chan}
 use Rattle.go_store.specs.Arrays.{array_of}
 use Rattle.go_store.specs.Slices.{make_fault, most_elements, with_zeros, slice_of_new}
 use Rattle.go_store.specs.Stores.{made}
@@ -29,10 +29,8 @@ use Rattle.go_value.specs.Values.{Val, number, pointer, slice, map_number, chan_
 use Rattle.go_value.specs.declared.faults.Fault.{Fault}
 use Rattle.go_value.specs.declared.faults.Fault.TheVariants as fault
 use Rattle.ssa_ir.specs.declared.operands.Operand.{Operand}
-use Rattle.ssa_ir.specs.declared.ops.Op.{Op}
 use Rattle.ssa_ir.specs.declared.ops.Op.TheVariants as op
 use Rattle.ssa_mean.specs.Comes.{Comes, to, faults, nowhere, of_option, then_to, where_some}
-use Rattle.ssa_mean.specs.Conversions.{Stores}
 use Rattle.ssa_mean.specs.Making.{Channels, leaves_of, is_no_size, made_chan, made_where, made_slice}
 use Rattle.ssa_mean.specs.Operands.{element_in}
 use Rattle.ssa_mean.specs.Places.{new_pointer}

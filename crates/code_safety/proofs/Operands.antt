@@ -1,7 +1,6 @@
 -- What operands are, from what typed code says of them.
-use Rattle.std.proofs.Common.{◌≡◌, ◌⊎◌, inl, inr, ℕ, ℤ, zero, suc, Bool, true, false, true≢false, ◌==◌, ◌&&◌, List, [], ◌∷◌, length, Option, Some, None, refl, sym, subst, ap, ◌∙◌, slice_get, is_some, IsTrue, if◌then◌else◌, option_map, arith}
+use Rattle.std.proofs.Common.{◌≡◌, inl, inr, ℕ, ℤ, zero, suc, Bool, true, false, true≢false, ◌==◌, List, [], ◌∷◌, length, Option, Some, None, refl, sym, subst, ap, ◌∙◌, slice_get, is_some, if◌then◌else◌, option_map, arith}
 use Rattle.std.proofs.lemmas.Option.{none-some, cond_some, option_and_then_some}
-use Rattle.std.specs.Bool.{beq}
 use Rattle.std.specs.Cmp.{booleans_Decides, unsigned_Decides}
 use Rattle.std.specs.Cmp.Lexicographic.{pointwise}
 use Rattle.std.specs.List.{AllZip}
@@ -12,7 +11,7 @@ use Rattle.code_safety.proofs.Machines.{IsThrown}
 use Rattle.code_safety.proofs.Sames.{under_plain, held_id, zip_tested, same_id_alike}
 use Rattle.code_safety.proofs.Shapes.{Alike, alike_sym, zip_turned}
 use Rattle.code_safety.proofs.Sites.{Among, KnownFits, Valued, HasValue}
-use Rattle.code_safety.proofs.Values.{Typing, Fits, IsOf, AreOf, Points, PointsAs, IsClosure, HasSignature, under_of}
+use Rattle.code_safety.proofs.Values.{Typing, Fits, IsOf, AreOf, Points, PointsAs, HasSignature, under_of}
 use Rattle.go_base.specs.declared.ids.FuncId.{FuncId}
 use Rattle.go_base.specs.declared.ids.TypeId.{TypeId}
 use Rattle.go_type.specs.Held.{IsHeld}
@@ -33,8 +32,7 @@ use Rattle.ssa_ir.specs.declared.code.Function.{Function}
 use Rattle.ssa_ir.specs.declared.operands.Operand.{Operand}
 use Rattle.ssa_ir.specs.declared.operands.Operand.TheVariants as operand
 use Rattle.ssa_mean.specs.Operands as means
-use Rattle.ssa_mean.specs.State.{Frame}
-use Rattle.ssa_mean.specs.Step.{Site, value, kind_at}
+use Rattle.ssa_mean.specs.Step.{Site, value}
 use Rattle.ssa_typed.specs.Operands.{known, is_known, is_operand, shape, held_type, is_integer_operand, is_truth_operand, is_any_operand, pointee}
 use Rattle.ssa_typed.specs.Operands.{is_function_type, is_signature, is_value, type_of, address_of, value_of, has_constant, term_of, is_integer_type, is_any_type, pointee_of}
 use Rattle.ssa_typed.specs.declared.known.Known.{Known}

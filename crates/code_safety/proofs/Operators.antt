@@ -1,21 +1,20 @@
 -- Operators come to values of their types, or to faults.
-use Rattle.std.proofs.Common.{◌≡◌, inl, inr, ⊎_elim, ℕ, ℤ, pos, negsuc, ◌-ℤ◌, Bool, true, false, true≢false, not, ◌&&◌, ◌||◌, if◌then◌else◌, List, [], ◌∷◌, Option, Some, None, Result, Ok, Err, refl, sym, subst, ap, ◌∙◌, is_some, IsTrue}
+use Rattle.std.proofs.Common.{◌≡◌, inl, inr, ⊎_elim, ℕ, ℤ, pos, negsuc, ◌-ℤ◌, Bool, true, false, true≢false, not, ◌&&◌, ◌||◌, if◌then◌else◌, List, Option, Some, None, Result, Ok, Err, refl, sym, subst, ap, ◌∙◌, is_some, IsTrue}
 use Rattle.std.proofs.lemmas.Bool.{or_cases}
 use Rattle.std.specs.Cmp.Lexicographic.{slice_cmp}
 use Rattle.std.specs.Option.{option_and_then}
 use Rattle.std.specs.Ordering.{nat_cmp, int_cmp}
 use Rattle.code_safety.proofs.Forms.{truth_in, text_in, number_in, number_fits}
-use Rattle.code_safety.proofs.Lists.{some_same}
 use Rattle.code_safety.proofs.Machines.{ValueComes}
 use Rattle.code_safety.proofs.Making.{some_of}
 use Rattle.code_safety.proofs.Operands.{operand_value, integer_value, integer_kind, truth_is}
-use Rattle.code_safety.proofs.Sites.{Reads, Valued, HasValue}
-use Rattle.code_safety.proofs.Values.{Typing, Fits, IsOf, TruthFits, TextFits, under_of}
+use Rattle.code_safety.proofs.Sites.{Reads}
+use Rattle.code_safety.proofs.Values.{Typing, Fits, IsOf, TruthFits, under_of}
 use Rattle.go_base.specs.declared.ids.TypeId.{TypeId}
 use Rattle.go_maps.specs.Equality.{compared}
 use Rattle.go_type.specs.Kinds.{kind_of}
 use Rattle.go_type.specs.Operators.{int_op_of, shift_of}
-use Rattle.go_type.specs.Same.{both, same_id}
+use Rattle.go_type.specs.Same.{both}
 use Rattle.go_type.specs.declared.constants.ConstOp.{ConstOp}
 use Rattle.go_type.specs.declared.kinds.IntKind.{IntKind}
 use Rattle.go_type.specs.declared.operators.BinaryOp.{BinaryOp}
@@ -36,10 +35,10 @@ use Rattle.ssa_ir.specs.declared.ops.Infix.{Infix}
 use Rattle.ssa_ir.specs.declared.ops.Infix.TheVariants as infix_of
 use Rattle.ssa_ir.specs.declared.ops.Op.TheVariants as op
 use Rattle.ssa_mean.specs.Answers.{Answers}
-use Rattle.ssa_mean.specs.Arithmetic.{binary, operation, on_integers, on_texts, shifted_or_operated, comparison_of, equality, unary_of, negated, negated_in, not_of, holds}
-use Rattle.ssa_mean.specs.Comes.{Comes, to, faults, nowhere, of_result, then_to, where_some}
+use Rattle.ssa_mean.specs.Arithmetic.{binary, operation, on_integers, shifted_or_operated, comparison_of, equality, unary_of, negated, negated_in, holds}
+use Rattle.ssa_mean.specs.Comes.{Comes, to, faults, of_result, then_to, where_some}
 use Rattle.ssa_mean.specs.Step.{Site, value, with_one, with_two, kind_at}
-use Rattle.ssa_typed.specs.Forms.{FitsGiving, fits_giving, FitsBinary, ComparesOf, ComparesAs, operates, is_shift, is_taken, is_equality, is_same_address, has_unary, common_type}
+use Rattle.ssa_typed.specs.Forms.{FitsGiving, fits_giving, ComparesOf, ComparesAs, operates, is_shift, is_taken, is_equality, is_same_address, has_unary, common_type}
 use Rattle.ssa_typed.specs.Operands.{known, is_operand, is_integer_operand}
 use Rattle.ssa_typed.specs.declared.known.Known.{Known}
 use Rattle.ssa_typed.specs.declared.known.Known.TheVariants as known_as

@@ -1,29 +1,27 @@
 -- Loads, stores, fields, elements and slices.
-use Rattle.std.proofs.Common.{◌≡◌, ◌⊎◌, inl, inr, ◌<◌, ℕ, ℤ, pos, zero, suc, Bool, true, false, true≢false, not, ◌&&◌, List, [], ◌∷◌, ◌++◌, length, map, replicate, Option, Some, None, Result, Ok, Err, is_none, is_some, refl, sym, subst, ap, ◌∙◌, slice_get, unwrap_or, IsTrue, if◌then◌else◌, arith}
+use Rattle.std.proofs.Common.{◌≡◌, inl, inr, ◌<◌, ℕ, ℤ, pos, zero, suc, true, false, true≢false, not, List, [], ◌∷◌, ◌++◌, length, map, replicate, Option, Some, None, Result, Ok, Err, is_none, is_some, refl, sym, subst, ap, ◌∙◌, slice_get, unwrap_or, IsTrue, if◌then◌else◌, arith}
 use Rattle.std.proofs.lemmas.Option.{none-some}
 use Rattle.std.specs.List.{AllZip}
-use Rattle.std.specs.Option.{option_and_then}
-use Rattle.code_safety.specs.Runnable.{operands_of, operands_if}
-use Rattle.code_safety.proofs.Forms.{text_in, number_fits, pointer_in, slice_in, parts_in}
+use Rattle.code_safety.specs.Runnable.{operands_if}
+use Rattle.code_safety.proofs.Forms.{text_in, number_fits, slice_in, parts_in}
 use Rattle.code_safety.proofs.Lists as lists
 use Rattle.code_safety.proofs.Lists.{some_same}
 use Rattle.code_safety.proofs.Machines.{ValueComes, StoreComes}
 use Rattle.code_safety.proofs.Making.{points_to, with_integer_is}
-use Rattle.code_safety.proofs.Operands.{known_of, operand_value, shape_is, shape_value, held_value, integer_value, pointee_value, pointee_is}
+use Rattle.code_safety.proofs.Operands.{operand_value, shape_is, shape_value, held_value, integer_value, pointee_value, pointee_is}
 use Rattle.code_safety.proofs.Operators.{result_comes, two_are}
 use Rattle.code_safety.proofs.Sames.{under_plain}
 use Rattle.code_safety.proofs.Sites.{Reads, Among, HasValue}
 use Rattle.code_safety.proofs.Stores.{parts_are, part_is, loads, puts, part_points, element_points, sliced_slices, whole_slices, placed}
-use Rattle.code_safety.proofs.Values.{Typing, Fits, IsOf, IsStore, Points, Slices, item_types, under_of}
+use Rattle.code_safety.proofs.Values.{Typing, Fits, IsOf, Points, Slices, item_types, under_of}
 use Rattle.go_base.specs.declared.ids.CellId.{CellId}
 use Rattle.go_base.specs.declared.ids.TypeId.{TypeId}
 use Rattle.go_store.specs.Arrays.{values_in}
-use Rattle.go_store.specs.Cells.{value_at}
 use Rattle.go_store.specs.Slices.{sliced, whole_array, element_of}
-use Rattle.go_store.specs.Stores.{Stored, loaded, put_in}
+use Rattle.go_store.specs.Stores.{loaded, put_in}
 use Rattle.go_type.specs.Kinds.{kind_of_term}
 use Rattle.go_type.specs.Same.{both, same_id, same_id-Decides}
-use Rattle.go_type.specs.Table.{Table, term_at, basic_id}
+use Rattle.go_type.specs.Table.{term_at, basic_id}
 use Rattle.go_type.specs.declared.term.Basic.TheVariants as basic
 use Rattle.go_type.specs.declared.term.Field.{Field}
 use Rattle.go_type.specs.declared.term.TypeTerm.{TypeTerm}
@@ -40,14 +38,12 @@ use Rattle.ssa_ir.specs.declared.code.Function.{Function}
 use Rattle.ssa_ir.specs.declared.operands.Operand.{Operand}
 use Rattle.ssa_ir.specs.declared.ops.Op.{Op}
 use Rattle.ssa_ir.specs.declared.ops.Op.TheVariants as op
-use Rattle.ssa_mean.specs.Comes.{Comes, to, faults, nowhere, of_option, of_result, then_to, and_then, where_some}
+use Rattle.ssa_mean.specs.Comes.{Comes, to, faults, of_option, of_result, then_to, and_then, where_some}
 use Rattle.ssa_mean.specs.Operands.{under, pointed_length, length_in}
 use Rattle.ssa_mean.specs.Places.{followed, load, assigned, field_of, field_address, element_value, index_of, element_address, index_address, Bounds, cut, part_between}
-use Rattle.ssa_mean.specs.Step.{Site, value, with_one, with_two, with_integer, with_bound, slice_part}
+use Rattle.ssa_mean.specs.Step.{Site, value, with_one, with_two, with_bound, slice_part}
 use Rattle.ssa_typed.specs.Forms.{FitsGiving, fits_giving, fits_alone, has_field, has_field_address, has_elem, elem_below, array_elem_at, is_pointer_where, is_slice_where, is_bound, are_bounds, slices, has_part, extracts}
 use Rattle.ssa_typed.specs.Operands.{known, is_known, held_type, shape, is_operand, is_where, is_integer_operand, pointee}
-use Rattle.ssa_typed.specs.declared.known.Known.{Known}
-use Rattle.ssa_typed.specs.declared.known.Known.TheVariants as known_as
 use Rattle.type_shapes.specs.Shapes as shapes
 
 -- ---- pointers that are followed

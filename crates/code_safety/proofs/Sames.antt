@@ -1,14 +1,14 @@
 -- Values of a type are values of all types that are alike; and which types are.
-use Rattle.std.proofs.Common.{◌≡◌, ◌⊎◌, ⊎_elim, ℕ, zero, suc, Bool, true, false, true≢false, ◌||◌, ◌==◌, if◌then◌else◌, List, [], ◌∷◌, Option, Some, None, ap, refl, sym, subst, ◌∙◌, slice_get, length, replicate, map, ◌<◌, unwrap_or}
+use Rattle.std.proofs.Common.{◌≡◌, ◌⊎◌, ⊎_elim, ℕ, zero, suc, Bool, true, false, true≢false, ◌||◌, ◌==◌, List, [], ◌∷◌, Option, Some, None, ap, refl, sym, subst, ◌∙◌, length, replicate, map, unwrap_or}
 use Rattle.std.proofs.lemmas.Bool.{or_cases}
 use Rattle.std.proofs.lemmas.Option.{none-some, cond_some}
 use Rattle.std.specs.Cmp.{unsigned_Decides}
 use Rattle.std.specs.Cmp.Lexicographic.{pointwise}
 use Rattle.std.specs.List.{AllZip, list_any}
 use Rattle.code_safety.proofs.Lists.{some_same, zip_right}
-use Rattle.code_safety.proofs.Shapes.{Like, LikeTerm, LikeField, LikeMethod, Alike, alike_self, alike_sym, alike_trans, alike_of, alike_under, alike_from, zip_turned, zip_joined}
-use Rattle.code_safety.proofs.Values.{Typing, Fits, PartsFit, IsOf, AreOf, under_of, item_types, PointsFrom, PointsAs, SlicesFrom, SliceFits, MapFits, MapNumberFits, ChanFits, ChanNumberFits, NilFunctionFits}
-use Rattle.code_safety.proofs.Values.{TruthFits, NumberFits, TextFits, HasSignature, ClosureFits, BindsFor, BinderFits, NilInterfaceFits, HasMethod, HasAll, BoxFits, TextRangeFits, MapRangeFits}
+use Rattle.code_safety.proofs.Shapes.{Like, LikeTerm, LikeField, LikeMethod, Alike, alike_sym, alike_trans, alike_of, alike_under, alike_from, zip_turned, zip_joined}
+use Rattle.code_safety.proofs.Values.{Typing, Fits, PartsFit, IsOf, under_of, item_types, PointsFrom, PointsAs, SlicesFrom, SliceFits, MapFits, MapNumberFits, ChanFits, ChanNumberFits, NilFunctionFits}
+use Rattle.code_safety.proofs.Values.{TruthFits, NumberFits, TextFits, HasSignature, ClosureFits, BindsFor, BinderFits, NilInterfaceFits, HasMethod, BoxFits, TextRangeFits, MapRangeFits}
 use Rattle.go_base.specs.declared.ids.CellId.{CellId}
 use Rattle.go_base.specs.declared.ids.ChanId.{ChanId}
 use Rattle.go_base.specs.declared.ids.FuncId.{FuncId}
@@ -21,13 +21,12 @@ use Rattle.go_type.specs.Held.{IsHeld}
 use Rattle.go_type.specs.Same.{both, same_id, same_id-Decides}
 use Rattle.go_type.specs.Sizes.{is_declared}
 use Rattle.go_type.specs.Table.{Table, term_at, underlying_of, definition_at, id_of, place_of, same_term}
-use Rattle.go_type.specs.declared.term.Basic.{Basic}
 use Rattle.go_type.specs.declared.term.Dir.TheVariants as dir
 use Rattle.go_type.specs.declared.term.Field.{Field}
 use Rattle.go_type.specs.declared.term.MethodType.{MethodType}
 use Rattle.go_type.specs.declared.term.Signature.{Signature}
 use Rattle.go_type.specs.declared.term.TypeTerm.{TypeTerm}
-use Rattle.go_type.specs.declared.term.TypeTerm.TheVariants.{Basic as Plain, Declared, Pointer as Points_to, Slice, Array, Map}
+use Rattle.go_type.specs.declared.term.TypeTerm.TheVariants.{Basic as Plain, Pointer as Points_to, Slice, Array, Map}
 use Rattle.go_type.specs.declared.term.TypeTerm.TheVariants.{Chan, Func, Struct, Interface, Tuple, Iter}
 use Rattle.go_type.specs.Identity.{like_method}
 use Rattle.go_value.specs.Values.{Val, Parts, none, part, truth, number, text, pointer, slice, map_number, chan_number}

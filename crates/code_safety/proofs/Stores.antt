@@ -1,5 +1,5 @@
 -- Stores: what pointers and slices lead to, and what assignments and new cells keep.
-use Rattle.std.proofs.Common.{◌≡◌, ◌<◌, ◌≤◌, ◌+◌, ◌-◌, ◌^◌, ℕ, ℤ, pos, ◌-ℤ◌, zero, suc, Bool, true, false, true≢false, ◌||◌, cond, if◌then◌else◌, List, [], ◌∷◌, ◌++◌, length, replicate, take, drop, Option, Some, None, Result, Ok, Err, refl, ap, sym, subst, ◌∙◌, slice_get, slice_index, slice_set, nat_lt, nat_le, int_lt, int_le, unsigned_abs, arith}
+use Rattle.std.proofs.Common.{◌≡◌, ◌<◌, ◌≤◌, ◌+◌, ◌-◌, ◌^◌, ℕ, ℤ, pos, ◌-ℤ◌, zero, suc, Bool, true, false, ◌||◌, if◌then◌else◌, List, [], ◌∷◌, ◌++◌, length, replicate, take, drop, Option, Some, None, Result, Ok, Err, refl, ap, sym, subst, ◌∙◌, slice_get, slice_index, slice_set, nat_lt, nat_le, int_lt, int_le, unsigned_abs, arith}
 use Rattle.std.proofs.Common.{length-take, length-drop, le-leb, is_none}
 use Rattle.std.proofs.lemmas.Bool.{or_parts, cond_both, lt-leb}
 use Rattle.std.proofs.lemmas.Int.{ints}
@@ -9,14 +9,14 @@ use Rattle.code_safety.proofs.Forms.{parts_in}
 use Rattle.code_safety.proofs.Growing.{cells_grow, maps_grow}
 use Rattle.code_safety.proofs.Lists as lists
 use Rattle.code_safety.proofs.Sames.{is_of_alike, items_alike}
-use Rattle.code_safety.proofs.Shapes.{Alike, Like, alike_self, alike_sym, alike_trans, alike_of, alike_under}
+use Rattle.code_safety.proofs.Shapes.{Alike, alike_sym, alike_of, alike_under}
 use Rattle.code_safety.proofs.Values.{Typing, Grows, Home, one, many, MapHome, Fits, PartsFit, IsOf, AreOf, AllOf, Points, PointsFrom, PointsInto, Slices, SlicesFrom, SlicesInto, HomeFits, IsStore, item_types, home_items, part_home, under_of}
 use Rattle.go_base.specs.declared.ids.CellId.{CellId}
 use Rattle.go_base.specs.declared.ids.TypeId.{TypeId}
 use Rattle.go_store.specs.Arrays.{array_of, values_in, elements, overwritten, with_run, run_of, run_among}
 use Rattle.go_store.specs.Cells.{value_at, value_in, read_at, updated, changed_in}
-use Rattle.go_store.specs.Slices.{later, last_step, array_at, sliced, are_no_bounds, whole_array, element_at, element_of, run_in, with_run_in, elements_of, slice_of_new}
-use Rattle.go_store.specs.Stores.{Stored, made, loaded, part_in, put_in, with_part, with_part_in, changed_item}
+use Rattle.go_store.specs.Slices.{later, last_step, sliced, are_no_bounds, whole_array, element_at, element_of, run_in, with_run_in, elements_of, slice_of_new}
+use Rattle.go_store.specs.Stores.{Stored, made, loaded, part_in, put_in, with_part_in, changed_item}
 use Rattle.go_type.specs.declared.term.TypeTerm.{TypeTerm}
 use Rattle.go_type.specs.declared.term.TypeTerm.TheVariants as term
 use Rattle.go_value.specs.Address.{part_of, settled, nil_pointer}

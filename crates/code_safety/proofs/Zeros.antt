@@ -1,5 +1,5 @@
 -- Zero values are of their types.
-use Rattle.std.proofs.Common.{◌≡◌, ℕ, zero, suc, pos, Bool, false, List, [], ◌∷◌, Option, Some, None, refl, sym, subst, ◌∙◌, map, map-id, replicate, option_map}
+use Rattle.std.proofs.Common.{◌≡◌, ℕ, zero, suc, pos, Bool, false, List, [], ◌∷◌, Option, Some, None, refl, subst, map, map-id, replicate, option_map}
 use Rattle.std.proofs.lemmas.Option.{none-some}
 use Rattle.code_safety.proofs.Lists.{some_same}
 use Rattle.code_safety.proofs.Values.{Typing, Fits, PartsFit, IsOf, under_of, PointsAs, SliceFits, MapNumberFits, ChanNumberFits, NilFunctionFits, ClosureFits, BinderFits, NilInterfaceFits, BoxFits}
