@@ -19,8 +19,9 @@ use Rattle.code_safety.proofs.Shapes.{alike_self}
 use Rattle.code_safety.proofs.Sites.{SiteFits, Reads, Among, HasValue}
 use Rattle.code_safety.proofs.Terms.{never, there}
 use Rattle.code_safety.proofs.Throwing.{there_safe, switches_safe, meets_safe}
+use Rattle.code_safety.proofs.Places.{id_is}
 use Rattle.code_safety.proofs.Values.{Typing, ChanFits}
-use Rattle.code_safety.proofs.Waking.{ReceivedFits, SelectedFits, received_term, sent_term, element_is, id_is, Plain, send_plain, receive_plain, receive_gets, select_gets, all_woken_fit}
+use Rattle.code_safety.proofs.Waking.{ReceivedFits, SelectedFits, received_term, sent_term, element_is, Plain, send_plain, receive_plain, receive_gets, select_gets, all_woken_fit}
 use Rattle.go_base.specs.declared.ids.ChanId.{ChanId}
 use Rattle.go_base.specs.declared.ids.GoId.{GoId}
 use Rattle.go_base.specs.declared.ids.TypeId.{TypeId}
