@@ -1,5 +1,5 @@
 -- Where frames stand: registers that are available are written, and frames that go on stand rightly where they come to.
-use Rattle.std.proofs.Common.{◌≡◌, ◌⊎◌, inl, inr, ⊎_elim, ◌<◌, ◌≤◌, ◌+◌, ◌-◌, ◌&&◌, ◌==◌, arith, ℕ, zero, suc, Bool, true, false, if◌then◌else◌, List, [], ◌∷◌, ◌++◌, length, take, take_all, take_while, Option, Some, None, refl, sym, subst, ap, ◌∙◌, slice_get, slice_set, Contains, find, true≢false, le_refl, append_assoc, append-nil}
+use Rattle.std.proofs.Common.{◌≡◌, ◌⊎◌, inl, inr, ⊎_elim, ◌<◌, ◌≤◌, ◌+◌, ◌-◌, ◌==◌, arith, ℕ, zero, suc, Bool, true, false, if◌then◌else◌, List, [], ◌∷◌, ◌++◌, length, take, take_all, take_while, Option, Some, None, refl, sym, subst, ap, ◌∙◌, slice_get, slice_set, Contains, find, true≢false, le_refl, append_assoc, append-nil}
 use Rattle.std.proofs.lemmas.Option.{none-some, get_or_from_slice_get}
 use Rattle.std.specs.Bool.{beq}
 use Rattle.std.specs.Cmp.{unsigned_Decides}
@@ -293,11 +293,16 @@ no_phi f frame instr stands at sane = decide (is_phi instr.op) refl
         → k < frame.place → slice_get (instrs_at f frame.block) k ≡ Some other → is_phi other.op ≡ true
     before (op.Phi edges) has phi k other less there = sym (phi_same other.register other.at other.op) ∙ has.1 k other less there
     before _ has phi k other less there = absurd (true≢false (sym phi))
+
     decide : (b : Bool) → is_phi instr.op ≡ b → b ≡ false
     decide false e = refl
     decide true e =
-        absurd (omega (arith, stands.behind, phis_past (instrs_at f frame.block) frame.place instr at e
-        (before instr.op sane.operands e)))
+        absurd (omega (
+          arith,
+          stands.behind,
+          phis_past (instrs_at f frame.block) frame.place instr at e
+              (before instr.op sane.operands e),
+        ))
 
 less_or_same : (k n : ℕ) → k < suc n → (k < n) ⊎ (k ≡ n)
 less_or_same k n less = ⊎_elim (λ e. inr e) (λ h. inl h) (apart k n less)
@@ -351,6 +356,7 @@ further f frame new instr pending old stands at sane goes_on same_block next kep
     decide k other register less there gives (inr here) =
         given register (ap (λ (it : Instr). it.register)
         (some_same instr other (sym at ∙ ap (slice_get (instrs_at f frame.block)) (sym here) ∙ there)) ∙ gives)
+
     passing : (register : ℕ)
         → (k : ℕ) × ((other : Instr) × ((slice_get (take (suc frame.place) (instrs_at f frame.block)) k ≡ Some other)
         × (other.register ≡ Some register)))
@@ -441,6 +447,7 @@ begun_at f frame instr stands (inr is) at other = λ register h. first register 
   where
     here : slice_get (instrs_at f 0) frame.place ≡ Some instr
     here = subst (λ b. slice_get (instrs_at f b) frame.place ≡ Some instr) is.first at
+
     first : (register : ℕ) → Contains (first_cells f) register → IsWritten frame register
     first register h =
         let m = given_at (take_while is_new (instrs_at f 0)) register (member (first_cells f) register h) in
@@ -486,21 +493,25 @@ entry_phis c safe n f there block entry = at (instrs_at f block) refl
   where
     sane : IsSane f
     sane = sane_of c safe n f there
+
     edges_lead : (edges : List PhiEdge) → has_edges edges ≡ true → ArePreds f block (froms_of edges)
         → (number : ℕ) × Leads f number block
     edges_lead [] some are = absurd (true≢false (sym some))
     edges_lead (edge ∷ edges) some are =
         (edge.from.number, (are.each edge.from.number).0 (contains (froms_of (edge ∷ edges)) edge.from.number (0, refl)))
+
     none_lead : (number : ℕ) (found : BlockAt f block) → Leads f number block → ⊥
     none_lead number found leads =
         let is = sane.blocks block found.block found.there in
         no_member number
         (member [] number (subst (λ ids. Contains (numbers_of ids) number) (is.entry entry) ((is.preds.each number).1 leads)))
+
     no_entry : (it : Op) → HasOperands f block 0 it → runs c f it ≡ true → BlockAt f block → is_phi it ≡ false
     no_entry (op.Phi edges) has runs found =
         let leads = edges_lead edges (both (has_edges edges) (list_all (has_meaning c) (operands_of (op.Phi edges))) runs).0 has.0 in
         absurd (none_lead leads.0 found leads.1)
     no_entry _ has runs found = refl
+
     at : (instrs : List Instr) → instrs_at f block ≡ instrs → phis_first instrs ≡ 0
     at [] e = refl
     at (instr ∷ instrs) e =
@@ -521,6 +532,7 @@ has_block c f header body =
     not_external : (it : FunctionKind) → has_body it ≡ true → is_external it ≡ false
     not_external kind.External h = absurd (true≢false (sym h))
     not_external _ h = refl
+
     positive : (blocks : List Block) → is_external f.kind ≡ false → beq (is_external f.kind) (length blocks == 0) ≡ true
         → 0 < length blocks
     positive [] e h = absurd (true≢false (sym h ∙ ap (λ b. beq b true) e))
@@ -529,27 +541,30 @@ has_block c f header body =
 pub entry_stands : (c : Code) → IsSafe c → (n : ℕ) (f : Function) → slice_get c.functions n ≡ Some f
     → has_body f.kind ≡ true → (entry : Entry)
     → Stands f (entered f entry) None × IsFresh f (entered f entry)
-entry_stands c safe n f there body entry =
-    (record {
-      given = [];
-      walk = enters;
-      written = λ register h.
-          absurd (no_member register (member [] register
-          (subst (λ p. Contains (given_registers (take p (instrs_at f 0))) register) none h)));
-      behind = le_refl _;
-      within = subst (λ p. p < length (instrs_at f 0)) (sym none)
-          (subst (λ its. 0 < length its) (sym found.instrs) (sane.blocks 0 found.block found.there).holds);
-    },
-    record {
-      runs = refl;
-      first = refl;
-      news = λ k instr less is. absurd (omega (arith, less, none));
-    })
+entry_stands c safe n f there body entry = (
+  record {
+    given = [];
+    walk = enters;
+    written = λ register h.
+        absurd (no_member register (member [] register
+        (subst (λ p. Contains (given_registers (take p (instrs_at f 0))) register) none h)));
+    behind = le_refl _;
+    within = subst (λ p. p < length (instrs_at f 0)) (sym none)
+        (subst (λ its. 0 < length its) (sym found.instrs) (sane.blocks 0 found.block found.there).holds);
+  },
+  record {
+    runs = refl;
+    first = refl;
+    news = λ k instr less is. absurd (omega (arith, less, none));
+  },
+)
   where
     sane : IsSane f
     sane = sane_of c safe n f there
+
     none : phis_first (instrs_at f 0) ≡ 0
     none = entry_phis c safe n f there 0 (inl refl)
+
     found : BlockAt f 0
     found = block_at f 0 (has_block c f (typed_of c safe n f there).header body)
 
@@ -562,21 +577,28 @@ recovery_stands c safe n f there frame begun block is =
   where
     sane : IsSane f
     sane = sane_of c safe n f there
+
     same : at_recovery (Some f) frame ≡ at_block f block.number frame
     same = ap (λ (r : Option BlockId). option_map_or (λ b. at_block f b.number frame) r frame) is
+
     none : phis_first (instrs_at f block.number) ≡ 0
     none = entry_phis c safe n f there block.number (inr (block, (is, refl)))
+
     found : BlockAt f block.number
     found = block_at f block.number (sane.recover block is)
+
     kept : IsBegun f (at_block f block.number frame)
     kept register h = let old = begun register h in record { it = old.it; there = old.there }
+
     way : (number : ℕ) → number ≡ block.number
         → (given : List ℕ) × (Walk f block.number given × ((register : ℕ) → Member register given → Contains (first_cells f) register))
     way zero e = ([], (subst (λ b. Walk f b []) e enters, λ register m. absurd (no_member register m)))
     way (suc number) e =
         (first_cells f, (recovers block is (omega (arith, e)), λ register m. contains (first_cells f) register m))
+
     from : (given : List ℕ) × (Walk f block.number given × ((register : ℕ) → Member register given → Contains (first_cells f) register))
     from = way block.number refl
+
     stands : Stands f (at_block f block.number frame) None
     stands =
         record {
@@ -613,6 +635,7 @@ left_written f frame instr stands at last none register m =
     decide k other there gives (inr here) =
         absurd (none-some register (sym none ∙ ap (λ (it : Instr). it.register)
         (some_same instr other (sym at ∙ ap (slice_get (instrs_at f frame.block)) (sym here) ∙ there)) ∙ gives))
+
     within : (k : ℕ) × ((other : Instr) × ((slice_get (instrs_at f frame.block) k ≡ Some other) × (other.register ≡ Some register)))
         → IsWritten frame register
     within m =
@@ -654,10 +677,13 @@ jump_stands c safe n f there frame new instr to stands at target none kept phis 
   where
     sane : IsSane f
     sane = sane_of c safe n f there
+
     is : IsInstr f frame.block frame.place instr
     is = sane.instrs frame.block frame.place instr at
+
     last : frame.place + 1 ≡ length (instrs_at f frame.block)
     last = is.ends.0 (target_ends instr.op to target)
+
     leads : Leads f frame.block to
     leads =
         record {
@@ -667,12 +693,16 @@ jump_stands c safe n f there frame new instr to stands at target none kept phis 
           target = target;
           exists = is.targets to target;
         }
+
     moved : (register : ℕ) → IsWritten new register → IsWritten (at_block f to new) register
     moved register h = record { it = h.it; there = h.there }
+
     old : (register : ℕ) → Member register (stands.given ++ given_registers (instrs_at f frame.block)) → IsWritten new register
     old register m = kept register (left_written f frame instr stands at last none register m)
+
     found : BlockAt f to
     found = block_at f to (is.targets to target)
+
     within : phis_first (instrs_at f to) < length (instrs_at f to)
     within = phis_inside f to sane (subst (λ its. 0 < length its) (sym found.instrs) (sane.blocks to found.block found.there).holds)
 
@@ -688,19 +718,25 @@ edge_written f frame instr to place phi edges sane stands at target none there i
     let numbers = member (froms_of edges) frame.block ((has.0.each frame.block).1 leads) in
     let edge = from_edges edges numbers.0 numbers.1 in
     let first = find_first (λ (it : PhiEdge). it.from.number == frame.block) edges edge.0 edge.1.0 edge.1.1 in
-    let same : first.it.from.number ≡ frame.block = (unsigned_Decides first.it.from.number frame.block).0 first.passes in
-    (first.it, (first.found, λ register uses.
-    left_written f frame instr stands at last none register
-    (subst (λ its. Member register (stands.given ++ given_registers its)) (take_all (length (instrs_at f frame.block)) (instrs_at f frame.block) (le_refl _))
-    (member (stands.given ++ given_registers (take (length (instrs_at f frame.block)) (instrs_at f frame.block))) register
-    (subst (λ b. IsAvailableBehind f b register) same
-    (has.2 first.it register (contains edges first.it first.there)
-    (contains (registers_in first.it.value) register
-    (subst (λ o. Member register (registers_in o)) (sym uses) (0, refl))))
-    stands.given stands.walk)))))
+    let same : first.it.from.number ≡ frame.block = (unsigned_Decides first.it.from.number frame.block).0 first.passes in (
+      first.it,
+      (
+        first.found,
+        λ register uses.
+            left_written f frame instr stands at last none register
+            (subst (λ its. Member register (stands.given ++ given_registers its)) (take_all (length (instrs_at f frame.block)) (instrs_at f frame.block) (le_refl _))
+            (member (stands.given ++ given_registers (take (length (instrs_at f frame.block)) (instrs_at f frame.block))) register
+            (subst (λ b. IsAvailableBehind f b register) same
+            (has.2 first.it register (contains edges first.it first.there)
+            (contains (registers_in first.it.value) register
+            (subst (λ o. Member register (registers_in o)) (sym uses) (0, refl))))
+            stands.given stands.walk))),
+      ),
+    )
   where
     last : frame.place + 1 ≡ length (instrs_at f frame.block)
     last = (sane.instrs frame.block frame.place instr at).ends.0 (target_ends instr.op to target)
+
     leads : Leads f frame.block to
     leads =
         record {
@@ -710,6 +746,7 @@ edge_written f frame instr to place phi edges sane stands at target none there i
           target = target;
           exists = (sane.instrs frame.block frame.place instr at).targets to target;
         }
+
     from_edges : (edges : List PhiEdge) (k : ℕ) → slice_get (froms_of edges) k ≡ Some frame.block
         → (edge : PhiEdge) × (Member edge edges × ((edge.from.number == frame.block) ≡ true))
     from_edges [] k e = absurd (none-some frame.block e)

@@ -64,7 +64,7 @@ use Rattle.ssa_mean.specs.Making.{held_as, assertion, pointers_of, is_nil_of, bo
 use Rattle.ssa_mean.specs.Operands.{values_of, type_of, term_of, under_in, element_in, function_at}
 use Rattle.ssa_mean.specs.Runes.{runes_of}
 use Rattle.ssa_mean.specs.Zeros.{zero_of}
-use Rattle.ssa_mean.specs.Step.{Site, value, with_one, convert, make_interface, make_closure, assert_type}
+use Rattle.ssa_mean.specs.Step.{Site, with_one, convert, make_interface, make_closure, assert_type}
 use Rattle.ssa_typed.specs.Conversions.{converts, converts_type, changes, changes_pointer, same_below}
 use Rattle.ssa_typed.specs.Forms.{FitsGiving, fits_giving, Boxes, ImplementsWhere, Widens, Asserts, gives, closes}
 use Rattle.ssa_typed.specs.Operands.{known, held_type, is_function_type, is_operand, is_signature, has_constant, address_of, is_value}

@@ -1,5 +1,5 @@
 -- Entries of functions, and calls that were put off.
-use Rattle.std.proofs.Common.{◌≡◌, ◌⊎◌, inl, inr, ⊎_elim, ◌<◌, ◌&&◌, ◌==◌, ◌++◌, ◌||◌, arith, ℕ, zero, suc, Bool, true, false, not, if◌then◌else◌, nat_lt, List, [], ◌∷◌, length, replicate, Option, Some, None, is_some, refl, sym, subst, ap, ◌∙◌, slice_get, slice_set, codes, bytes_eq, true≢false}
+use Rattle.std.proofs.Common.{◌≡◌, ◌==◌, ◌++◌, ◌||◌, ℕ, zero, suc, Bool, true, false, not, if◌then◌else◌, nat_lt, List, [], ◌∷◌, length, replicate, Option, Some, None, is_some, refl, sym, subst, ap, ◌∙◌, slice_get, slice_set, codes, bytes_eq, true≢false}
 use Rattle.std.proofs.lemmas.Bool.{and_from}
 use Rattle.std.proofs.lemmas.Option.{none-some}
 use Rattle.std.specs.Cmp.{unsigned_Decides}
@@ -9,9 +9,9 @@ use Rattle.code_safety.proofs.Available.{has_body, entry_stands, state_stands}
 use Rattle.code_safety.proofs.Forms.{number_in}
 use Rattle.code_safety.proofs.Growing.{grows_self, goroutine_grows}
 use Rattle.code_safety.proofs.Lists.{zip_length, get_replicate, length_replicate, get_set, some_same}
-use Rattle.code_safety.proofs.Machines.{OpenFits, MachineFits, GoroutineFits, GoOn, FunctionFits, CalleeFits, LaterFits, LaterFitsWhere, BuiltInFits, closes, panics, recovers, works, DoneComes, Takes, AreBelow, AreFrames, IsTop, FrameFits, Stands, IsFresh, TopStands, fresh, begun, lost, IsBegun, Recovers, StartFits, Safe}
-use Rattle.code_safety.proofs.Members.{both, either, one_of_both, not_true}
-use Rattle.code_safety.proofs.Opening.{store_changed, starts_changed, closed_with, frames_closed, open_with, rest_of}
+use Rattle.code_safety.proofs.Machines.{OpenFits, MachineFits, GoroutineFits, GoOn, FunctionFits, CalleeFits, LaterFits, LaterFitsWhere, BuiltInFits, closes, panics, recovers, works, DoneComes, Takes, AreBelow, AreFrames, IsTop, FrameFits, Stands, IsFresh, TopStands, fresh, begun, lost, IsBegun, Recovers, Safe}
+use Rattle.code_safety.proofs.Members.{both}
+use Rattle.code_safety.proofs.Opening.{store_changed, starts_changed, closed_with, frames_closed, rest_of}
 use Rattle.code_safety.proofs.Throwing.{MayThrow, there_safe, meets_safe, panics_safe, unwound_safe, spends_safe, switches_safe, begun_as}
 use Rattle.code_safety.proofs.Values.{Typing, IsOf, AreOf, under_of}
 use Rattle.code_safety.proofs.Waiting.{close_safe}
@@ -19,10 +19,8 @@ use Rattle.go_base.specs.declared.ending.Ending.TheVariants as ending
 use Rattle.go_base.specs.declared.ids.FuncId.{FuncId}
 use Rattle.go_base.specs.declared.ids.TypeId.{TypeId}
 use Rattle.go_sched.specs.declared.scheduling.Point.TheVariants as point
-use Rattle.go_type.specs.Kinds.{kind_of, kind_of_term}
-use Rattle.go_type.specs.declared.operators.Builtin.{Builtin}
 use Rattle.go_type.specs.declared.operators.Builtin.TheVariants as builtin
-use Rattle.go_value.specs.Values.{Val, number, chan_number}
+use Rattle.go_value.specs.Values.{Val, chan_number}
 use Rattle.go_value.specs.declared.faults.Fault.TheVariants as fault
 use Rattle.ssa_ir.specs.declared.code.Code.{Code}
 use Rattle.ssa_ir.specs.declared.code.Function.{Function}
@@ -30,12 +28,12 @@ use Rattle.ssa_ir.specs.declared.code.FunctionKind.{FunctionKind}
 use Rattle.ssa_ir.specs.declared.code.FunctionKind.TheVariants as kind
 use Rattle.ssa_mean.specs.Answers.{Answers, AreAnswers}
 use Rattle.ssa_mean.specs.BuiltIns.{Done, built_in_call}
-use Rattle.ssa_mean.specs.Calls.{Entry, enters, enters_kind, enters_source, enters_external, exits, entered, fits_entry, pushed, is_full, entry_of, most_passed}
+use Rattle.ssa_mean.specs.Calls.{Entry, enters, enters_kind, enters_external, exits, entered, fits_entry, pushed, is_full, entry_of, most_passed}
 use Rattle.ssa_mean.specs.Comes.{Comes, to, faults, nowhere}
 use Rattle.ssa_mean.specs.Operands.{function_at}
-use Rattle.ssa_mean.specs.State.{BuiltIn, appends_items, appends_slice, appends_text, clears_slice, plain, Callee, of_function, of_built_in, of_nil, Later, Frame, FrameState, Goroutine, Machine, Next, goes, ends, stuck, where_there, current, running, with_current, with_frames}
+use Rattle.ssa_mean.specs.State.{BuiltIn, appends_items, appends_slice, appends_text, clears_slice, plain, Callee, of_function, of_built_in, of_nil, Later, Frame, Goroutine, Machine, goes, ends, stuck, where_there, current, running, with_current, with_frames}
 use Rattle.ssa_mean.specs.Unwinding.{spends, switches}
-use Rattle.ssa_mean.specs.Step.{makes, unwinds, begins, alone, wrote, close_of, ends_or_starts, starts_next, first_entry}
+use Rattle.ssa_mean.specs.Step.{makes, unwinds, begins, alone, wrote, close_of, starts_next, first_entry}
 
 -- ---- machines that fit, with a goroutine that is known
 
@@ -83,14 +81,18 @@ pushed_safe c safe t m g entry fits there begin calm function body below takes =
     subst (λ (b : Bool). Safe c (if b
     then where_there (λ (g : Goroutine). goes (with_frames g (entered function.function entry ∷ g.frames) m)) (current m)
     else stuck)) (sym counts)
-    (there_safe c (λ (g : Goroutine). goes (with_frames g (entered function.function entry ∷ g.frames) m)) (current m) g there
-    (t, frames_closed c t m g (entered function.function entry ∷ g.frames) there fits begin calm
-    (record {
-      function = function.function;
-      fits = entered_fits c t entry function;
-      stands = fresh stands.0 stands.1;
-      takes = takes;
-    }, below)))
+    (there_safe c (λ (g : Goroutine). goes (with_frames g (entered function.function entry ∷ g.frames) m)) (current m) g there (
+      t,
+      frames_closed c t m g (entered function.function entry ∷ g.frames) there fits begin calm (
+        record {
+          function = function.function;
+          fits = entered_fits c t entry function;
+          stands = fresh stands.0 stands.1;
+          takes = takes;
+        },
+        below,
+      ),
+    ))
   where
     counts : fits_entry function.function entry ≡ true
     counts =
@@ -99,6 +101,7 @@ pushed_safe c safe t m g entry fits there begin calm function body below takes =
         (zip_length (IsOf c t) entry.arguments function.function.params function.takes))
         ((unsigned_Decides (length entry.free) (length function.function.free)).1
         (zip_length (IsOf c t) entry.free function.function.free function.frees))
+
     stands : Stands function.function (entered function.function entry) None × IsFresh function.function (entered function.function entry)
     stands = entry_stands c safe entry.function.number function.function function.there body entry
 
@@ -138,6 +141,7 @@ enters_safe c safe t m g entry fits there begin calm function below takes restor
         spends_safe c m (pushed function.function entry)
         (λ n. pushed_safe c safe t (record m { ticks = n }) g entry
         (store_changed c t t m m.store n m.output (grows_self t) refl fits.store fits) there begin calm function body below takes)
+
     by_kind : (it : FunctionKind) → function.function.kind ≡ it → Safe c (enters_kind c m g function.function it entry)
     by_kind kind.Source e = source (is_full c g) (ap has_body e)
     by_kind kind.Init e = pushed_safe c safe t m g entry fits there begin calm function (ap has_body e) below takes
@@ -158,6 +162,7 @@ enters_safe c safe t m g entry fits there begin calm function below takes restor
         (subst (λ it. fits_external c.types function.function it ≡ true) e
         (safe.runnable.externals entry.function.number function.function function.there))).1
         function.takes
+
     passing : (deep : Bool)
         → Safe c (if deep then ends ending.StackOverflow m.output
         else where_there (λ (g : Goroutine). where_there (λ (f : Function). enters_kind c m g f f.kind entry)
@@ -175,15 +180,16 @@ wrote_safe : (c : Code) → IsSafe c → (t : Typing) (m : Machine) (g : Gorouti
     → slice_get m.goroutines m.sched.current.number ≡ Some g → MayThrow c t g.frames → (it : Comes Done) → DoneComes c t None it
     → Safe c (wrote c m it)
 wrote_safe c safe t m g fits there may (to done) h =
-    let is = known_goroutine c t m g fits there in
-    (h.typing,
-    record {
-      opened = store_changed c t h.typing m done.store m.ticks (m.output ++ done.written) h.grows h.chans h.is_store fits.opened;
-      g = g;
-      there = there;
-      fits = goroutine_grows c t h.typing h.grows g is.0;
-      calm = is.1;
-    })
+    let is = known_goroutine c t m g fits there in (
+      h.typing,
+      record {
+        opened = store_changed c t h.typing m done.store m.ticks (m.output ++ done.written) h.grows h.chans h.is_store fits.opened;
+        g = g;
+        there = there;
+        fits = goroutine_grows c t h.typing h.grows g is.0;
+        calm = is.1;
+      },
+    )
 wrote_safe c safe t m g fits there may (faults it) h =
     let is = known_goroutine c t m g fits there in
     meets_safe c safe t m g fits.opened there is.0.begin is.1 may it
@@ -232,6 +238,7 @@ makes_safe c safe answers told t m g fits there may below it deferred is = by it
   where
     known : GoroutineFits c t g × (g.fault ≡ None)
     known = known_goroutine c t m g fits there
+
     by : (callee : Callee) → CalleeFits c t callee it.arguments → Safe c (makes answers c m it deferred callee)
     by (of_function id free) is =
         enters_safe c safe t m g (entry_of c m id free it deferred None) fits.opened there known.0.begin known.1 is below tt
@@ -250,11 +257,13 @@ unwinds_safe c safe answers told t m g top below fits there frames begin calm is
     others_recover : (others : List Later) → is_some is.function.recover ≡ true → Recovers others is.function
     others_recover [] h = tt
     others_recover (it ∷ others) h = h
+
     standing : TopStands is.function top → (it : Later) (others : List Later) → top.defers ≡ it ∷ others
         → Stands is.function top None × IsBegun is.function top
     standing (fresh stands new) it others e = absurd (other new.runs)
     standing (begun stands started) it others e = (stands, started)
     standing (lost thrown none no_defers) it others e = absurd (no_items it others (sym no_defers ∙ e))
+
     by : (defers : List Later) → top.defers ≡ defers → Safe c (unwinds answers c m g top below defers)
     by [] e = unwound_safe c safe t m g top below fits there begin calm is lower
     by (it ∷ others) e =
@@ -310,9 +319,11 @@ begins_safe c safe answers told t m g fits there none = by g.begin refl
   where
     known : GoroutineFits c t g × (g.fault ≡ None)
     known = known_goroutine c t m g fits there
+
     ending_or : (first : Bool) → Safe c (if first then starts_next c m m.starts else switches c point.Ended m)
     ending_or true = starts_safe c safe t m g fits there none m.starts refl
     ending_or false = switches_safe c safe t m (rest_of c t m fits) point.Ended
+
     by : (begin : Option Later) → g.begin ≡ begin → Safe c (begins answers c m g begin)
     by None e = ending_or (m.sched.current.number == 0)
     by (Some it) e =

@@ -1,5 +1,5 @@
 -- Which values the values of a type are, by its underlying term.
-use Rattle.std.proofs.Common.{◌≡◌, ◌⊎◌, ℕ, ℤ, Bool, true, false, List, [], ◌∷◌, Option, Some, None, refl, sym, subst, is_some, replicate, map, true≢false}
+use Rattle.std.proofs.Common.{◌≡◌, ℕ, ℤ, Bool, true, List, Option, Some, None, refl, sym, subst, is_some, replicate, map, true≢false}
 use Rattle.std.proofs.lemmas.Option.{none-some}
 use Rattle.code_safety.proofs.Lists.{some_same}
 use Rattle.code_safety.proofs.Values.{Typing, Fits, PartsFit, IsOf, Points, Slices, MapFits, ChanFits, HasAll, IsClosure, BindsFor, MapNumberFits, is_numbers, item_types, under_of}

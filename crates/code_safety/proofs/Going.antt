@@ -1,5 +1,5 @@
 -- Instructions that give a value, or change the store, and go on behind themselves.
-use Rattle.std.proofs.Common.{◌≡◌, ◌⊎◌, inl, inr, ⊎_elim, ◌<◌, arith, ℕ, ℤ, zero, suc, Bool, true, false, if◌then◌else◌, List, [], ◌∷◌, ◌++◌, length, length-append, Option, Some, None, is_some, refl, sym, subst, ap, ◌∙◌, slice_get, slice_set, true≢false}
+use Rattle.std.proofs.Common.{◌≡◌, ◌⊎◌, inl, inr, ⊎_elim, ◌<◌, arith, ℕ, ℤ, suc, Bool, true, false, if◌then◌else◌, List, [], ◌∷◌, ◌++◌, length, length-append, Option, Some, None, is_some, refl, sym, subst, ap, ◌∙◌, slice_get, slice_set, true≢false}
 use Rattle.std.proofs.lemmas.Option.{none-some}
 use Rattle.std.specs.Cmp.{unsigned_Decides}
 use Rattle.std.specs.List.{list_all}
@@ -146,15 +146,19 @@ variable_value c t has variable k (Some it) e h =
     record {
       it = pointer (variable_cell variable);
       is = refl;
-      fits = subst (λ k. KnownFits c t k (pointer (variable_cell variable))) (some_same (known_as.Address it.of) k h)
-          (variable_cell variable, (refl,
+      fits = subst (λ k. KnownFits c t k (pointer (variable_cell variable))) (some_same (known_as.Address it.of) k h) (
+        variable_cell variable,
+        (
+          refl,
           record {
             home = one it.of;
             there = has variable.number it e;
             of = it.of;
             at = refl;
             alike = alike_self c.types it.of;
-          }));
+          },
+        ),
+      );
     }
 
 constant_operand : (c : Code) (t : Typing) (it : ConstValue) (of : TypeId) (k : Known)
@@ -187,6 +191,7 @@ operand_reads t s instr site (operand.Register n) written meaning k h = by (slic
   where
     there : IsWritten s.frame n
     there = written n refl
+
     by : (found : Option TypeId) → slice_get s.function.registers n ≡ found → type_of found ≡ Some k
         → Valued s.code t k (option_flatten (slice_get s.frame.registers n))
     by None e h = absurd (none-some k h)
@@ -292,24 +297,27 @@ pub frames_behind : (c : Code) (t : Typing) (f : Function) (frame : Frame) (belo
     → slice_get (instrs_at f frame.block) frame.place ≡ Some instr → IsInstr f frame.block frame.place instr
     → is_end_op instr.op ≡ false → (it : Option Val) (of : Option TypeId) → IsRegister f instr.register of → GivesOf c t it of
     → AreFrames c t (advanced (with_result instr.register it frame) ∷ below)
-frames_behind c t f frame below instr fits stands started takes lower at sane goes_on it of register gives =
-    (record {
-      function = f;
-      fits = moved_fits c t f (with_result instr.register it frame) (with_result instr.register it frame).block
-          (suc (with_result instr.register it frame).place) (with_result instr.register it frame).state result result.state;
-      stands = top (⊎_elim (λ new. fresh_next f frame instr it started at new)
-          (λ old. inl (begun_as f (with_result instr.register it frame) (advanced (with_result instr.register it frame)) refl
-          (begun_with f frame instr.register it (begun_at f frame instr stands started at old))))
-          (either (is_new instr)));
-      takes = subst (λ r. Takes c f r below) (sym (result_same instr.register it frame)) takes;
-    },
-    subst (λ r. AreBelow c t r below) (sym (result_same instr.register it frame)) lower)
+frames_behind c t f frame below instr fits stands started takes lower at sane goes_on it of register gives = (
+  record {
+    function = f;
+    fits = moved_fits c t f (with_result instr.register it frame) (with_result instr.register it frame).block
+        (suc (with_result instr.register it frame).place) (with_result instr.register it frame).state result result.state;
+    stands = top (⊎_elim (λ new. fresh_next f frame instr it started at new)
+        (λ old. inl (begun_as f (with_result instr.register it frame) (advanced (with_result instr.register it frame)) refl
+        (begun_with f frame instr.register it (begun_at f frame instr stands started at old))))
+        (either (is_new instr)));
+    takes = subst (λ r. Takes c f r below) (sym (result_same instr.register it frame)) takes;
+  },
+  subst (λ r. AreBelow c t r below) (sym (result_same instr.register it frame)) lower,
+)
   where
     result : FrameFits c t f (with_result instr.register it frame)
     result = result_fits c t f frame instr.register it of register gives fits
+
     behind : Stands f (advanced (with_result instr.register it frame)) None
     behind =
         next_stands f frame instr stands at sane goes_on it (result_written c t f frame instr.register it of register gives fits)
+
     top : IsBegun f (advanced (with_result instr.register it frame)) ⊎ IsFresh f (advanced (with_result instr.register it frame))
         → TopStands f (advanced (with_result instr.register it frame))
     top (inl begun_now) = begun behind begun_now
@@ -345,10 +353,12 @@ pub goes_behind_safe : (t t' : Typing) (s : Site) (instr : Instr) (site : SiteFi
     → is_end_op instr.op ≡ false → (it : Option Val) (m : Machine) → OpenFits s.code t' m
     → slice_get m.goroutines m.sched.current.number ≡ Some s.goroutine → GivesOf s.code t' it site.of
     → Safe s.code (goes_behind s instr.register it m)
-goes_behind_safe t t' s instr site grows goes_on it m fits there gives =
-    (t', frames_closed s.code t' m s.goroutine (advanced (with_result instr.register it s.frame) ∷ s.below) there fits
-    (later_where_grows s.code t t' grows s.goroutine.begin site.begin) site.calm
-    (behind_fit t t' s instr site grows goes_on it gives))
+goes_behind_safe t t' s instr site grows goes_on it m fits there gives = (
+  t',
+  frames_closed s.code t' m s.goroutine (advanced (with_result instr.register it s.frame) ∷ s.below) there fits
+      (later_where_grows s.code t t' grows s.goroutine.begin site.begin) site.calm
+      (behind_fit t t' s instr site grows goes_on it gives),
+)
 
 -- one that makes a cell meets no fault
 pub gives_new_safe : (t : Typing) (s : Site) (instr : Instr) (site : SiteFits t s instr) → is_end_op instr.op ≡ false

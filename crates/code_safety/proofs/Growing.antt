@@ -1,5 +1,5 @@
 -- What fits under a typing fits under all that it grows to.
-use Rattle.std.proofs.Common.{◌≡◌, ℕ, zero, suc, List, [], ◌∷◌, length, Option, Some, None, ap, refl, sym, ◌∙◌, slice_get}
+use Rattle.std.proofs.Common.{◌≡◌, ℕ, List, [], ◌∷◌, length, Option, Some, None, ap, sym, ◌∙◌, slice_get}
 use Rattle.std.specs.List.{AllZip}
 use Rattle.code_safety.proofs.Machines.{FrameFits, AreBelow, AreFrames, GoOn, GoroutineFits, BuiltInFits, closes, panics, recovers, works, CalleeFits, LaterFits, LaterFitsWhere, ThrownFits, StateFits, ChannelFits, SchedFits}
 use Rattle.code_safety.proofs.Shapes.{zip_map}
@@ -93,7 +93,7 @@ closure_grows c t t' g id captured (Some (term.Func signature)) h =
       function = h.function;
       there = h.there;
       free = zip_map (λ at of. PointsAs c t at (under_of c of)) (λ at of. PointsAs c t' at (under_of c of))
-      (λ at of. points_as_grow c t t' g at (under_of c of)) captured h.function.free h.free;
+          (λ at of. points_as_grow c t t' g at (under_of c of)) captured h.function.free h.free;
       has = h.has;
     }
 closure_grows c t t' g id captured _ h = absurd h
@@ -219,27 +219,29 @@ frame_grows c t t' g f frame h =
 pub below_grow : (c : Code) (t t' : Typing) → Grows t t' → (pending : Option ℕ) (frames : List Frame)
     → AreBelow c t pending frames → AreBelow c t' pending frames
 below_grow c t t' g pending [] h = tt
-below_grow c t t' g pending (frame ∷ below) h =
-    (record {
-      function = h.0.function;
-      fits = frame_grows c t t' g h.0.function frame h.0.fits;
-      stands = h.0.stands;
-      begun = h.0.begun;
-      takes = h.0.takes;
-    },
-    below_grow c t t' g frame.result below h.1)
+below_grow c t t' g pending (frame ∷ below) h = (
+  record {
+    function = h.0.function;
+    fits = frame_grows c t t' g h.0.function frame h.0.fits;
+    stands = h.0.stands;
+    begun = h.0.begun;
+    takes = h.0.takes;
+  },
+  below_grow c t t' g frame.result below h.1,
+)
 
 pub frames_grow : (c : Code) (t t' : Typing) → Grows t t' → (frames : List Frame) → AreFrames c t frames
     → AreFrames c t' frames
 frames_grow c t t' g [] h = tt
-frames_grow c t t' g (top ∷ below) h =
-    (record {
-      function = h.0.function;
-      fits = frame_grows c t t' g h.0.function top h.0.fits;
-      stands = h.0.stands;
-      takes = h.0.takes;
-    },
-    below_grow c t t' g top.result below h.1)
+frames_grow c t t' g (top ∷ below) h = (
+  record {
+    function = h.0.function;
+    fits = frame_grows c t t' g h.0.function top h.0.fits;
+    stands = h.0.stands;
+    takes = h.0.takes;
+  },
+  below_grow c t t' g top.result below h.1,
+)
 
 go_on_grow : (c : Code) (t t' : Typing) → Grows t t' → (it : Option Fault) (frames : List Frame) → GoOn c t it frames
     → GoOn c t' it frames

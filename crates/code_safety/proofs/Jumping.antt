@@ -122,13 +122,13 @@ phi_gives t s instr site to place phi target none there is =
     let typed = phi_typed c f phi edges.0 _ edges.1 ((typed_of c site.safe n f site.fits.there).instrs to place phi there) in
     let edge = edge_written f s.frame instr to place phi edges.0 (sane_of c site.safe n f site.fits.there) site.stands site.at target none there edges.1 in
     let runnable : runs c f (op.Phi edges.0) ≡ true =
-            subst (λ it. runs c f it ≡ true) edges.1 (site.safe.runnable.instrs n to place f phi site.fits.there there) in
+    subst (λ it. runs c f it ≡ true) edges.1 (site.safe.runnable.instrs n to place f phi site.fits.there there) in
     let mean = edges_mean c edges.0 (both (runs_op c f (op.Phi edges.0)) _ runnable).1 in
     let v = operand_value t s site.safe.held edge.0.value
-            (operand_reads t s instr site edge.0.value edge.1.1
-            (found_passes (λ edge. has_meaning c edge.value) (λ edge. edge.from.number == s.frame.block) edges.0 edge.0 mean edge.1.0))
-            typed.of
-            (found_passes (λ edge. is_operand c f edge.value typed.of) (λ edge. edge.from.number == s.frame.block) edges.0 edge.0 typed.typed edge.1.0) in
+    (operand_reads t s instr site edge.0.value edge.1.1
+    (found_passes (λ edge. has_meaning c edge.value) (λ edge. edge.from.number == s.frame.block) edges.0 edge.0 mean edge.1.0))
+    typed.of
+    (found_passes (λ edge. is_operand c f edge.value typed.of) (λ edge. edge.from.number == s.frame.block) edges.0 edge.0 typed.typed edge.1.0) in
     record {
       register = typed.register;
       is = typed.is;
@@ -171,7 +171,7 @@ phis_fit t s fits (phi ∷ phis) each =
     let rest = phis_fit t s fits phis (λ k. each (suc k)) in
     let first = each 0 phi refl in
     let registered : IsRegister s.function phi.register (Some first.of) =
-            subst (λ register. IsRegister s.function register (Some first.of)) (sym first.is) (first.of, (refl, first.held)) in
+    subst (λ register. IsRegister s.function register (Some first.of)) (sym first.is) (first.of, (refl, first.held)) in
     record {
       new = with_result phi.register (Some first.it) rest.new;
       is =
@@ -204,25 +204,26 @@ jumps_safe t s instr site block target none other =
     let f = s.function in
     let to = block.number in
     let phis = phis_fit t s site.fits (front_phis (instrs_at f to)) (λ k phi is.
-            let at = front_get (instrs_at f to) k phi is in
-            phi_gives t s instr site to k phi target none at.0 at.1) in
+    let at = front_get (instrs_at f to) k phi is in
+    phi_gives t s instr site to k phi target none at.0 at.1) in
     let new = phis.new in
     let stands = jump_stands c site.safe s.frame.function.number f site.fits.there s.frame new instr to site.stands site.at target none
-            phis.keeps
-            (λ register h.
-            let given = given_at (front_phis (instrs_at f to)) register (member (given_registers (front_phis (instrs_at f to))) register h) in
-            phis.gives given.0 given.1.0 register given.1.1.0 given.1.1.1) in
+    phis.keeps
+    (λ register h.
+    let given = given_at (front_phis (instrs_at f to)) register (member (given_registers (front_phis (instrs_at f to))) register h) in
+    phis.gives given.0 given.1.0 register given.1.1.0 given.1.1.1) in
     let old = begun_at f s.frame instr site.stands site.started site.at other in
     let started : IsBegun f (at_block f to new) =
-            λ register h. let is = phis.keeps register (old register h) in record { it = is.it; there = is.there } in
-    let frames : AreFrames c t (at_block f to new ∷ s.below) =
-            (record {
-              function = f;
-              fits = moved_fits c t f new (at_block f to new).block (at_block f to new).place new.state phis.fits phis.fits.state;
-              stands = begun stands started;
-              takes = subst (λ r. Takes c f r s.below) (sym phis.same_result) site.takes;
-            },
-            subst (λ r. AreBelow c t r s.below) (sym phis.same_result) site.lower) in
+    λ register h. let is = phis.keeps register (old register h) in record { it = is.it; there = is.there } in
+    let frames : AreFrames c t (at_block f to new ∷ s.below) = (
+      record {
+        function = f;
+        fits = moved_fits c t f new (at_block f to new).block (at_block f to new).place new.state phis.fits phis.fits.state;
+        stands = begun stands started;
+        takes = subst (λ r. Takes c f r s.below) (sym phis.same_result) site.takes;
+      },
+      subst (λ r. AreBelow c t r s.below) (sym phis.same_result) site.lower,
+    ) in
     subst (λ found. Safe c (where_there (λ frame. goes (with_frames s.goroutine (at_block f to frame ∷ s.below) s.machine)) found))
     (sym phis.is)
     (t, frames_closed c t s.machine s.goroutine (at_block f to new ∷ s.below) site.there site.machine site.begin site.calm frames)
@@ -250,12 +251,12 @@ pub if_safe : (t : Typing) (s : Site) (instr : Instr) → SiteFits t s instr →
 unfolding acts fits_alone
 if_safe t s instr site test one other is =
     let none = no_register s (op.If test one other) (if_gives_none s.code s.function test one other) instr.register site.of site.register
-            (subst (λ it. FitsOp s.code s.function it site.of) is site.typed) in
+    (subst (λ it. FitsOp s.code s.function it site.of) is site.typed) in
     let untyped = subst (λ register. IsRegister s.function register site.of) none site.register in
     let typed = subst (λ of. FitsOp s.code s.function (op.If test one other) of) untyped
-            (subst (λ it. FitsOp s.code s.function it site.of) is site.typed) in
+    (subst (λ it. FitsOp s.code s.function it site.of) is site.typed) in
     let b = truth_value t s test
-            ((subst (λ it. Reads t s it) is (site_reads t s instr site)).values test (inl refl)) typed in
+    ((subst (λ it. Reads t s it) is (site_reads t s instr site)).values test (inl refl)) typed in
     let plain = ap (λ it. is_new (record instr { op = it })) is in
     subst (λ found. Safe s.code (where_there (branches s one other) found)) (sym b.1)
     (by b.0

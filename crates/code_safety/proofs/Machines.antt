@@ -1,8 +1,7 @@
 -- Machines that stand rightly: each frame of a typed function at a place where what is available is written, with
 -- values of the right types; goroutines that wait where they can be served; channels that hold what they are for.
-use Rattle.std.proofs.Common.{◌≡◌, ◌==◌, ◌<◌, ◌≤◌, ◌⊎◌, ℕ, zero, suc, Bool, true, false, List, [], ◌∷◌, ◌++◌, length, Option, Some, None, slice_get, is_some, take, Contains}
+use Rattle.std.proofs.Common.{◌≡◌, ◌<◌, ◌≤◌, ◌⊎◌, ℕ, Bool, true, false, List, [], ◌∷◌, ◌++◌, length, Option, Some, None, slice_get, is_some, take, Contains}
 use Rattle.std.specs.List.{AllZip}
-use Rattle.code_safety.specs.Safety.{IsSafe}
 use Rattle.code_safety.proofs.Shapes.{Alike}
 use Rattle.code_safety.proofs.Values as values
 use Rattle.code_safety.proofs.Values.{Typing, Grows, Fits, IsOf, AreOf, IsStore, under_of}
@@ -26,16 +25,15 @@ use Rattle.ssa_ir.specs.declared.ops.Instr.{Instr}
 use Rattle.ssa_ir.specs.declared.ops.Op.{Op}
 use Rattle.ssa_ir.specs.declared.ops.Op.TheVariants as op
 use Rattle.ssa_ir.specs.declared.ops.SelectCase.TheVariants as case
-use Rattle.ssa_mean.specs.Answers.{Answers, AreAnswers}
+use Rattle.ssa_mean.specs.Answers.{Answers}
 use Rattle.ssa_mean.specs.BuiltIns.{Done, built_in_call}
 use Rattle.ssa_mean.specs.Comes.{Comes, to, faults, nowhere}
 use Rattle.ssa_mean.specs.Conversions.{Stores}
 use Rattle.ssa_mean.specs.Operands.{function_at, element_type}
 use Rattle.ssa_mean.specs.State.{BuiltIn, plain, Callee, of_function, of_built_in, of_nil, Later, Thrown, of_value, of_text}
-use Rattle.ssa_mean.specs.State.{FrameState, running, returning, panicking, Frame, Goroutine, Machine, Next, goes, ends, stuck}
+use Rattle.ssa_mean.specs.State.{FrameState, running, panicking, Frame, Goroutine, Machine, Next, goes, ends, stuck}
 use Rattle.ssa_mean.specs.Unwinding.{phis_first}
 use Rattle.ssa_sane.specs.Sane.{Walk, first_cells, is_new}
-use Rattle.ssa_typed.specs.Typed.{IsTypedInstr}
 
 -- ---- what operations come to
 

@@ -1,5 +1,5 @@
 -- Machines around the goroutine that runs.
-use Rattle.std.proofs.Common.{◌≡◌, ◌⊎◌, ⊎_elim, ◌<◌, arith, ℕ, List, [], ◌∷◌, ◌++◌, length, length-append, Option, Some, None, sym, subst, ap, ◌∙◌, slice_get, slice_set}
+use Rattle.std.proofs.Common.{◌≡◌, ⊎_elim, ◌<◌, arith, ℕ, List, [], ◌∷◌, ◌++◌, length, length-append, Option, Some, None, sym, subst, ap, ◌∙◌, slice_get, slice_set}
 use Rattle.code_safety.proofs.Growing.{goroutine_grows, sched_grows}
 use Rattle.code_safety.proofs.Lists.{get_set, get_set_other, length_set, get_front, get_either, get_below, some_same}
 use Rattle.code_safety.proofs.Machines.{OpenFits, MachineFits, GoroutineFits, AreFrames, LaterFitsWhere, GoOn, SchedFits, ChannelFits, HasVariables, StartFits, WaitsAt, IsIn}
@@ -181,6 +181,7 @@ channel_more c t goroutines runnable g chan elem count is_count fits =
         (λ last. ⊎_elim (λ e. let less = get_below goroutines k waits.g waits.there in omega (arith, less, e, is_count))
         (λ nothing. nothing) last)
         (in_split k runnable (count ∷ []) h)
+
 pub spawned_fits : (c : Code) (t : Typing) (m : Machine) (g : Goroutine) → GoroutineFits c t g → OpenFits c t m
     → OpenFits c t (record m { goroutines = m.goroutines ++ g ∷ []; sched = spawned m.sched })
 spawned_fits c t m g is fits =

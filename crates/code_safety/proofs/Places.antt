@@ -1,5 +1,5 @@
 -- Loads, stores, fields, elements and slices.
-use Rattle.std.proofs.Common.{◌≡◌, inl, inr, ◌<◌, ℕ, ℤ, pos, zero, suc, true, false, true≢false, not, List, [], ◌∷◌, ◌++◌, length, map, replicate, Option, Some, None, Result, Ok, Err, is_none, is_some, refl, sym, subst, ap, ◌∙◌, slice_get, unwrap_or, IsTrue, if◌then◌else◌, arith}
+use Rattle.std.proofs.Common.{◌≡◌, inl, inr, ◌<◌, ℕ, ℤ, pos, zero, suc, true, true≢false, not, List, [], ◌∷◌, ◌++◌, length, map, replicate, Option, Some, None, Result, Ok, Err, is_none, is_some, refl, sym, subst, ap, ◌∙◌, slice_get, unwrap_or, IsTrue, if◌then◌else◌, arith}
 use Rattle.std.proofs.lemmas.Option.{none-some}
 use Rattle.std.specs.List.{AllZip}
 use Rattle.code_safety.specs.Runnable.{operands_if}
@@ -7,13 +7,12 @@ use Rattle.code_safety.proofs.Forms.{text_in, number_fits, slice_in, parts_in}
 use Rattle.code_safety.proofs.Lists as lists
 use Rattle.code_safety.proofs.Lists.{some_same}
 use Rattle.code_safety.proofs.Machines.{ValueComes, StoreComes}
-use Rattle.code_safety.proofs.Making.{with_integer_is}
+use Rattle.code_safety.proofs.Making.{points_to, with_integer_is}
 use Rattle.code_safety.proofs.Operands.{operand_value, shape_is, shape_value, held_value, integer_value, pointee_value, pointee_is}
 use Rattle.code_safety.proofs.Operators.{result_comes, two_are}
 use Rattle.code_safety.proofs.Sames.{under_plain}
 use Rattle.code_safety.proofs.Sites.{Reads, Among, HasValue}
 use Rattle.code_safety.proofs.Stores.{parts_are, part_is, loads, puts, part_points, element_points, sliced_slices, whole_slices, placed}
-use Rattle.code_safety.proofs.Terms.{pointer_term}
 use Rattle.code_safety.proofs.Values.{Typing, Fits, IsOf, Points, Slices, item_types, under_of}
 use Rattle.go_base.specs.declared.ids.CellId.{CellId}
 use Rattle.go_base.specs.declared.ids.TypeId.{TypeId}
@@ -21,7 +20,7 @@ use Rattle.go_store.specs.Arrays.{values_in}
 use Rattle.go_store.specs.Slices.{sliced, whole_array, element_of}
 use Rattle.go_store.specs.Stores.{loaded, put_in}
 use Rattle.go_type.specs.Kinds.{kind_of_term}
-use Rattle.go_type.specs.Same.{both, same_id, same_id-Decides}
+use Rattle.go_type.specs.Same.{both, same_id-Decides}
 use Rattle.go_type.specs.Table.{term_at, basic_id}
 use Rattle.go_type.specs.declared.term.Basic.TheVariants as basic
 use Rattle.go_type.specs.declared.term.Field.{Field}
@@ -29,7 +28,7 @@ use Rattle.go_type.specs.declared.term.TypeTerm.{TypeTerm}
 use Rattle.go_type.specs.declared.term.TypeTerm.TheVariants as term
 use Rattle.go_value.specs.Address.{part_of}
 use Rattle.go_value.specs.Texts.{place_at, text_between}
-use Rattle.go_value.specs.Values.{Val, number, text, pointer, slice, parts}
+use Rattle.go_value.specs.Values.{Val, number, text, pointer, slice}
 use Rattle.go_value.specs.declared.address.Pointer.{Pointer}
 use Rattle.go_value.specs.declared.address.SliceValue.{SliceValue}
 use Rattle.go_value.specs.declared.faults.Fault.{Fault}
@@ -57,7 +56,7 @@ followed_comes {A} P at next fails goes = by at.cell refl
     by None e = fails
     by (Some cell) e = goes cell e
 
-pub id_is : (found : Option TypeId) (of : TypeId) → shapes.is_id found of ≡ true → found ≡ Some of
+id_is : (found : Option TypeId) (of : TypeId) → shapes.is_id found of ≡ true → found ≡ Some of
 id_is None of h = absurd (true≢false (sym h))
 id_is (Some id) of h = ap Some ((same_id-Decides id of).0 h)
 
@@ -154,7 +153,7 @@ pointer_fits : (t : Typing) (s : Site) {it : Op} → Reads t s it → (of base :
     → shapes.is_pointer_to (term_at s.code.types of) base ≡ true → (at : Pointer) → Points s.code t at base → IsOf s.code t (pointer at) of
 pointer_fits t s reads of base h at points =
     subst (λ term. Fits s.code t (pointer at) term)
-    (sym (under_plain s.code.types reads.safe.held of (term.Pointer base) (pointer_term (term_at s.code.types of) base h) refl)) points
+    (sym (under_plain s.code.types reads.safe.held of (term.Pointer base) (points_to (term_at s.code.types of) base h) refl)) points
 
 -- the fields of a struct, of which one has a type
 record FieldOf (of : Option TypeTerm) (n : ℕ) (id : TypeId) : Type 0 where
@@ -249,7 +248,7 @@ index_comes t s it index reads of typed =
         let bytes = text_in c t v.0 v.1.1 in
         let held = reads.safe.held in
         let under = ap (under_of c) ((same_id-Decides of (basic_id basic.Uint8)).0 h)
-                ∙ under_plain c.types held (basic_id basic.Uint8) (term.Basic basic.Uint8) (held.basics basic.Uint8) refl in
+        ∙ under_plain c.types held (basic_id basic.Uint8) (term.Basic basic.Uint8) (held.basics basic.Uint8) refl in
         subst (ValueComes c t of)
         (sym (two_are s it index index_of (text bytes.0) (number n.0) (v.1.0 ∙ ap Some bytes.1) n.1))
         (text_value_comes c t bytes.0 of n.0 under)
@@ -380,11 +379,11 @@ slice_comes t s it low high max reads of typed =
     let more = operands_if high ++ operands_if max in
     let first = bound_value t s low (λ other among. reads.values other (inr (among_left other (operands_if low) more among))) l.0 in
     let second = bound_value t s high
-            (λ other among. reads.values other
-            (inr (among_right other (operands_if low) more (among_left other (operands_if high) (operands_if max) among)))) m.0 in
+    (λ other among. reads.values other
+    (inr (among_right other (operands_if low) more (among_left other (operands_if high) (operands_if max) among)))) m.0 in
     let third = bound_value t s max
-            (λ other among. reads.values other
-            (inr (among_right other (operands_if low) more (among_right other (operands_if high) (operands_if max) among)))) m.1 in
+    (λ other among. reads.values other
+    (inr (among_right other (operands_if low) more (among_right other (operands_if high) (operands_if max) among)))) m.1 in
     by (shape c f it) refl (record { low = first.0; high = second.0; max = third.0 })
     (λ whole is.
     ap (where_some (λ whole. with_bound s low (λ low. with_bound s high (λ high. with_bound s max (λ max.

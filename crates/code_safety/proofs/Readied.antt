@@ -1,26 +1,26 @@
 -- Calls that are readied: what is called takes the arguments, and its results fit the register.
-use Rattle.std.proofs.Common.{◌≡◌, ◌⊎◌, inl, inr, arith, ℕ, suc, Bool, true, false, ◌&&◌, ◌==◌, if◌then◌else◌, List, [], ◌∷◌, length, map, Option, Some, None, is_some, refl, sym, subst, ap, ◌∙◌, slice_get, true≢false}
+use Rattle.std.proofs.Common.{◌≡◌, inl, inr, arith, ℕ, suc, Bool, true, false, ◌&&◌, ◌==◌, if◌then◌else◌, List, [], ◌∷◌, length, map, Option, Some, None, is_some, refl, sym, subst, ap, ◌∙◌, slice_get, true≢false}
 use Rattle.std.proofs.lemmas.Option.{none-some}
 use Rattle.std.specs.Cmp.{unsigned_Decides}
 use Rattle.std.specs.Cmp.Lexicographic.{pointwise}
 use Rattle.std.specs.List.{AllZip, list_all}
 use Rattle.std.specs.Option.{option_and_then}
-use Rattle.code_safety.specs.Runnable.{operands_of, operands_of_call, runs_op, runs_call, runs, has_meaning}
+use Rattle.code_safety.specs.Runnable.{operands_of, operands_of_call, runs_op, runs_call, has_meaning}
 use Rattle.code_safety.proofs.BuiltIns.{BuiltInReadied, built_in_fits, deferred_fits}
 use Rattle.code_safety.proofs.Forms.{IsFunctionValue, nil_value, is_nil, is_closure, is_bound, IsInterfaceValue, is_dynamic, function_in, interface_in}
 use Rattle.code_safety.proofs.Lists.{some_same}
-use Rattle.code_safety.proofs.Machines.{FunctionFits, CallFits, BuiltInFits, ResultsFit, ResultsFitWhere}
+use Rattle.code_safety.proofs.Machines.{FunctionFits, CallFits, ResultsFitWhere}
 use Rattle.code_safety.proofs.Members.{both}
-use Rattle.code_safety.proofs.Operands.{shape_is, shape_value, values_are}
+use Rattle.code_safety.proofs.Operands.{shape_value, values_are}
 use Rattle.code_safety.proofs.Sames.{is_of_alike, under_plain}
-use Rattle.code_safety.proofs.Shapes.{Alike, alike_of, alike_trans, zip_joined, zip_map}
-use Rattle.code_safety.proofs.Sites.{Reads, Among, HasValue, Valued, KnownFits}
+use Rattle.code_safety.proofs.Shapes.{Alike, alike_of, alike_trans, zip_joined}
+use Rattle.code_safety.proofs.Sites.{Reads, Among, HasValue}
 use Rattle.code_safety.proofs.Values.{Typing, Fits, IsOf, AreOf, PointsAs, BindsFor, HasMethod, under_of}
 use Rattle.go_base.specs.declared.ids.FuncId.{FuncId}
 use Rattle.go_base.specs.declared.ids.NameId.{NameId}
 use Rattle.go_base.specs.declared.ids.TypeId.{TypeId}
 use Rattle.go_type.specs.Held.{IsHeld}
-use Rattle.go_type.specs.Same.{same_id-Decides, same_ids-Decides, same_ids}
+use Rattle.go_type.specs.Same.{same_id-Decides, same_ids-Decides}
 use Rattle.go_type.specs.Table.{Table, term_at}
 use Rattle.go_type.specs.declared.operators.Builtin.{Builtin}
 use Rattle.go_type.specs.declared.term.MethodType.{MethodType}
@@ -40,13 +40,12 @@ use Rattle.ssa_ir.specs.declared.operands.Operand.{Operand}
 use Rattle.ssa_ir.specs.declared.ops.Call.{Call}
 use Rattle.ssa_ir.specs.declared.ops.Call.TheVariants as call
 use Rattle.ssa_ir.specs.declared.ops.Op.{Op}
-use Rattle.ssa_mean.specs.BuiltIns.{built_in_of}
 use Rattle.ssa_mean.specs.Calls.{readied, later, invoked, called_value, method_of, passed_on, passed_by_invoke}
 use Rattle.ssa_mean.specs.Comes.{Comes, to, faults, nowhere, then_to, where_some, of_option}
 use Rattle.ssa_mean.specs.Operands.{function_at, values_of}
 use Rattle.ssa_mean.specs.State.{BuiltIn, Callee, of_function, of_built_in, of_nil, Later}
 use Rattle.ssa_mean.specs.Step.{Site, value}
-use Rattle.ssa_typed.specs.Calls.{fits_call, fits_deferred, fits_builtin, fits_deferred_builtin, results_of, gives_list, gives_results, are_parts, function_results, signature_results, static_results, dynamic_results, method_named, method_type, term_where}
+use Rattle.ssa_typed.specs.Calls.{fits_call, fits_deferred, results_of, gives_list, gives_results, are_parts, function_results, signature_results, static_results, dynamic_results, method_named, method_type, term_where}
 use Rattle.ssa_typed.specs.Operands.{known, shape, is_operand, is_value}
 use Rattle.ssa_typed.specs.declared.known.Known.{Known}
 use Rattle.ssa_typed.specs.declared.known.Known.TheVariants as known_as
@@ -71,10 +70,14 @@ results_fit c held own results alike None h = tt
 results_fit c held [] [] alike (Some of) h = absurd (true≢false (sym h))
 results_fit c held (mine ∷ []) (first ∷ []) alike (Some of) h =
     alike_trans c.types mine first of alike.0 (alike_of c.types first of ((same_id-Decides first of).0 h))
-results_fit c held (mine ∷ other ∷ own) (first ∷ second ∷ rest) alike (Some of) h =
-    (first ∷ second ∷ rest,
-    (under_plain c.types held of (term.Tuple (first ∷ second ∷ rest))
-    (parts_are (term_at c.types of) (first ∷ second ∷ rest) h) refl, alike))
+results_fit c held (mine ∷ other ∷ own) (first ∷ second ∷ rest) alike (Some of) h = (
+  first ∷ second ∷ rest,
+  (
+    under_plain c.types held of (term.Tuple (first ∷ second ∷ rest))
+        (parts_are (term_at c.types of) (first ∷ second ∷ rest) h) refl,
+    alike,
+  ),
+)
 results_fit c held [] (first ∷ rest) alike (Some of) h = absurd alike
 results_fit c held (mine ∷ []) [] alike (Some of) h = absurd alike
 results_fit c held (mine ∷ []) (first ∷ second ∷ rest) alike (Some of) h = absurd alike.1
@@ -120,12 +123,15 @@ binder_calls c t signature items are (target.Function id) receiver of binds h =
     record {
       callee = of_function id (receiver ∷ []);
       is = refl;
-      fits = (record {
-        function = binds.function;
-        there = binds.there;
-        frees = subst (AreOf c t (receiver ∷ [])) (sym binds.free) (h, tt);
-        takes = are_alike c t items signature.params binds.function.params are binds.has.params;
-      }, binds.has.results);
+      fits = (
+        record {
+          function = binds.function;
+          there = binds.there;
+          frees = subst (AreOf c t (receiver ∷ [])) (sym binds.free) (h, tt);
+          takes = are_alike c t items signature.params binds.function.params are binds.has.params;
+        },
+        binds.has.results,
+      );
     }
 binder_calls c t signature items are _ receiver of binds h = absurd binds
 
@@ -136,12 +142,15 @@ value_calls c t signature items are it (is_closure id captured closes) =
     record {
       callee = of_function id (map pointer captured);
       is = refl;
-      fits = (record {
-        function = closes.function;
-        there = closes.there;
-        frees = captured_are c t captured closes.function.free closes.free;
-        takes = are_alike c t items signature.params closes.function.params are closes.has.params;
-      }, closes.has.results);
+      fits = (
+        record {
+          function = closes.function;
+          there = closes.there;
+          frees = captured_are c t captured closes.function.free closes.free;
+          takes = are_alike c t items signature.params closes.function.params are closes.has.params;
+        },
+        closes.has.results,
+      );
     }
 value_calls c t signature items are it (is_bound binder receiver of binds h) =
     binder_calls c t signature items are binder receiver of binds h
@@ -150,11 +159,11 @@ value_calls c t signature items are it (is_bound binder receiver of binds h) =
 
 record IsStatic (c : Code) (f : Function) (arguments : List Operand) (results : List TypeId) (found : Option Function) : Type 0
   where
-  function : Function
-  there : found ≡ Some function
-  value : is_value function.kind function.free ≡ true
-  each : pointwise (is_operand c f) arguments function.params ≡ true
-  gives : function.results ≡ results
+    function : Function
+    there : found ≡ Some function
+    value : is_value function.kind function.free ≡ true
+    each : pointwise (is_operand c f) arguments function.params ≡ true
+    gives : function.results ≡ results
 
 function_of : (c : Code) (f : Function) (arguments : List Operand) (results : List TypeId) (function : Function)
     → function_results c f arguments (Some function) ≡ Some results
@@ -182,10 +191,10 @@ static_of c f arguments results (Some function) h = by (is_value function.kind f
 
 record HasParams (c : Code) (f : Function) (arguments : List Operand) (results : List TypeId) (of : Option TypeTerm) : Type 0
   where
-  signature : Signature
-  is : of ≡ Some (term.Func signature)
-  each : pointwise (is_operand c f) arguments signature.params ≡ true
-  gives : signature.results ≡ results
+    signature : Signature
+    is : of ≡ Some (term.Func signature)
+    each : pointwise (is_operand c f) arguments signature.params ≡ true
+    gives : signature.results ≡ results
 
 signature_of : (c : Code) (f : Function) (arguments : List Operand) (results : List TypeId) (of : Option TypeTerm)
     → signature_results c f arguments of ≡ Some results → HasParams c f arguments results of
@@ -221,14 +230,15 @@ static_comes t s held id arguments has results h =
     let is = static_of s.code s.function arguments results (function_at s.code id) h in
     let items = values_are t s held arguments is.function.params has is.each in
     ready s.code t results (of_function id []) (passed_on s.function s.frame) (values_of s.code s.frame arguments) items.0
-    items.1.0
-    (record {
-      function = is.function;
-      there = is.there;
-      frees = subst (AreOf s.code t []) (sym (no_frees is.function.kind is.function.free is.value)) tt;
-      takes = items.1.1;
-    },
-    subst (AllZip (Alike s.code.types) is.function.results) is.gives (all_alike s.code.types is.function.results))
+    items.1.0 (
+      record {
+        function = is.function;
+        there = is.there;
+        frees = subst (AreOf s.code t []) (sym (no_frees is.function.kind is.function.free is.value)) tt;
+        takes = items.1.1;
+      },
+      subst (AllZip (Alike s.code.types) is.function.results) is.gives (all_alike s.code.types is.function.results),
+    )
 
 dynamic_of : (t : Typing) (s : Site) (callee : Operand) (arguments : List Operand) (results : List TypeId) (it : Val)
     (items : List Val) → value s callee ≡ Some it → values_of s.code s.frame arguments ≡ Some items
@@ -267,13 +277,15 @@ dynamic_comes t s held callee arguments called has results h = by (known s.code 
         (record {
           callee = of_function id [];
           is = refl;
-          fits = (record {
-            function = found.0;
-            there = found.1.0;
-            frees = subst (AreOf s.code t []) (sym found.1.1) tt;
-            takes = items.1.1;
-          },
-          subst (AllZip (Alike s.code.types) found.0.results) is.1 (all_alike s.code.types found.0.results));
+          fits = (
+            record {
+              function = found.0;
+              there = found.1.0;
+              frees = subst (AreOf s.code t []) (sym found.1.1) tt;
+              takes = items.1.1;
+            },
+            subst (AllZip (Alike s.code.types) found.0.results) is.1 (all_alike s.code.types found.0.results),
+          );
         })
     by (Some (known_as.Address base)) e h = absurd (none-some results h)
 
@@ -357,16 +369,19 @@ method_ready c t held name number of id it chain methods signature items fits is
     let same : has.signature ≡ signature =
     ap (λ it. signature_in it signature) (sym has.is_signature ∙ under) in
     subst (λ (found : Option FuncId). ReadyComes c t signature.results
-    (then_to (λ id. later (of_function id []) chain (it ∷ items)) (of_option found))) (sym found)
-    (record {
-      function = has.function;
-      there = has.there;
-      frees = subst (AreOf c t []) (sym has.free) tt;
-      takes = subst (AreOf c t (it ∷ items)) (sym has.takes)
-          (fits, are_alike c t items signature.params has.params are
-          (subst (λ signature. AllZip (Alike c.types) signature.params has.params) same has.each));
-    },
-    subst (λ (signature : Signature). AllZip (Alike c.types) has.function.results signature.results) same has.results)
+    (then_to (λ id. later (of_function id []) chain (it ∷ items)) (of_option found))) (sym found) (
+      record {
+        function = has.function;
+        there = has.there;
+        frees = subst (AreOf c t []) (sym has.free) tt;
+        takes = subst (AreOf c t (it ∷ items)) (sym has.takes) (
+          fits,
+          are_alike c t items signature.params has.params are
+              (subst (λ signature. AllZip (Alike c.types) signature.params has.params) same has.each),
+        );
+      },
+      subst (λ (signature : Signature). AllZip (Alike c.types) has.function.results signature.results) same has.results,
+    )
 
 invoke_of : (c : Code) (t : Typing) → IsHeld c.types → (name : NameId) (number chain : ℕ) (id : TypeId) (methods : List MethodType)
     (signature : Signature) (items : List Val) → IsNamed name number methods id → term_at c.types id ≡ Some (term.Func signature)

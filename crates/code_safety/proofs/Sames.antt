@@ -1,5 +1,5 @@
 -- Values of a type are values of all types that are alike; and which types are.
-use Rattle.std.proofs.Common.{◌≡◌, ◌⊎◌, ⊎_elim, ℕ, zero, suc, Bool, true, false, true≢false, ◌||◌, ◌==◌, List, [], ◌∷◌, Option, Some, None, ap, refl, sym, subst, ◌∙◌, length, replicate, map, unwrap_or}
+use Rattle.std.proofs.Common.{◌≡◌, ⊎_elim, ℕ, zero, suc, Bool, true, false, true≢false, ◌||◌, ◌==◌, List, [], ◌∷◌, Option, Some, None, ap, refl, sym, subst, ◌∙◌, length, replicate, map, unwrap_or}
 use Rattle.std.proofs.lemmas.Bool.{or_cases}
 use Rattle.std.proofs.lemmas.Option.{none-some, cond_some}
 use Rattle.std.specs.Cmp.{unsigned_Decides}
@@ -44,7 +44,6 @@ use Rattle.ssa_typed.specs.Conversions.{same_type, same_to, same_below, is_chang
 -- ---- values
 
 module _ (c : Code) where
-
   truth_alike : (a b : Option TypeTerm) → Like (Alike c.types) a b → TruthFits a → TruthFits b
   truth_alike (Some (Plain x)) (Some (Plain y)) like h = subst (λ k. TruthFits (Some (Plain k))) like h
   truth_alike (Some (Plain x)) _ like h = absurd like
@@ -133,18 +132,25 @@ module _ (c : Code) where
       }
 
   box_alike : (of : TypeId) (a b : Option TypeTerm) → Like (Alike c.types) a b → BoxFits c of a → BoxFits c of b
-  box_alike of (Some (Interface x)) (Some (Interface y)) like h =
-      (h.0, λ n method is.
-      let old = zip_right (LikeMethod (Alike c.types)) x y like n method is in
-      method_alike of old.0 method old.1.1 (h.1 n old.0 old.1.0))
+  box_alike of (Some (Interface x)) (Some (Interface y)) like h = (
+    h.0,
+    λ n method is.
+        let old = zip_right (LikeMethod (Alike c.types)) x y like n method is in
+        method_alike of old.0 method old.1.1 (h.1 n old.0 old.1.0),
+  )
   box_alike of (Some (Interface x)) _ like h = absurd like
   box_alike of _ b like h = absurd h
 
   pub items_alike : (a b : Option TypeTerm) → Like (Alike c.types) a b → (ids : List TypeId) → item_types a ≡ Some ids
       → (others : List TypeId) × ((item_types b ≡ Some others) × AllZip (Alike c.types) ids others)
-  items_alike (Some (Array n x)) (Some (Array m y)) like ids is =
-      (replicate m y, (refl, subst (λ ids. AllZip (Alike c.types) ids (replicate m y)) (some_same (replicate n x) ids is)
-      (subst (λ m. AllZip (Alike c.types) (replicate n x) (replicate m y)) like.0 (zip_copies n))))
+  items_alike (Some (Array n x)) (Some (Array m y)) like ids is = (
+    replicate m y,
+    (
+      refl,
+      subst (λ ids. AllZip (Alike c.types) ids (replicate m y)) (some_same (replicate n x) ids is)
+          (subst (λ m. AllZip (Alike c.types) (replicate n x) (replicate m y)) like.0 (zip_copies n)),
+    ),
+  )
     where
       zip_copies : (n : ℕ) → AllZip (Alike c.types) (replicate n x) (replicate n y)
       zip_copies zero = tt

@@ -1,6 +1,6 @@
 -- Types that have the same values: their underlying types have one form, but for tags, names and directions of
 -- channels, at every depth.
-use Rattle.std.proofs.Common.{◌≡◌, ◌==◌, ℕ, zero, suc, Bool, true, false, ◌&&◌, List, [], ◌∷◌, map, replicate, Option, Some, None, ap, refl, sym, subst, ◌∙◌, true≢false}
+use Rattle.std.proofs.Common.{◌≡◌, ℕ, zero, suc, List, [], ◌∷◌, Option, Some, None, refl, sym, subst, ◌∙◌}
 use Rattle.std.specs.List.{AllZip}
 use Rattle.go_base.specs.declared.ids.TypeId.{TypeId}
 use Rattle.go_type.specs.Assignable.{underlying_term_of}
@@ -220,9 +220,10 @@ module _ (types : Table) where
   like_every (Array n a) (Array m b) h = ((h 0).0, λ k. (h k).1)
   like_every (Map k a) (Map l b) h = (λ n. (h n).0, λ n. (h n).1)
   like_every (Chan d a) (Chan e b) h = h
-  like_every (Func a) (Func b) h =
-      (zip_every (λ n. AlikeTo n types) a.params b.params (λ n. (h n).0),
-      zip_every (λ n. AlikeTo n types) a.results b.results (λ n. (h n).1))
+  like_every (Func a) (Func b) h = (
+    zip_every (λ n. AlikeTo n types) a.params b.params (λ n. (h n).0),
+    zip_every (λ n. AlikeTo n types) a.results b.results (λ n. (h n).1),
+  )
   like_every (Struct a) (Struct b) h = zip_every (λ n. LikeField (AlikeTo n types)) a b h
   like_every (Interface a) (Interface b) h =
       zip_map (λ a b. (n : ℕ) → LikeMethod (AlikeTo n types) a b) (LikeMethod (Alike types)) every_method a b

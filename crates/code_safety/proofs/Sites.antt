@@ -1,5 +1,5 @@
 -- Where an instruction is done: what its operands are known to be, and what they are.
-use Rattle.std.proofs.Common.{◌≡◌, ◌⊎◌, ℕ, Bool, true, false, List, [], ◌∷◌, Option, Some, None, slice_get, is_some}
+use Rattle.std.proofs.Common.{◌≡◌, ◌⊎◌, ℕ, true, List, [], ◌∷◌, Option, Some, None, slice_get}
 use Rattle.code_safety.specs.Runnable.{operands_of, runs}
 use Rattle.code_safety.specs.Safety.{IsSafe}
 use Rattle.code_safety.proofs.Values.{Typing, IsOf, Points, IsStore}

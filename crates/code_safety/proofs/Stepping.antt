@@ -1,5 +1,5 @@
 -- Each step of a machine that fits is safe, and so is each number of steps of the first machine.
-use Rattle.std.proofs.Common.{◌≡◌, ◌⊎◌, inl, inr, ⊎_elim, ◌<◌, ◌+◌, ◌&&◌, ◌==◌, arith, ℕ, zero, suc, Bool, true, false, not, ◌||◌, List, [], ◌∷◌, ◌++◌, length, map, if◌then◌else◌, Option, Some, None, refl, sym, subst, ap, ◌∙◌, slice_get, option_map, bytes_eq, codes, true≢false}
+use Rattle.std.proofs.Common.{◌≡◌, ◌⊎◌, inl, inr, ⊎_elim, ◌<◌, ◌+◌, ◌==◌, arith, ℕ, zero, suc, Bool, true, false, not, ◌||◌, List, [], ◌∷◌, length, map, if◌then◌else◌, Option, Some, None, refl, sym, subst, ap, ◌∙◌, slice_get, option_map, bytes_eq, codes, true≢false}
 use Rattle.std.proofs.lemmas.Option.{none-some}
 use Rattle.std.specs.Bool.{beq}
 use Rattle.std.specs.Cmp.{unsigned_Decides}
@@ -13,10 +13,10 @@ use Rattle.code_safety.proofs.Going.{site_reads, site_plain, site_throws, behind
 use Rattle.code_safety.proofs.Growing.{grows_self}
 use Rattle.code_safety.proofs.Jumping.{jump_safe, if_safe}
 use Rattle.code_safety.proofs.Lists.{below_get, get_set, some_same}
-use Rattle.code_safety.proofs.Machines.{OpenFits, MachineFits, GoroutineFits, AreFrames, IsTop, TopStands, fresh, begun, lost, Stands, IsBegun, IsFresh, AreBelow, MayThrow, LaterFitsWhere, IsIn, StoresCome, GivesOf, StartFits, HasVariables, is_panicking, Safe}
+use Rattle.code_safety.proofs.Machines.{OpenFits, MachineFits, GoroutineFits, AreFrames, IsTop, TopStands, fresh, begun, lost, Stands, IsBegun, IsFresh, AreBelow, MayThrow, LaterFitsWhere, IsIn, StoresCome, GivesOf, StartFits, is_panicking, Safe}
 use Rattle.code_safety.proofs.Making.{new_comes, make_map_comes, make_slice_comes, make_chan_comes}
 use Rattle.code_safety.proofs.Mapping.{look_up_comes, update_comes}
-use Rattle.code_safety.proofs.Members.{both, Member, member_split}
+use Rattle.code_safety.proofs.Members.{both, member_split}
 use Rattle.code_safety.proofs.Opening.{open_with, store_changed, frames_closed, frames_of}
 use Rattle.code_safety.proofs.Operands.{any_value}
 use Rattle.code_safety.proofs.Operators.{binary_comes, unary_comes}
@@ -24,7 +24,7 @@ use Rattle.code_safety.proofs.Places.{load_comes, store_comes, field_comes, extr
 use Rattle.code_safety.proofs.Ranging.{SameSched, TurnComes, range_comes, next_comes}
 use Rattle.code_safety.proofs.Sites.{SiteFits, Reads, IsRegister}
 use Rattle.code_safety.proofs.Throwing.{there_safe, panics_safe, spends_safe, sched_smaller}
-use Rattle.code_safety.proofs.Values.{Typing, Home, one, HomeFits, IsOf, IsStore}
+use Rattle.code_safety.proofs.Values.{Typing, one, HomeFits, IsOf}
 use Rattle.code_safety.proofs.Waiting.{send_safe, receive_safe, select_safe}
 use Rattle.code_safety.proofs.Zeros.{zero_fits}
 use Rattle.go_base.specs.declared.ids.FuncId.{FuncId}
@@ -39,25 +39,23 @@ use Rattle.ssa_ir.specs.declared.code.Function.{Function}
 use Rattle.ssa_ir.specs.declared.code.FunctionKind.{FunctionKind}
 use Rattle.ssa_ir.specs.declared.code.FunctionKind.TheVariants as kind
 use Rattle.ssa_ir.specs.declared.operands.Operand.{Operand}
-use Rattle.ssa_ir.specs.declared.operands.Operand.TheVariants as operand
 use Rattle.ssa_ir.specs.declared.ops.Instr.{Instr}
 use Rattle.ssa_ir.specs.declared.ops.Op.{Op}
 use Rattle.ssa_ir.specs.declared.ops.Op.TheVariants as op
 use Rattle.ssa_mean.specs.Answers.{Answers, AreAnswers}
-use Rattle.ssa_mean.specs.Comes.{Comes, to, faults, nowhere, then_to, of_option}
-use Rattle.ssa_mean.specs.Conversions.{Stores}
+use Rattle.ssa_mean.specs.Comes.{to, then_to, of_option}
 use Rattle.ssa_mean.specs.Operands.{function_at, with_value}
 use Rattle.ssa_mean.specs.Places.{new_pointer}
 use Rattle.ssa_mean.specs.Runs as runs_of
 use Rattle.ssa_mean.specs.Runs.{first_machine, steps, then_step, starts_of, those_from, is_init_kind, is_main, is_none_left, new_goroutine}
-use Rattle.ssa_mean.specs.State.{FrameState, running, returning, panicking, Frame, Goroutine, Machine, Next, goes, ends, stuck, with_register, with_result, with_frames, with_current, advanced, current}
-use Rattle.ssa_mean.specs.Step.{Site, acts, step, steps_on, moves, runs, does, unwinds, new_map, new_cell, gives_stored, goes_behind, next_of, turns, value}
+use Rattle.ssa_mean.specs.State.{FrameState, running, returning, panicking, Frame, Goroutine, Machine, Next, goes, ends, stuck, with_register, with_result, with_current, advanced, current}
+use Rattle.ssa_mean.specs.Step.{Site, acts, step, steps_on, moves, runs, does, new_map, gives_stored, goes_behind, next_of, turns, value}
 use Rattle.ssa_mean.specs.Unwinding.{is_phi, is_source_kind, panics_with}
 use Rattle.ssa_mean.specs.Zeros.{zero_of}
 use Rattle.ssa_sane.specs.Sane.{is_new}
 use Rattle.ssa_typed.specs.Forms.{FitsOp, FitsGiving, fits_giving, fits_alone}
-use Rattle.ssa_typed.specs.Operands.{register_at, is_any_operand}
-use Rattle.ssa_typed.specs.Typed.{FitsRegister, FitsTyped, fits_header, fits_kind, is_bare, is_init, is_external, are_value_types, has_rest}
+use Rattle.ssa_typed.specs.Operands.{register_at}
+use Rattle.ssa_typed.specs.Typed.{FitsRegister, FitsTyped, fits_header, is_bare, is_init, is_external, are_value_types, has_rest}
 
 -- ---- instructions that give a register, and those that give none
 
@@ -195,17 +193,20 @@ next_safe t s instr site it is = by g (next_comes t s it g.reads g.of g.typed)
   where
     g : Gives t s instr site (op.Next it)
     g = giving t s instr site (op.Next it) refl is
+
     by : (g : Gives t s instr site (op.Next it)) → TurnComes t s it g.of → Safe s.code (next_of s instr.register it)
     by g h =
         subst (λ it. Safe s.code (next_of s instr.register it)) (sym h.is)
-        (there_safe s.code (turns s instr.register h.range) _ h.turn h.comes
-        (t, frames_closed s.code t (record (s.machine) { sched = h.turn.sched }) s.goroutine
-        (advanced (with_result instr.register (Some h.turn.value) (with_register h.range h.turn.range s.frame)) ∷ s.below)
-        (ap (λ (id : _). slice_get s.machine.goroutines id.number) h.same.current ∙ site.there)
-        (sched_same s.code t s.machine h.turn.sched h.same site.machine) site.begin site.calm
-        (behind_fit t t (record_site s h.range h.turn.range) instr
-        (rewritten_site t s instr site h.range h.turn.range h.state h.held h.range_fits) (grows_self t) g.goes_on
-        (Some h.turn.value) (subst (GivesOf s.code t (Some h.turn.value)) (sym g.is) h.value_fits))))
+        (there_safe s.code (turns s instr.register h.range) _ h.turn h.comes (
+          t,
+          frames_closed s.code t (record (s.machine) { sched = h.turn.sched }) s.goroutine
+              (advanced (with_result instr.register (Some h.turn.value) (with_register h.range h.turn.range s.frame)) ∷ s.below)
+              (ap (λ (id : _). slice_get s.machine.goroutines id.number) h.same.current ∙ site.there)
+              (sched_same s.code t s.machine h.turn.sched h.same site.machine) site.begin site.calm
+              (behind_fit t t (record_site s h.range h.turn.range) instr
+              (rewritten_site t s instr site h.range h.turn.range h.state h.held h.range_fits) (grows_self t) g.goes_on
+              (Some h.turn.value) (subst (GivesOf s.code t (Some h.turn.value)) (sym g.is) h.value_fits)),
+        ))
 
 -- ---- ticks and panics
 
@@ -360,6 +361,7 @@ runs_safe c safe answers told t m g top below fits there frames begin calm is lo
     standing (fresh stands new) = (stands, inr new)
     standing (begun stands started) = (stands, inl started)
     standing (lost thrown none defers) = absurd (true≢false (sym thrown ∙ ap is_panicking state))
+
     by : Stands is.function top None × (IsBegun is.function top ⊎ IsFresh is.function top)
         → Safe c (runs answers c m g top below (Some is.function))
     by stands =
@@ -416,6 +418,7 @@ step_safe c safe answers told t m fits =
     moving top below e is lower (panicking thrown) state =
         unwinds_safe c safe answers told t m fits.g top below fits.opened fits.there e fits.fits.begin fits.calm is lower
         (λ runs. not_running (panicking thrown) (sym state ∙ runs) refl)
+
     by : (frames : List Frame) → fits.g.frames ≡ frames → AreFrames c t frames → Safe c (steps_on answers c m fits.g frames)
     by [] e are = begins_safe c safe answers told t m fits.g fits fits.there e
     by (top ∷ below) e are = moving top below e are.0 are.1 top.state refl
@@ -470,6 +473,7 @@ passing test (function ∷ functions) first k id is =
           number = omega (arith, h.number);
           passes = h.passes;
         }
+
     by : (b : Bool) → test function ≡ b → (k : ℕ)
         → slice_get (if b then record { number = first } ∷ those_from (suc first) test functions
         else those_from (suc first) test functions) k ≡ Some id
@@ -518,11 +522,13 @@ start_fits c safe n id is =
   where
     found : (test : Function → Bool) (h : Passes test c.functions 0 id) → slice_get c.functions id.number ≡ Some h.function
     found test h = ap (slice_get c.functions) (h.number ∙ omega arith) ∙ h.there
+
     init : Passes (λ f. is_init_kind f.kind) c.functions 0 id → StartFits c id
     init h =
         let there = found (λ f. is_init_kind f.kind) h in
         let bare = init_bare c h.function (typed_of c safe id.number h.function there).header h.passes in
         record { function = h.function; there = there; params = bare.0; free = bare.1 }
+
     main : Passes is_main c.functions 0 id → StartFits c id
     main h =
         let one = both (is_source_kind h.function.kind) _ h.passes in
@@ -583,10 +589,11 @@ first_fits c safe choices bound m is = by (runs_of.first_cells c c.variables) re
     by : (found : Option (List Val)) → runs_of.first_cells c c.variables ≡ found
         → option_map (begun_machine c choices bound) found ≡ Some m → (t : Typing) × MachineFits c t m
     by None e is = absurd (none-some m is)
-    by (Some cells) e is =
-        (first_typing c,
-        subst (MachineFits c (first_typing c)) (some_same (begun_machine c choices bound cells) m is)
-        (begun_fits c safe choices bound cells e))
+    by (Some cells) e is = (
+      first_typing c,
+      subst (MachineFits c (first_typing c)) (some_same (begun_machine c choices bound cells) m is)
+          (begun_fits c safe choices bound cells e),
+    )
 
 -- ---- runs
 

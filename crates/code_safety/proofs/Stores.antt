@@ -163,9 +163,13 @@ pub loads : (c : Code) (t : Typing) (store : Stored) → IsStore c t store → (
     → at.cell ≡ Some cell → Points c t at base → (it : Val) × ((loaded store at ≡ Some it) × IsOf c t it base)
 loads c t store is at cell base whole points =
     let into : PointsInto c t cell at.path base = subst (λ cell. PointsFrom c t cell at.path base) whole points in
-    let found = part_there c t store is cell into.home (one into.of) at.path into.there into.at in
-    (found.0, (ap (option_and_then (λ cell. part_in store cell at.path)) whole ∙ found.1.0,
-    is_of_alike c t found.0 into.of base into.alike found.1.1))
+    let found = part_there c t store is cell into.home (one into.of) at.path into.there into.at in (
+      found.0,
+      (
+        ap (option_and_then (λ cell. part_in store cell at.path)) whole ∙ found.1.0,
+        is_of_alike c t found.0 into.of base into.alike found.1.1,
+      ),
+    )
 
 -- a change of a part of a cell
 changes : (c : Code) (t : Typing) (store : Stored) → IsStore c t store → (change : Val → Val) (cell : CellId) (home inner : Home)
@@ -200,7 +204,7 @@ part_points c t at base ids n id items there points = by at.cell points
     by None points = tt
     by (Some cell) into =
         let others = items_alike c (under_of c base) (under_of c into.of)
-            (alike_under c.types base into.of (alike_sym c.types into.of base into.alike)) ids items in
+        (alike_under c.types base into.of (alike_sym c.types into.of base into.alike)) ids items in
         let other = lists.zip_left (Alike c.types) ids others.0 others.1.1 n id there in
         record {
           home = into.home;
@@ -314,16 +318,22 @@ run_is c t store is it elem n slices positive within = by it.at.cell slices
         let items = take n (drop h.last values) in
         let dropped = length-drop h.last values in
         let taken = length-take n (drop h.last values) in
-        let enough : nat_le (h.last + n) (length values) ≡ true = le-leb (h.last + n) (length values) (omega arith) in
-        (items,
-        (ap (λ path. option_and_then (λ array. run_of array (last_step it.at) n) (part_in store cell path))
-        (front_is it.at.path h.front h.last h.is_path)
-        ∙ ap (option_and_then (λ array. run_of array (last_step it.at) n)) found.1.0 ∙ ap (λ v. run_of v (last_step it.at) n) its.1.0
-        ∙ ap (λ k. run_among values k n) (last_is it.at.path h.front h.last h.is_path) ∙ ap (λ b. if b then Some items else None) enough,
-        (omega arith, λ k v there.
-        let behind = lists.get_drop h.last values k v (lists.get_take n (drop h.last values) k v there) in
-        let of = lists.zip_left (IsOf c t) values h.ids are behind.0 v behind.1 in
-        is_of_alike c t v of.0 elem (h.each behind.0 of.0 of.1.0) of.1.1)))
+        let enough : nat_le (h.last + n) (length values) ≡ true = le-leb (h.last + n) (length values) (omega arith) in (
+          items,
+          (
+            ap (λ path. option_and_then (λ array. run_of array (last_step it.at) n) (part_in store cell path))
+                (front_is it.at.path h.front h.last h.is_path)
+                ∙ ap (option_and_then (λ array. run_of array (last_step it.at) n)) found.1.0 ∙ ap (λ v. run_of v (last_step it.at) n) its.1.0
+                ∙ ap (λ k. run_among values k n) (last_is it.at.path h.front h.last h.is_path) ∙ ap (λ b. if b then Some items else None) enough,
+            (
+              omega arith,
+              λ k v there.
+                  let behind = lists.get_drop h.last values k v (lists.get_take n (drop h.last values) k v there) in
+                  let of = lists.zip_left (IsOf c t) values h.ids are behind.0 v behind.1 in
+                  is_of_alike c t v of.0 elem (h.each behind.0 of.0 of.1.0) of.1.1,
+            ),
+          ),
+        )
 
 pub elements_are : (c : Code) (t : Typing) (store : Stored) → IsStore c t store → (it : SliceValue) (elem : TypeId)
     → Slices c t it elem
@@ -353,9 +363,10 @@ overwritten_fits c t elem items (part it blank rest) [] first each all h = absur
 overwritten_fits c t elem items (part it blank rest) (of ∷ ids) (suc first) each all h =
     (h.0, overwritten_fits c t elem items rest ids first (λ n. each (suc n)) all h.1)
 overwritten_fits c t elem [] (part it blank rest) (of ∷ ids) zero each all h = h
-overwritten_fits c t elem (new ∷ items) (part it blank rest) (of ∷ ids) zero each all h =
-    (is_of_alike c t new elem of (alike_sym c.types of elem (each 0 of refl)) (all 0 new refl),
-    overwritten_fits c t elem items rest ids zero (λ n. each (suc n)) (λ n. all (suc n)) h.1)
+overwritten_fits c t elem (new ∷ items) (part it blank rest) (of ∷ ids) zero each all h = (
+  is_of_alike c t new elem of (alike_sym c.types of elem (each 0 of refl)) (all 0 new refl),
+  overwritten_fits c t elem items rest ids zero (λ n. each (suc n)) (λ n. all (suc n)) h.1,
+)
 
 -- elements in the places from one of a slice on
 pub writes_run : (c : Code) (t : Typing) (store : Stored) → IsStore c t store → (it : SliceValue) (elem : TypeId)
@@ -406,6 +417,7 @@ later_slices c t it elem by len cap slices fits within =
           fits = let old = h.fits in omega arith;
           within = within;
         }
+
     stays : (cell : Option CellId) → SlicesFrom c t cell it.at.path it.len it.cap elem → SlicesFrom c t cell it.at.path len cap elem
     stays None h = let e = h.1 in (omega arith, omega arith)
     stays (Some cell) h =
@@ -483,6 +495,7 @@ later_points c t it elem place slices below =
         element_into c t cell it.at.path it.len it.cap elem h
         (slice_set it.at.path (length it.at.path - 1) (last_step it.at + place)) (h.last + place)
         (moved_is it.at.path h.front h.last h.is_path place) (let fits = h.fits in let within = h.within in omega arith)
+
     stays : (cell : Option CellId) → SlicesFrom c t cell it.at.path it.len it.cap elem → PointsFrom c t cell it.at.path elem
     stays None h = tt
     stays (Some cell) h =
@@ -530,7 +543,7 @@ pub whole_slices : (c : Code) (t : Typing) (at : Pointer) (cell : CellId) (base 
 whole_slices c t at cell base elem len whole is points =
     let into : PointsInto c t cell at.path base = subst (λ cell. PointsFrom c t cell at.path base) whole points in
     let others = items_alike c (under_of c base) (under_of c into.of)
-        (alike_under c.types base into.of (alike_sym c.types into.of base into.alike)) (replicate len elem) (ap item_types is) in
+    (alike_under c.types base into.of (alike_sym c.types into.of base into.alike)) (replicate len elem) (ap item_types is) in
     let count = lists.zip_length (Alike c.types) (replicate len elem) others.0 others.1.1 in
     let copies = lists.length_replicate len elem in
     subst (λ cell. SlicesFrom c t cell (at.path ++ 0 ∷ []) len len elem) (sym whole)

@@ -1,14 +1,14 @@
 -- Panics, faults, ticks and switch points.
-use Rattle.std.proofs.Common.{◌≡◌, ◌⊎◌, inl, inr, ⊎_elim, ◌<◌, ◌-◌, ◌&&◌, ◌==◌, arith, ℕ, zero, suc, Bool, true, false, not, cond, if◌then◌else◌, nat_le, nat_lt, List, [], ◌∷◌, ◌++◌, length, filter, Option, Some, None, is_some, refl, sym, subst, ap, ◌∙◌, slice_get, slice_index, true≢false, mod-lt}
+use Rattle.std.proofs.Common.{◌≡◌, inl, inr, ⊎_elim, ◌<◌, ◌-◌, ◌&&◌, ◌==◌, arith, ℕ, zero, suc, Bool, true, false, not, cond, if◌then◌else◌, nat_le, nat_lt, List, [], ◌∷◌, ◌++◌, length, filter, Option, Some, None, is_some, refl, sym, subst, ap, ◌∙◌, slice_get, slice_index, true≢false, mod-lt}
 use Rattle.std.proofs.lemmas.Option.{none-some}
 use Rattle.std.specs.Option.{option_map_or}
 use Rattle.code_safety.specs.Runnable.{by_fault}
 use Rattle.code_safety.specs.Safety.{IsSafe}
 use Rattle.code_safety.proofs.Available.{recovery_stands, state_stands}
 use Rattle.code_safety.proofs.Forms.{IsInterfaceValue, is_nil, is_dynamic as is_dynamic_of, interface_in}
-use Rattle.code_safety.proofs.Lists.{below_get, get_set, some_same}
+use Rattle.code_safety.proofs.Lists.{below_get, get_set}
 pub use Rattle.code_safety.proofs.Machines.{MayPanic, MayThrow}
-use Rattle.code_safety.proofs.Machines.{OpenFits, GoroutineFits, SchedFits, IsIn, FrameFits, Stands, IsBegun, Recovers, StateFits, Takes, AreBelow, AreFrames, TopStands, fresh, begun, lost, IsTop, GoOn, LaterFitsWhere, ThrownFits, IsThrown, Safe, is_panicking}
+use Rattle.code_safety.proofs.Machines.{OpenFits, GoroutineFits, SchedFits, IsIn, FrameFits, Stands, IsBegun, Recovers, StateFits, AreBelow, AreFrames, TopStands, fresh, begun, lost, IsTop, GoOn, LaterFitsWhere, ThrownFits, IsThrown, Safe, is_panicking}
 use Rattle.code_safety.proofs.Members.{in_split}
 use Rattle.code_safety.proofs.Opening.{RestFits, open_with, frames_closed}
 use Rattle.code_safety.proofs.Values.{Typing, TextFits}
@@ -60,9 +60,13 @@ text_of c t (of_text words) h = (_, refl)
 thrown_fits : (c : Code) → IsSafe c → (t : Typing) (words : List ℕ) (of : Option TypeId) → error_string c ≡ of
     → ThrownFits c t (thrown_with words of)
 thrown_fits c safe t words None is = tt
-thrown_fits c safe t words (Some of) is =
-    (((by_fault of is, λ n method there. absurd (none-some method there)),
-    subst TextFits (sym (safe.runnable.errors of is)) tt), not_nil of (text words))
+thrown_fits c safe t words (Some of) is = (
+  (
+    (by_fault of is, λ n method there. absurd (none-some method there)),
+    subst TextFits (sym (safe.runnable.errors of is)) tt,
+  ),
+  not_nil of (text words),
+)
 
 -- ---- the frame that panics
 
@@ -97,22 +101,26 @@ panicking_fits c safe t top below may thrown is (Some b) e =
     let same : at_recovery (Some may.function) top ≡ at_block may.function b.number top =
     ap (λ (r : Option BlockId). option_map_or (λ (b : BlockId). at_block may.function b.number top) r top) e in
     let stands = subst (λ (new : Frame). Stands may.function new None × IsBegun may.function new) same
-    (recovery_stands c safe top.function.number may.function may.fits.there top may.begun b e) in
-    (record {
-      function = may.function;
-      fits = moved_fits c t may.function top b.number (phis_first (instrs_at may.function b.number)) (panicking thrown) may.fits is;
-      stands = begun
-          (state_stands may.function (at_block may.function b.number top) None (panicking thrown) top.defers stands.0)
-          (begun_as may.function top (record (at_block may.function b.number top) { state = panicking thrown }) refl may.begun);
-      takes = may.takes;
-    }, may.lower)
-panicking_fits c safe t top below may thrown is None e =
-    (record {
-      function = may.function;
-      fits = moved_fits c t may.function top top.block top.place (panicking thrown) may.fits is;
-      stands = lost refl e (no_defers top.defers may.function may.fits.recovers e);
-      takes = may.takes;
-    }, may.lower)
+    (recovery_stands c safe top.function.number may.function may.fits.there top may.begun b e) in (
+      record {
+        function = may.function;
+        fits = moved_fits c t may.function top b.number (phis_first (instrs_at may.function b.number)) (panicking thrown) may.fits is;
+        stands = begun
+            (state_stands may.function (at_block may.function b.number top) None (panicking thrown) top.defers stands.0)
+            (begun_as may.function top (record (at_block may.function b.number top) { state = panicking thrown }) refl may.begun);
+        takes = may.takes;
+      },
+      may.lower,
+    )
+panicking_fits c safe t top below may thrown is None e = (
+  record {
+    function = may.function;
+    fits = moved_fits c t may.function top top.block top.place (panicking thrown) may.fits is;
+    stands = lost refl e (no_defers top.defers may.function may.fits.recovers e);
+    takes = may.takes;
+  },
+  may.lower,
+)
 
 pub throws_safe : (c : Code) → IsSafe c → (t : Typing) (m : Machine) (g : Goroutine) → OpenFits c t m
     → slice_get m.goroutines m.sched.current.number ≡ Some g → LaterFitsWhere c t g.begin → g.fault ≡ None
@@ -121,10 +129,12 @@ pub throws_safe : (c : Code) → IsSafe c → (t : Typing) (m : Machine) (g : Go
 throws_safe c safe t m g fits there begin calm [] may thrown is =
     let words = text_of c t thrown is in
     there_safe c (λ words. ends (ending.Panicked words) m.output) (thrown_text c thrown) words.0 words.1 tt
-throws_safe c safe t m g fits there begin calm (top ∷ below) may thrown is =
-    (t, frames_closed c t m g (panics c thrown top ∷ below) there fits begin calm
-    (subst (λ (found : Option Function). AreFrames c t (record (at_recovery found top) { state = panicking thrown } ∷ below))
-    (sym may.fits.there) (panicking_fits c safe t top below may thrown is may.function.recover refl)))
+throws_safe c safe t m g fits there begin calm (top ∷ below) may thrown is = (
+  t,
+  frames_closed c t m g (panics c thrown top ∷ below) there fits begin calm
+      (subst (λ (found : Option Function). AreFrames c t (record (at_recovery found top) { state = panicking thrown } ∷ below))
+      (sym may.fits.there) (panicking_fits c safe t top below may thrown is may.function.recover refl)),
+)
 
 pub meets_safe : (c : Code) → IsSafe c → (t : Typing) (m : Machine) (g : Goroutine) → OpenFits c t m
     → slice_get m.goroutines m.sched.current.number ≡ Some g → LaterFitsWhere c t g.begin → g.fault ≡ None
@@ -175,16 +185,22 @@ unwound_safe c safe t m g top below fits there begin calm is lower = by top.stat
         (begun_as is.function top (record top { state = running }) refl started)
     standing state e quiet (lost panics none defers) =
         absurd (true≢false (sym panics ∙ ap is_panicking e ∙ quiet))
+
     goes_on : (state : FrameState) → top.state ≡ state → is_panicking state ≡ false
         → Safe c (goes (with_frames g (record top { state = running } ∷ below) m))
-    goes_on state e quiet =
-        (t, frames_closed c t m g (record top { state = running } ∷ below) there fits begin calm
-        (record {
+    goes_on state e quiet = (
+      t,
+      frames_closed c t m g (record top { state = running } ∷ below) there fits begin calm (
+        record {
           function = is.function;
           fits = moved_fits c t is.function top top.block top.place running is.fits tt;
           stands = standing state e quiet is.stands;
           takes = is.takes;
-        }, lower))
+        },
+        lower,
+      ),
+    )
+
     by : (state : FrameState) → top.state ≡ state → Safe c (unwound c m g top below state)
     by running e = goes_on running e refl
     by returning e = goes_on returning e refl
@@ -325,8 +341,10 @@ switches_safe c safe t m fits at =
   where
     st : State
     st = at_point at m.sched
+
     smaller : IsSmaller m.sched (at_point at m.sched)
     smaller = at_smaller at m.sched
+
     by : (ticks : ℕ) (their : List ℕ) → ((n : ℕ) → IsIn n their → IsIn n (at_point at m.sched).runnable)
         → Safe c (chosen c (next_among their (at_point at m.sched))
         (record m { ticks = ticks; sched = switched_among their (at_point at m.sched) }))

@@ -1,5 +1,5 @@
 -- Values of types: what cells, maps and channels hold is told by a typing, which only grows.
-use Rattle.std.proofs.Common.{◌≡◌, ◌==◌, ◌<◌, ◌≤◌, ◌+◌, ℕ, zero, suc, Bool, true, false, List, [], ◌∷◌, ◌++◌, length, map, replicate, Option, Some, None, slice_get}
+use Rattle.std.proofs.Common.{◌≡◌, ◌≤◌, ◌+◌, ℕ, Bool, true, false, List, [], ◌∷◌, ◌++◌, length, map, replicate, Option, Some, None, slice_get}
 use Rattle.std.specs.List.{AllZip}
 use Rattle.std.specs.Option.{option_and_then}
 use Rattle.code_safety.specs.Runnable.{IsBoxed}
@@ -14,7 +14,6 @@ use Rattle.go_store.specs.Stores.{Stored}
 use Rattle.go_type.specs.Assignable.{underlying_term_of}
 use Rattle.go_type.specs.declared.term.Basic.{Basic}
 use Rattle.go_type.specs.declared.term.Basic.TheVariants as basic
-use Rattle.go_type.specs.declared.term.Field.{Field}
 use Rattle.go_type.specs.declared.term.MethodType.{MethodType}
 use Rattle.go_type.specs.declared.term.Signature.{Signature}
 use Rattle.go_type.specs.declared.term.TypeTerm.{TypeTerm}
@@ -95,18 +94,18 @@ Points c t at base = PointsFrom c t at.cell at.path base
 -- parts of a cell from one on, as many as a capacity, are of a type
 pub record SlicesInto (c : Code) (t : Typing) (cell : CellId) (path : List ℕ) (len cap : ℕ) (elem : TypeId) : Type 0
   where
-  pub home : Home
-  pub there : slice_get t.cells cell.number ≡ Some home
-  pub front : List ℕ
-  pub last : ℕ
-  pub is_path : path ≡ front ++ last ∷ []
-  pub array : Home
-  pub at : part_home c home front ≡ Some array
-  pub ids : List TypeId
-  pub items : home_items c array ≡ Some ids
-  pub each : (n : ℕ) (of : TypeId) → slice_get ids n ≡ Some of → Alike c.types of elem
-  pub fits : last + cap ≤ length ids
-  pub within : len ≤ cap
+    pub home : Home
+    pub there : slice_get t.cells cell.number ≡ Some home
+    pub front : List ℕ
+    pub last : ℕ
+    pub is_path : path ≡ front ++ last ∷ []
+    pub array : Home
+    pub at : part_home c home front ≡ Some array
+    pub ids : List TypeId
+    pub items : home_items c array ≡ Some ids
+    pub each : (n : ℕ) (of : TypeId) → slice_get ids n ≡ Some of → Alike c.types of elem
+    pub fits : last + cap ≤ length ids
+    pub within : len ≤ cap
 
 abbrev pub SlicesFrom : Code → Typing → Option CellId → List ℕ → ℕ → ℕ → TypeId → Type 0
 SlicesFrom c t None path len cap elem = (len ≡ 0) × (cap ≡ 0)
@@ -150,10 +149,10 @@ PointsAs c t at _ = ⊥
 
 pub record IsClosure (c : Code) (t : Typing) (id : FuncId) (captured : List Pointer) (signature : Signature) : Type 0
   where
-  pub function : Function
-  pub there : function_at c id ≡ Some function
-  pub free : AllZip (λ at of. PointsAs c t at (under_of c of)) captured function.free
-  pub has : HasSignature c function signature
+    pub function : Function
+    pub there : function_at c id ≡ Some function
+    pub free : AllZip (λ at of. PointsAs c t at (under_of c of)) captured function.free
+    pub has : HasSignature c function signature
 
 pub record IsBinder (c : Code) (id : FuncId) (of : TypeId) (signature : Signature) : Type 0 where
   pub function : Function

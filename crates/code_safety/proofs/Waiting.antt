@@ -19,9 +19,8 @@ use Rattle.code_safety.proofs.Shapes.{alike_self}
 use Rattle.code_safety.proofs.Sites.{SiteFits, Reads, Among, HasValue}
 use Rattle.code_safety.proofs.Terms.{never, there}
 use Rattle.code_safety.proofs.Throwing.{there_safe, switches_safe, meets_safe}
-use Rattle.code_safety.proofs.Places.{id_is}
-use Rattle.code_safety.proofs.Values.{Typing, ChanFits}
-use Rattle.code_safety.proofs.Waking.{ReceivedFits, SelectedFits, received_term, sent_term, element_is, Plain, send_plain, receive_plain, receive_gets, select_gets, all_woken_fit}
+use Rattle.code_safety.proofs.Values.{Typing}
+use Rattle.code_safety.proofs.Waking.{ReceivedFits, SelectedFits, received_term, sent_term, element_is, id_is, Plain, send_plain, receive_plain, receive_gets, select_gets, all_woken_fit}
 use Rattle.go_base.specs.declared.ids.ChanId.{ChanId}
 use Rattle.go_base.specs.declared.ids.GoId.{GoId}
 use Rattle.go_base.specs.declared.ids.TypeId.{TypeId}
@@ -35,9 +34,8 @@ use Rattle.go_sched.specs.declared.scheduling.Point.TheVariants as point
 use Rattle.go_type.specs.Same.{same_id}
 use Rattle.go_type.specs.Table.{term_at, basic_id}
 use Rattle.go_type.specs.declared.term.Basic.TheVariants as basic
-use Rattle.go_type.specs.declared.term.Dir.{Dir}
 use Rattle.go_type.specs.declared.term.TypeTerm.TheVariants as term
-use Rattle.go_value.specs.Values.{Val, none, chan_number}
+use Rattle.go_value.specs.Values.{Val, chan_number}
 use Rattle.go_value.specs.declared.faults.Fault.{Fault}
 use Rattle.go_value.specs.declared.faults.Fault.TheVariants as fault
 use Rattle.ssa_ir.specs.declared.code.Code.{Code}
@@ -81,14 +79,15 @@ current_there c t m after g on there = ap (λ (id : GoId). slice_get m.goroutine
 woken_with : (c : Code) (t : Typing) (goroutines : List Goroutine) (n : ℕ) (runnable : List ℕ) (new : Goroutine) (others : List Woken)
     → AreWoken c t goroutines n runnable others → AreWoken c t (slice_set goroutines n new) n runnable others
 woken_with c t goroutines n runnable new [] are = tt
-woken_with c t goroutines n runnable new (it ∷ others) are =
-    (record {
-      waits = waits_with c goroutines n it.goroutine.number new are.0.other are.0.waits;
-      fits = are.0.fits;
-      other = are.0.other;
-      runs = are.0.runs;
-    },
-    (are.1.0, woken_with c t goroutines n runnable new others are.1.1))
+woken_with c t goroutines n runnable new (it ∷ others) are = (
+  record {
+    waits = waits_with c goroutines n it.goroutine.number new are.0.other are.0.waits;
+    fits = are.0.fits;
+    other = are.0.other;
+    runs = are.0.runs;
+  },
+  (are.1.0, woken_with c t goroutines n runnable new others are.1.1),
+)
 
 -- an operation is done, and the current goroutine goes on
 done_safe : (c : Code) → IsSafe c → (t : Typing) (m : Machine) (after : State) (g new : Goroutine) → OpenFits c t m
@@ -100,12 +99,12 @@ done_safe c safe t m after g new fits on there is calm others are =
     let here = current_there c t m after g on there in
     let opened = open_with c t (with_sched after m) new (open_sched c t m after fits on) in
     let next = all_woken_fit c safe t (with_current new (with_sched after m)) others opened
-            (woken_with c t m.goroutines n after.runnable new others
-            (subst (λ (id : GoId). AreWoken c t m.goroutines id.number after.runnable others) (sym on.same) are)) in
+    (woken_with c t m.goroutines n after.runnable new others
+    (subst (λ (id : GoId). AreWoken c t m.goroutines id.number after.runnable others) (sym on.same) are)) in
     let same = next.1.1.1.1 in
     let found : slice_get next.0.goroutines next.0.sched.current.number ≡ Some new =
-            ap (λ (state : State). slice_get next.0.goroutines state.current.number) same ∙ next.1.1.1.0
-            ∙ get_set m.goroutines n new g here in
+    ap (λ (state : State). slice_get next.0.goroutines state.current.number) same ∙ next.1.1.1.0
+    ∙ get_set m.goroutines n new g here in
     there_safe c (switches c point.After) (all_woken c others (with_current new (with_sched after m))) next.0 next.1.0
     (switches_safe c safe t next.0
     (rest_of c t next.0 (record { opened = next.1.1.0; g = new; there = found; fits = is; calm = calm })) point.After)
@@ -246,12 +245,6 @@ record Gone (t : Typing) (s : Site) (instr : Instr) (site : SiteFits t s instr) 
   is : found ≡ Some (behind_with s instr.register after it)
   gives : GivesOf s.code t it site.of
 
-gone_with : (t : Typing) (s : Site) (instr : Instr) (site : SiteFits t s instr) (after : State) (found : Option Val) (v : Val)
-    → found ≡ Some v → GivesOf s.code t (Some v) site.of
-    → Gone t s instr site after (option_map (λ given. behind_with s instr.register after (Some given)) found)
-gone_with t s instr site after found v is gives =
-    record { it = Some v; is = ap (option_map (λ given. behind_with s instr.register after (Some given))) is; gives = gives }
-
 gone_safe : (t : Typing) (s : Site) (instr : Instr) (site : SiteFits t s instr) → Plain instr → (after : State)
     → RunsOn s.code t s.machine.goroutines s.machine.sched after → (others : List Woken)
     → AreWoken s.code t s.machine.goroutines s.machine.sched.current.number after.runnable others → (found : Option Machine)
@@ -278,15 +271,6 @@ operation_safe t s instr site plain after takes next otherwise gone (Ok default)
     gone_safe t s instr site plain after fits [] tt otherwise it
 operation_safe t s instr site plain after takes next otherwise gone (Ok (done index found others)) or_else fits =
     gone_safe t s instr site plain after fits.0 others fits.1.1 (next index found) (gone index found fits.1.0)
-
--- the channel that an operand is
-channel_value : (t : Typing) (s : Site) (it : Operand) → HasValue t s it → (way : Dir) (elem : TypeId)
-    → shape s.code s.function it ≡ Some (term.Chan way elem)
-    → (id : Option ChanId) × ((value s it ≡ Some (chan_number id)) × ChanFits s.code t id elem)
-channel_value t s it has way elem is =
-    let v = shape_value t s it has (term.Chan way elem) is in
-    let id = chan_in s.code t v.0 way elem v.1.1 in
-    (id.0, (v.1.0 ∙ ap Some id.1.0, id.1.1))
 
 -- ---- sends
 
@@ -319,10 +303,11 @@ send_safe t s instr site channel it is =
         let m = s.machine in
         let reads = subst (λ o. Reads t s o) is (site_reads t s instr site) in
         let way = sent_term (shape c s.function channel) elem e in
-        let id = channel_value t s channel (reads.values channel (inl refl)) way.0 elem way.1 in
+        let v = shape_value t s channel (reads.values channel (inl refl)) (term.Chan way.0 elem) way.1 in
+        let id = chan_in c t v.0 way.0 elem v.1.1 in
         let w = operand_value t s site.safe.held it (reads.values it (inr (inl refl))) elem h in
         let after = (sends 0 w.0 m.sched id.0).after in
-        there_safe c (λ channel. where_there (send_on s channel) (value s it)) (value s channel) (chan_number id.0) id.1.0
+        there_safe c (λ channel. where_there (send_on s channel) (value s it)) (value s channel) (chan_number id.0) (v.1.0 ∙ ap Some id.1.0)
         (there_safe c (send_on s (chan_number id.0)) (value s it) w.0 w.1.0
         (operation_safe t s instr site (send_plain instr (op.Send channel it) is tt) after
         (λ n found. (n ≡ 0) × GivesCase c t s.function 0 instr.op found (chans.send id.0 w.0))
@@ -368,18 +353,23 @@ receive_safe t s instr site channel comma_ok is =
     let elem = receive_typed c f channel comma_ok site.of typed in
     let reads = subst (λ o. Reads t s o) is (site_reads t s instr site) in
     let way = received_term (shape c f channel) elem.0 elem.1 in
-    let id = channel_value t s channel (reads.values channel (inl refl)) way.0 elem.0 way.1 in
+    let v = shape_value t s channel (reads.values channel (inl refl)) (term.Chan way.0 elem.0) way.1 in
+    let id = chan_in c t v.0 way.0 elem.0 v.1.1 in
     let from : ReceivesFrom c f channel elem.0 =
-            record { of = elem.0; is = element_is c f channel elem.0 elem.1; alike = alike_self c.types elem.0 } in
+    record { of = elem.0; is = element_is c f channel elem.0 elem.1; alike = alike_self c.types elem.0 } in
     let after = (receives 0 m.sched id.0).after in
-    there_safe c (receive_from s instr.register channel comma_ok) (value s channel) (chan_number id.0) id.1.0
+    there_safe c (receive_from s instr.register channel comma_ok) (value s channel) (chan_number id.0) (v.1.0 ∙ ap Some id.1.0)
     (operation_safe t s instr site (receive_plain c f 0 elem.0 instr o is from) after
     (λ n found. (n ≡ 0) × GivesCase c t f 0 instr.op found (chans.receive id.0))
     (λ index it. option_map (λ given. behind_with s instr.register after (Some given)) (received c f channel comma_ok it)) None
     (λ index found took.
     let got = receive_gets c site.safe t f channel comma_ok site.of typed runnable found
-            (case_received c t f channel comma_ok id.0 found (subst (λ o. GivesCase c t f 0 o found (chans.receive id.0)) is took.1)) in
-    gone_with t s instr site after (received c f channel comma_ok found) got.0 got.1.0 got.1.1)
+    (case_received c t f channel comma_ok id.0 found (subst (λ o. GivesCase c t f 0 o found (chans.receive id.0)) is took.1)) in
+    record {
+      it = Some got.0;
+      is = ap (option_map (λ given. behind_with s instr.register after (Some given))) got.1.0;
+      gives = got.1.1;
+    })
     (receives 0 m.sched id.0).answer (inl (receives_plain 0 m.sched id.0))
     (receives_fit c t m.goroutines m.sched site.machine.sched site.machine.current (site_waits t s instr site) 0 id.0
     (elem.0, (id.1.1, subst (λ o. MayReceive c f 0 elem.0 o) (sym is) from))))
@@ -415,14 +405,15 @@ cases_fit t s safe blocking all (case.Send channel item ∷ cases) n ids typed h
     by (Some elem) e h rest =
         let c = s.code in
         let way = sent_term (shape c s.function channel) elem e in
-        let id = channel_value t s channel (has channel (inl refl)) way.0 elem way.1 in
+        let v = shape_value t s channel (has channel (inl refl)) (term.Chan way.0 elem) way.1 in
+        let id = chan_in c t v.0 way.0 elem v.1.1 in
         let w = operand_value t s safe.held item (has item (inr (inl refl))) elem h in
         record {
           asked = chans.send id.0 w.0 ∷ rest.asked;
           is =
               ap (λ first. with_case first (cases_of c s.frame cases))
               (ap (λ found. option_and_then (λ id. option_map (chans.send id) (value s item)) (option_and_then meant_channel found))
-              id.1.0 ∙ ap (option_map (chans.send id.0)) w.1.0)
+              (v.1.0 ∙ ap Some id.1.0) ∙ ap (option_map (chans.send id.0)) w.1.0)
               ∙ ap (with_case (Some (chans.send id.0 w.0))) rest.is;
           fits = case_each c t s.function (op.Select blocking all) n (chans.send id.0 w.0) rest.asked (elem, (id.1.1, (w.1.1, tt))) rest.fits;
         }
@@ -432,20 +423,31 @@ cases_fit t s safe blocking all (case.Receive channel ∷ cases) n (of ∷ ids) 
     let k = both (is_id (received_elem (shape c s.function channel)) of) (takes_cases c s.function cases ids) typed in
     let elem = id_is (received_elem (shape c s.function channel)) of k.0 in
     let rest = cases_fit t s safe blocking all cases (suc n) ids k.1 (λ it among. has it (inr among))
-            (λ k. subst (λ m. slice_get all m ≡ slice_get cases k) (omega arith) (same (suc k))) in
+    (λ k. subst (λ m. slice_get all m ≡ slice_get cases k) (omega arith) (same (suc k))) in
     let way = received_term (shape c s.function channel) of elem in
-    let id = channel_value t s channel (has channel (inl refl)) way.0 of way.1 in
+    let v = shape_value t s channel (has channel (inl refl)) (term.Chan way.0 of) way.1 in
+    let id = chan_in c t v.0 way.0 of v.1.1 in
     let here : slice_get all n ≡ Some (case.Receive channel) = subst (λ m. slice_get all m ≡ Some (case.Receive channel)) (omega arith) (same 0) in
     record {
       asked = chans.receive id.0 ∷ rest.asked;
       is =
           ap (λ first. with_case first (cases_of c s.frame cases))
-          (ap (λ found. option_map chans.receive (option_and_then meant_channel found)) id.1.0)
+          (ap (λ found. option_map chans.receive (option_and_then meant_channel found)) (v.1.0 ∙ ap Some id.1.0))
           ∙ ap (with_case (Some (chans.receive id.0))) rest.is;
       fits =
-          case_each c t s.function (op.Select blocking all) n (chans.receive id.0) rest.asked
-          (of, (id.1.1, (channel, (here,
-          record { of = of; is = element_is c s.function channel of elem; alike = alike_self c.types of })))) rest.fits;
+          case_each c t s.function (op.Select blocking all) n (chans.receive id.0) rest.asked (
+            of,
+            (
+              id.1.1,
+              (
+                channel,
+                (
+                  here,
+                  record { of = of; is = element_is c s.function channel of elem; alike = alike_self c.types of },
+                ),
+              ),
+            ),
+          ) rest.fits;
     }
 
 select_typed : (c : Code) (f : Function) (blocking : Bool) (cases : List SelectCase) (of : Option TypeId)
@@ -482,11 +484,11 @@ select_safe t s instr site blocking cases is =
     let ids = select_typed c f blocking cases site.of typed in
     let reads = subst (λ o. Reads t s o) is (site_reads t s instr site) in
     let asked = cases_fit t s site.safe blocking cases cases 0 ids.0 ids.1 reads.values
-            (λ k. ap (slice_get cases) (omega arith)) in
+    (λ k. ap (slice_get cases) (omega arith)) in
     let outcome = selects m.sched asked.asked (not blocking) in
     let after = outcome.after in
     let next : ℕ → Option Val → Option Machine =
-            λ index it. option_map (λ given. behind_with s instr.register after (Some given)) (selected c f cases (Some index) it) in
+    λ index it. option_map (λ given. behind_with s instr.register after (Some given)) (selected c f cases (Some index) it) in
     let otherwise = option_map (λ given. behind_with s instr.register after (Some given)) (selected c f cases None None) in
     let other = select_gets c site.safe t f blocking cases site.of typed runnable None None tt in
     there_safe c (λ asked. select_among s instr.register blocking cases (selects m.sched asked (not blocking))) (cases_of c s.frame cases)
@@ -495,9 +497,18 @@ select_safe t s instr site blocking cases is =
     (λ n found. (it : Case) × ((slice_get asked.asked n ≡ Some it) × GivesCase c t f n instr.op found it)) next otherwise
     (λ index found took.
     let got = select_gets c site.safe t f blocking cases site.of typed runnable (Some index) found
-            (case_selected c t f blocking cases index found took.0 (subst (λ o. GivesCase c t f index o found took.0) is took.1.1)) in
-    gone_with t s instr site after (selected c f cases (Some index) found) got.0 got.1.0 got.1.1)
-    outcome.answer (inr (gone_with t s instr site after (selected c f cases None None) other.0 other.1.0 other.1.1))
+    (case_selected c t f blocking cases index found took.0 (subst (λ o. GivesCase c t f index o found took.0) is took.1.1)) in
+    record {
+      it = Some got.0;
+      is = ap (option_map (λ given. behind_with s instr.register after (Some given))) got.1.0;
+      gives = got.1.1;
+    })
+    outcome.answer
+    (inr (record {
+      it = Some other.0;
+      is = ap (option_map (λ given. behind_with s instr.register after (Some given))) other.1.0;
+      gives = other.1.1;
+    }))
     (selects_fit c t m.goroutines m.sched site.machine.sched site.machine.current (site_waits t s instr site) asked.asked (not blocking)
     (λ n it found.
     subst (λ o. CaseFits c t f n o it) (sym is)

@@ -4,7 +4,7 @@ use Rattle.std.proofs.lemmas.Option.{none-some, cond_some}
 use Rattle.std.specs.Cmp.{unsigned_Decides}
 use Rattle.std.specs.List.{list_all}
 use Rattle.std.specs.Option.{option_and_then}
-use Rattle.code_safety.specs.Runnable.{runs, runs_op, has_zero, receives_zero}
+use Rattle.code_safety.specs.Runnable.{runs_op, has_zero, receives_zero}
 use Rattle.code_safety.specs.Safety.{IsSafe}
 use Rattle.code_safety.proofs.Available.{sane_of, typed_of, begun_at}
 use Rattle.code_safety.proofs.Forms.{number_fits}
@@ -20,7 +20,6 @@ use Rattle.code_safety.proofs.Sames.{is_of_alike}
 use Rattle.code_safety.proofs.Sites.{IsRegister}
 use Rattle.code_safety.proofs.Terms.{never, same_is, basic_term, tuple_term, truth_fits, ok_fits, there}
 use Rattle.code_safety.proofs.Throwing.{moved_fits, begun_as}
-use Rattle.code_safety.proofs.Places.{id_is}
 use Rattle.code_safety.proofs.Values.{Typing, Fits, PartsFit, IsOf, under_of}
 use Rattle.code_safety.proofs.Zeros.{zero_fits}
 use Rattle.go_base.specs.declared.ids.TypeId.{TypeId}
@@ -50,7 +49,6 @@ use Rattle.ssa_mean.specs.Making.{value_or}
 use Rattle.ssa_mean.specs.Operands.{function_at, element_type, element_in}
 use Rattle.ssa_mean.specs.State.{Frame, running, Goroutine, Machine, with_goroutine, with_result, advanced}
 use Rattle.ssa_mean.specs.Step.{value}
-use Rattle.ssa_mean.specs.Unwinding.{meets}
 use Rattle.ssa_mean.specs.Zeros.{zero_where}
 use Rattle.ssa_sane.specs.Sane.{IsInstr, is_new}
 use Rattle.ssa_typed.specs.Forms.{FitsGiving, FitsOp, fits_giving, fits_alone, gives, gives_received, selects as selects_typed, takes_cases}
@@ -119,6 +117,10 @@ SelectedFits c t f cases None (Some it) = ⊥
 SelectedFits c t f cases (Some index) (Some it) =
     (channel : Operand) × ((slice_get cases index ≡ Some (case.Receive channel)) × ReceivedFits c t f channel (Some it))
 
+pub id_is : (found : Option TypeId) (of : TypeId) → is_id found of ≡ true → found ≡ Some of
+id_is None of h = never h
+id_is (Some id) of h = ap Some (same_is id of h)
+
 received_parts_fit : (c : Code) → IsSafe c → (t : Typing) (f : Function) (chosen : Option ℕ) (it : Option Val) (n : ℕ)
     (cases : List SelectCase) (ids : List TypeId) → takes_cases c f cases ids ≡ true → list_all (receives_zero c f) cases ≡ true
     → ((k : ℕ) (channel : Operand) → slice_get cases k ≡ Some (case.Receive channel)
@@ -134,13 +136,17 @@ received_parts_fit c safe t f chosen it n (case.Receive channel ∷ cases) (of �
     let k = both (is_id (received_elem (shape c f channel)) of) (takes_cases c f cases ids) typed in
     let r = both (has_zero c (element_type c f channel)) (list_all (receives_zero c f) cases) runnable in
     let first = received_comes c safe t f channel false of of (id_is (received_elem (shape c f channel)) of k.0)
-            ((same_id-Decides of of).1 refl) r.0 (value_if (is_chosen n chosen) it)
-            (subst (λ m. ReceivedFits c t f channel (value_if (is_chosen m chosen) it)) (omega arith) (each 0 channel refl)) in
+    ((same_id-Decides of of).1 refl) r.0 (value_if (is_chosen n chosen) it)
+    (subst (λ m. ReceivedFits c t f channel (value_if (is_chosen m chosen) it)) (omega arith) (each 0 channel refl)) in
     let rest = received_parts_fit c safe t f chosen it (suc n) cases ids k.1 r.1
-            (λ k other is. subst (λ m. ReceivedFits c t f other (value_if (is_chosen m chosen) it)) (omega arith) (each (suc k) other is)) in
-    (part first.0 false rest.0,
-    (ap (λ first. with_received first (received_parts c f (suc n) chosen it cases)) first.1.0
-    ∙ ap (option_map (part first.0 false)) rest.1.0, (first.1.1, rest.1.1)))
+    (λ k other is. subst (λ m. ReceivedFits c t f other (value_if (is_chosen m chosen) it)) (omega arith) (each (suc k) other is)) in (
+      part first.0 false rest.0,
+      (
+        ap (λ first. with_received first (received_parts c f (suc n) chosen it cases)) first.1.0
+            ∙ ap (option_map (part first.0 false)) rest.1.0,
+        (first.1.1, rest.1.1),
+      ),
+    )
 
 received_channel : Operand → Option SelectCase → Operand
 received_channel it (Some (case.Receive channel)) = channel
@@ -179,18 +185,30 @@ selected_fits c safe t f blocking cases of typed runnable chosen it fits = by (p
         let l = both (same_id ok (basic_id basic.Bool)) _ k.1 in
         let m = both _ (takes_cases c f cases rest) l.1 in
         let its = received_parts_fit c safe t f chosen it 0 cases rest m.1 runnable
-                (λ k channel is.
-                subst (λ m. ReceivedFits c t f channel (value_if (is_chosen m chosen) it)) (omega arith)
-                (case_gets c t f cases chosen it fits k channel is)) in
-        let v = parts (part (number (case_number chosen)) false (part (truth (is_some it)) false its.0)) in
-        (v, (ap (option_map (λ rest. parts (part (number (case_number chosen)) false (part (truth (is_some it)) false rest)))) its.1.0,
-        subst (Fits c t v) (sym (tuple_term c.types safe.held of (index ∷ ok ∷ rest) e))
-        (index ∷ ok ∷ rest, (refl,
-        (subst (IsOf c t (number (case_number chosen))) (sym (same_is index (basic_id basic.Int) k.0))
-        (number_fits c t (case_number chosen) (under_of c (basic_id basic.Int))
-        (ap (λ of. is_some (kind_of_term of)) (basic_term c.types safe.held basic.Int))),
-        (subst (IsOf c t (truth (is_some it))) (sym (same_is ok (basic_id basic.Bool) l.0)) (truth_fits c t safe.held (is_some it)),
-        its.1.1))))))
+        (λ k channel is.
+        subst (λ m. ReceivedFits c t f channel (value_if (is_chosen m chosen) it)) (omega arith)
+        (case_gets c t f cases chosen it fits k channel is)) in
+        let v = parts (part (number (case_number chosen)) false (part (truth (is_some it)) false its.0)) in (
+          v,
+          (
+            ap (option_map (λ rest. parts (part (number (case_number chosen)) false (part (truth (is_some it)) false rest)))) its.1.0,
+            subst (Fits c t v) (sym (tuple_term c.types safe.held of (index ∷ ok ∷ rest) e)) (
+              index ∷ ok ∷ rest,
+              (
+                refl,
+                (
+                  subst (IsOf c t (number (case_number chosen))) (sym (same_is index (basic_id basic.Int) k.0))
+                      (number_fits c t (case_number chosen) (under_of c (basic_id basic.Int))
+                      (ap (λ of. is_some (kind_of_term of)) (basic_term c.types safe.held basic.Int))),
+                  (
+                    subst (IsOf c t (truth (is_some it))) (sym (same_is ok (basic_id basic.Bool) l.0)) (truth_fits c t safe.held (is_some it)),
+                    its.1.1,
+                  ),
+                ),
+              ),
+            ),
+          ),
+        )
     by _ e h = never h
 
 -- ---- those that waited go on
@@ -311,14 +329,14 @@ wakes_with : (c : Code) (m : Machine) (it : Woken) → (w : WaitsAt c m.goroutin
     (record (w.g) { frames = advanced (with_result w.instr.register value w.top) ∷ w.below; fault = fault_after it.how w.g.fault }) m)
 wakes_with c m it w value is =
     let top : woken_frame c it w.top ≡ Some (advanced (with_result w.instr.register value w.top)) =
-            ap (λ state. where_running state
-            (option_and_then (λ function. option_and_then (gone_behind c function it w.top) (instr_at function w.top))
-            (function_at c w.top.function))) w.runs
-            ∙ ap (option_and_then (λ function. option_and_then (gone_behind c function it w.top) (instr_at function w.top))) w.is_function
-            ∙ ap (option_and_then (gone_behind c w.function it w.top)) w.at
-            ∙ ap (option_map (λ value. advanced (with_result w.instr.register value w.top))) is in
+    ap (λ state. where_running state
+    (option_and_then (λ function. option_and_then (gone_behind c function it w.top) (instr_at function w.top))
+    (function_at c w.top.function))) w.runs
+    ∙ ap (option_and_then (λ function. option_and_then (gone_behind c function it w.top) (instr_at function w.top))) w.is_function
+    ∙ ap (option_and_then (gone_behind c w.function it w.top)) w.at
+    ∙ ap (option_map (λ value. advanced (with_result w.instr.register value w.top))) is in
     let frames : woken_frames c it w.g.frames ≡ Some (advanced (with_result w.instr.register value w.top) ∷ w.below) =
-            ap (woken_frames c it) w.frames ∙ ap (option_map (λ (top : Frame). top ∷ w.below)) top in
+    ap (woken_frames c it) w.frames ∙ ap (option_map (λ (top : Frame). top ∷ w.below)) top in
     ap (λ found. option_map (λ (g : Goroutine). with_goroutine it.goroutine.number g m) (option_and_then (woken_goroutine c it) found)) w.there
     ∙ ap (λ frames. option_map (λ (g : Goroutine). with_goroutine it.goroutine.number g m)
     (option_map (λ (frames : List Frame). record (w.g) { frames = frames; fault = fault_after it.how w.g.fault }) frames)) frames
@@ -345,13 +363,13 @@ waiter : (c : Code) → IsSafe c → (t : Typing) (goroutines : List Goroutine) 
     → GoroutineFits c t w.g → Waiter c t w.function w.top w.below w.instr
 waiter c safe t goroutines place w fits =
     let are : AreFrames c t (w.top ∷ w.below) =
-            subst (λ (frames : List Frame). AreFrames c t frames) w.frames
-            (subst (λ (f : Option Fault). GoOn c t f w.g.frames) w.calm fits.frames) in
+    subst (λ (frames : List Frame). AreFrames c t frames) w.frames
+    (subst (λ (f : Option Fault). GoOn c t f w.g.frames) w.calm fits.frames) in
     let same = some_same are.0.function w.function (sym are.0.fits.there ∙ w.is_function) in
     let stands = stands_of w.function w.top (subst (λ f. TopStands f w.top) same are.0.stands) w.runs in
     let n = w.top.function.number in
     let typed = fits_register c w.function w.instr.op _ w.instr.register
-            ((typed_of c safe n w.function w.is_function).instrs w.top.block w.top.place w.instr w.at).1 in
+    ((typed_of c safe n w.function w.is_function).instrs w.top.block w.top.place w.instr w.at).1 in
     record {
       fits = subst (λ f. FrameFits c t f w.top) same are.0.fits;
       stands = stands.0;
@@ -379,6 +397,7 @@ wakes c safe t m current runnable it woke fits = by it.how refl woke.fits
   where
     w : WaitsAt c m.goroutines it.goroutine.number
     w = woke.waits
+
     top : Waiter c t woke.waits.function woke.waits.top woke.waits.below woke.waits.instr
     top = waiter c safe t m.goroutines it.goroutine.number woke.waits fits
 
@@ -458,14 +477,15 @@ woken_others : (c : Code) (t : Typing) (goroutines : List Goroutine) (current : 
     (others : List Woken) → IsOther n others → AreWoken c t goroutines current runnable others
     → AreWoken c t (slice_set goroutines n new) current runnable others
 woken_others c t goroutines current runnable n new [] apart are = tt
-woken_others c t goroutines current runnable n new (it ∷ others) apart are =
-    (record {
-      waits = waits_with c goroutines n it.goroutine.number new apart.0 are.0.waits;
-      fits = are.0.fits;
-      other = are.0.other;
-      runs = are.0.runs;
-    },
-    (are.1.0, woken_others c t goroutines current runnable n new others apart.1 are.1.1))
+woken_others c t goroutines current runnable n new (it ∷ others) apart are = (
+  record {
+    waits = waits_with c goroutines n it.goroutine.number new apart.0 are.0.waits;
+    fits = are.0.fits;
+    other = are.0.other;
+    runs = are.0.runs;
+  },
+  (are.1.0, woken_others c t goroutines current runnable n new others apart.1 are.1.1),
+)
 
 pub all_woken_fit : (c : Code) → IsSafe c → (t : Typing) (m : Machine) (others : List Woken) → OpenFits c t m
     → AreWoken c t m.goroutines m.sched.current.number m.sched.runnable others
@@ -476,24 +496,31 @@ all_woken_fit c safe t m [] fits woken = (m, (refl, (fits, (refl, refl))))
 all_woken_fit c safe t m (it ∷ others) fits are =
     let n = it.goroutine.number in
     let first = wakes c safe t m m.sched.current.number m.sched.runnable it are.0
-            (fits.others n are.0.waits.g are.0.waits.there are.0.other) in
+    (fits.others n are.0.waits.g are.0.waits.there are.0.other) in
     let next : Machine = with_goroutine n first.new m in
     let opened : OpenFits c t next =
-            record {
-              others = λ k g is other.
-                  ⊎_elim
-                  (λ same. subst (GoroutineFits c t)
-                  (some_same first.new g (sym (get_set m.goroutines n first.new are.0.waits.g are.0.waits.there)
-                  ∙ ap (slice_get (slice_set m.goroutines n first.new)) (sym same) ∙ is)) first.fits)
-                  (λ apart. fits.others k g (sym (get_set_other m.goroutines n k first.new apart) ∙ is) other)
-                  (same_or_other k n);
-              variables = fits.variables;
-              store = fits.store;
-              sched = sched_with c t m.goroutines m.sched n first.new are.0.runs fits.sched;
-              current = fits.current;
-              starts = fits.starts;
-            } in
+    record {
+      others = λ k g is other.
+          ⊎_elim
+          (λ same. subst (GoroutineFits c t)
+          (some_same first.new g (sym (get_set m.goroutines n first.new are.0.waits.g are.0.waits.there)
+          ∙ ap (slice_get (slice_set m.goroutines n first.new)) (sym same) ∙ is)) first.fits)
+          (λ apart. fits.others k g (sym (get_set_other m.goroutines n k first.new apart) ∙ is) other)
+          (same_or_other k n);
+      variables = fits.variables;
+      store = fits.store;
+      sched = sched_with c t m.goroutines m.sched n first.new are.0.runs fits.sched;
+      current = fits.current;
+      starts = fits.starts;
+    } in
     let rest = all_woken_fit c safe t next others opened
-            (woken_others c t m.goroutines m.sched.current.number m.sched.runnable n first.new others are.1.0 are.1.1) in
-    (rest.0, (ap (option_and_then (all_woken c others)) first.is ∙ rest.1.0, (rest.1.1.0,
-    (rest.1.1.1.0 ∙ get_set_other m.goroutines n m.sched.current.number first.new (λ e. are.0.other (sym e)), rest.1.1.1.1))))
+    (woken_others c t m.goroutines m.sched.current.number m.sched.runnable n first.new others are.1.0 are.1.1) in (
+      rest.0,
+      (
+        ap (option_and_then (all_woken c others)) first.is ∙ rest.1.0,
+        (
+          rest.1.1.0,
+          (rest.1.1.1.0 ∙ get_set_other m.goroutines n m.sched.current.number first.new (λ e. are.0.other (sym e)), rest.1.1.1.1),
+        ),
+      ),
+    )

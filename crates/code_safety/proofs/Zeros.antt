@@ -86,10 +86,14 @@ term_fits c t zero_part blank each (Some (term.Struct fields)) it is =
         → all_parts found ≡ Some it → Fits c t it (Some (term.Struct fields))
     by None e is = absurd (none-some it is)
     by (Some found) e is =
-        subst (λ it. Fits c t it (Some (term.Struct fields))) (some_same (parts (parts_of found)) it is)
-        (map (λ field. field.of) fields, (refl,
-        parts_by_fit c t (λ field. zero_part field.of) (λ field. is_name blank field.name) (λ field. field.of)
-        (λ field it is. each field.of it is) fields found e))
+        subst (λ it. Fits c t it (Some (term.Struct fields))) (some_same (parts (parts_of found)) it is) (
+          map (λ field. field.of) fields,
+          (
+            refl,
+            parts_by_fit c t (λ field. zero_part field.of) (λ field. is_name blank field.name) (λ field. field.of)
+                (λ field it is. each field.of it is) fields found e,
+          ),
+        )
 term_fits c t zero_part blank each (Some (term.Interface methods)) it is =
     subst (λ it. Fits c t it (Some (term.Interface methods))) (some_same nil_interface it is) tt
 term_fits c t zero_part blank each (Some (term.Tuple ids)) it is = by (parts_by zero_part (λ id. false) ids) refl is
@@ -98,10 +102,14 @@ term_fits c t zero_part blank each (Some (term.Tuple ids)) it is = by (parts_by 
         → all_parts found ≡ Some it → Fits c t it (Some (term.Tuple ids))
     by None e is = absurd (none-some it is)
     by (Some found) e is =
-        subst (λ it. Fits c t it (Some (term.Tuple ids))) (some_same (parts (parts_of found)) it is)
-        (ids, (refl,
-        subst (λ ids. PartsFit c t (parts_of found) ids) (map-id ids)
-        (parts_by_fit c t zero_part (λ id. false) (λ id. id) each ids found e)))
+        subst (λ it. Fits c t it (Some (term.Tuple ids))) (some_same (parts (parts_of found)) it is) (
+          ids,
+          (
+            refl,
+            subst (λ ids. PartsFit c t (parts_of found) ids) (map-id ids)
+                (parts_by_fit c t zero_part (λ id. false) (λ id. id) each ids found e),
+          ),
+        )
 term_fits c t zero_part blank each _ it is = absurd (none-some it is)
 
 zero_to_fits : (n : ℕ) (c : Code) (t : Typing) (blank : Option NameId) (of : TypeId) (it : Val) → zero_to n c.types blank of ≡ Some it

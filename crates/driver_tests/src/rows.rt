@@ -215,6 +215,10 @@ pub const BROKEN: &[(&str, &str)] = &[
         "x.go:3:9: bad slice (E12)\n",
     ),
     (
+        "package main\n\nvar a = \"abc\"[0:1:\"x\"]\n\nfunc main() {}\n",
+        "x.go:3:9: bad slice (E12)\n",
+    ),
+    (
         "package main\n\nvar a = 1\n\nvar b = a.(int)\n\nfunc main() {}\n",
         "x.go:5:9: bad type assertion (E13)\n",
     ),

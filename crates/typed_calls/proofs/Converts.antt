@@ -143,9 +143,6 @@ retyped_placed old new at to expr (Ok answer) result h e =
       reports = kept_reports old new h.judged.broken h.reports;
     })
 
-pub if_came : {A : Type 0} (came : Result A NoMemory) (P : A → Type 0) (x : A) → came ≡ Ok x → IfOk came P → P x
-if_came {A} came P x e h = subst (λ (r : Result A NoMemory). IfOk r P) e h
-
 -- ---- which types convert
 
 pub grows_same : (types : Table) → Grows types types

@@ -1,6 +1,1 @@
-pub mod Asks
-pub mod Moves
-pub mod Makes
-pub mod Grows
 pub mod Converts
-pub mod Dispatches

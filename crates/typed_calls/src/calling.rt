@@ -4,12 +4,12 @@ ghost use Rattle.std.specs.Prelude.{◌≡◌, IfOk, OnOk};
 ghost use Rattle.typed_parts.specs.Judged.{reported};
 ghost use Rattle.typed_calls.specs.Passing.{IsResultOf, breach_broken, count, is_spread, method_callee, number_breach, place, signature_of};
 
-use crate::built_ins::built_in;
 use crate::converting::conversion;
 use crate::packing::{Plan, packed_values, passed_each, spread};
 use go_base::{NoMemory, Pos, Rule, TypeId};
 use go_tree::{Callee, ExprKind, Method, TypedExpr, Values};
 use go_type::{Signature, TypeTerm};
+use typed_built_ins::built_in;
 use typed_parts::{
     Given, Ground, Meaning, Seen, beside, both, boxed, node, place_of, several_parts, single,
     sound, value_of,

@@ -1,5 +1,5 @@
 -- What becomes of the nodes of literals.
-use Rattle.std.proofs.Common.{◌≡◌, refl, sym, ap, ◌∙◌, subst, Option, Some, None, Result, Ok, Err}
+use Rattle.std.proofs.Common.{◌≡◌, refl, sym, ap, subst, Option, Some, None, Result, Ok, Err}
 use Rattle.std.specs.Global.{Box}
 use Rattle.std.specs.Prelude.{IfOk}
 use Rattle.go_base.specs.declared.ids.TypeId.{TypeId}
@@ -12,7 +12,7 @@ use Rattle.go_type.specs.Table.{Table}
 use Rattle.typed_parts.specs.declared.ground.Ground.{Ground}
 use Rattle.typed_parts.specs.Adapting.{IsMade}
 use Rattle.typed_parts.specs.Joining.{sound}
-use Rattle.typed_parts.specs.Judged.{IsFine, Judged, fine}
+use Rattle.typed_parts.specs.Judged.{IsFine, fine}
 use Rattle.typed_parts.specs.Nodes.{node}
 use Rattle.typed_parts.specs.Turning.{IsHeld, Keeps, Turned, Turns}
 use Rattle.typed_parts.proofs.Turns.{came, stays, then_soundly}

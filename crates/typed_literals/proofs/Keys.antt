@@ -1,6 +1,6 @@
 -- What becomes of elements with keys, in literals of structs.
 use Rattle.std.proofs.Common.{◌≡◌, ℕ, refl, sym, ap, ◌∙◌, subst, List, [], ◌∷◌, ◌++◌, Bool, true, false, cond, take, length}
-use Rattle.std.proofs.Common.{Option, Some, None, Result, Ok, Err}
+use Rattle.std.proofs.Common.{Option, Some, None, Result, Ok}
 use Rattle.std.specs.Prelude.{not, nat_eq, ◌||◌, if◌then◌else◌, IfOk, OnOk}
 use Rattle.std.specs.declared.hash.BuildHasherDefault.{BuildHasherDefault}
 use Rattle.std.specs.declared.hash.FoldHasher.{FoldHasher}
@@ -13,7 +13,7 @@ use Rattle.go_type.specs.declared.term.Field.{Field}
 use Rattle.go_type.specs.Table.{Table}
 use Rattle.typed_parts.specs.declared.ground.Ground.{Ground}
 use Rattle.typed_parts.specs.Joining.{only}
-use Rattle.typed_parts.specs.Judged.{Broken, Comes, Exactly, IsThen, Judged, Outcome, reported, unsound}
+use Rattle.typed_parts.specs.Judged.{Comes, Exactly, Judged, Outcome, reported, unsound}
 use Rattle.typed_parts.specs.Limits.{Basis}
 use Rattle.typed_parts.specs.Turning.{Keeps, Turned}
 use Rattle.typed_parts.proofs.Reports.{reported_after}

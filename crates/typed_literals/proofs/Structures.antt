@@ -1,6 +1,6 @@
 -- What becomes of literals of structs.
 use Rattle.std.proofs.Common.{◌≡◌, ℕ, refl, sym, ap, ◌∙◌, subst, List, [], ◌∷◌, ◌++◌, Bool, true, false}
-use Rattle.std.proofs.Common.{Option, Some, None, Result, Ok, Err, ◌+◌, ◌<◌, take, length, get_or, arith, length-take}
+use Rattle.std.proofs.Common.{Option, Some, None, Result, ◌+◌, ◌<◌, take, length, get_or, arith, length-take}
 use Rattle.std.proofs.lemmas.List.{take_more}
 use Rattle.std.specs.List.{enumerate_from, flat_map, list_all}
 use Rattle.std.specs.Global.{Vec}
@@ -14,13 +14,13 @@ use Rattle.go_tree.specs.declared.exprs.TypedExpr.{TypedExpr}
 use Rattle.go_type.specs.declared.term.Field.{Field}
 use Rattle.go_type.specs.Table.{Table}
 use Rattle.typed_parts.specs.declared.ground.Ground.{Ground}
-use Rattle.typed_parts.specs.Joining.{items_of, listed, only, sound}
+use Rattle.typed_parts.specs.Joining.{items_of, only}
 use Rattle.typed_parts.specs.declared.meaning.Given.{Given}
 use Rattle.typed_parts.specs.Adapting.{IsAssignedTo}
-use Rattle.typed_parts.specs.Judged.{Broken, Comes, IsRest, Judged, Outcome, reported, unsound}
+use Rattle.typed_parts.specs.Judged.{Comes, IsRest, Judged, Outcome, reported, unsound}
 use Rattle.typed_parts.specs.Limits.{Basis}
 use Rattle.typed_parts.specs.Turning.{Asks, IsFollowed, Soundly, Turned, Turns}
-use Rattle.typed_parts.proofs.Turns.{asks, came, followed, nothing, nothing_came, something, then_nothing, then_soundly, weaker}
+use Rattle.typed_parts.proofs.Turns.{asks, came, followed, nothing, nothing_came, something, then_soundly, weaker}
 use Rattle.typed_literals.specs.declared.composing.FieldEntry.{FieldEntry}
 use Rattle.typed_literals.specs.declared.composing.Literal.{Literal}
 use Rattle.typed_literals.specs.declared.structs.Element.{Element}

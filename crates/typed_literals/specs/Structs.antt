@@ -18,7 +18,7 @@ use Rattle.go_tree.specs.declared.exprs.TypedExpr.{TypedExpr}
 use Rattle.go_type.specs.declared.term.Field.{Field}
 use Rattle.go_type.specs.Table.{Table, exported}
 use Rattle.typed_parts.specs.declared.meaning.Given.{Given}
-use Rattle.typed_parts.specs.Adapting.{IsAssigned, IsAssignedTo}
+use Rattle.typed_parts.specs.Adapting.{IsAssignedTo}
 use Rattle.typed_parts.specs.Joining.{only}
 use Rattle.typed_parts.specs.Judged.{Broken, Exactly, IsRest, IsThen, Judged, breaks, fine, unsound}
 use Rattle.typed_parts.specs.Limits.{Basis}

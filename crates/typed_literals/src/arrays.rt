@@ -1,19 +1,26 @@
 //! Literals of arrays and slices. Go specification, "Composite literals".
 
+ghost use Rattle.std.specs.Prelude.{◌≡◌, ℕ, ◌++◌, ◌∷◌, [], List, Option, IfOk};
+ghost use Rattle.typed_parts.specs.Judged.{Comes, and_then, reported};
+ghost use Rattle.typed_parts.specs.Meanings.{one_value};
+ghost use Rattle.typed_parts.specs.Turning.{Turns};
+ghost use Rattle.typed_literals.specs.Arrays.{AreItems, Frees, HasMet, IsFinished, IsIndexKey, IsIndexOf, IsIndexedLiteral, IsItem, IsLonger, IsOpenArray, IsRow, IsTypeAs, constant_given, counted, following, index_in, is_past, row_kind, row_literal};
+ghost use Rattle.typed_literals.specs.InOrder.{Teaches};
+
 use crate::composing::{Entry, Literal, LiteralKind, ask_values, literal_node};
 use go_base::{NoMemory, Pos, Rule, TypeId};
 use go_tree::{Elements, ItemInit, TypedExpr};
 use go_type::TypeTerm;
 use indexmap::IndexSet;
+use std::alloc::Global;
 use typed_parts::{
-    Ground, Seen, asked, assigned, beside, both, integer_of, is_constant, lost, one_value, sound,
-    whole_index, with_last,
+    Given, Ground, Seen, asked, assigned, beside, both, integer_of, is_constant, lost, one_value,
+    sound, whole_index, with_last,
 };
 
-/// The elements that were seen so far.
+/// What is known of the elements that were seen so far.
 #[derive(Drop)]
 struct Row {
-    elem: TypeId,
     /// The length of an array type that is written.
     limit: Option<u64>,
     /// The index of the next element without a key; None where it is not known.
@@ -21,8 +28,6 @@ struct Row {
     /// One more than the greatest index.
     len: u64,
     taken: IndexSet<u64>,
-    /// None where something is unsound.
-    items: Option<Vec<ItemInit>>,
 }
 
 /// A literal of an array or slice. `BadCompositeLiteral` at a key that is no constant, and at an element whose index is taken;
@@ -31,8 +36,10 @@ pub fn indexed_literal(
     ground: &mut Ground,
     literal: Option<Literal>,
     elements: Vec<Entry>,
-) -> Result<Option<TypedExpr>, NoMemory> {
-    match row_literal(ground, literal) {
+) -> Result<Option<TypedExpr>, NoMemory>
+    ensures { Turns ground.old ground.new result (IsIndexedLiteral literal elements.items) }
+{
+    match row_literal(literal) {
         Some((literal, row)) => of_row(ground, literal, row, elements),
         None => {
             ask_values(ground, elements);
@@ -41,94 +48,137 @@ pub fn indexed_literal(
     }
 }
 
-fn row_literal(ground: &Ground, literal: Option<Literal>) -> Option<(Literal, Row)> {
+/// A literal of an array or slice, with the type of its elements and the length that is written.
+fn row_literal(literal: Option<Literal>) -> Option<(Literal, (TypeId, Option<u64>))>
+    ensures { result ≡ row_literal literal }
+{
     let literal = literal?;
-    let row = row_of(ground, literal.kind)?;
+    let row = row_kind(literal.kind)?;
     Some((literal, row))
+}
+
+const fn row_kind(kind: LiteralKind) -> Option<(TypeId, Option<u64>)>
+    ensures { result ≡ row_kind kind }
+{
+    match kind {
+        LiteralKind::Array { len, elem } => Some((elem, Some(len))),
+        LiteralKind::OpenArray { elem } | LiteralKind::Slice { elem } => Some((elem, None)),
+        LiteralKind::Struct | LiteralKind::Map { .. } => None,
+    }
 }
 
 fn of_row(
     ground: &mut Ground,
     literal: Literal,
-    row: Row,
+    row: (TypeId, Option<u64>),
     elements: Vec<Entry>,
-) -> Result<Option<TypedExpr>, NoMemory> {
-    let mut row = row;
-    for element in elements {
-        add_element(ground, &mut row, element)?;
-    }
-    let Row {
-        elem,
-        limit,
-        len,
-        items,
-        ..
-    } = row;
-    match items {
-        Some(items) => finished(ground, literal, elem, items, limit.unwrap_or(len)),
+) -> Result<Option<TypedExpr>, NoMemory>
+    ensures { Turns ground.old ground.new result (IsRow literal row elements.items) }
+{
+    let (elem, limit) = row;
+    match each_item(ground, elem, limit, elements)? {
+        Some((items, len)) => finished(ground, literal, elem, items, len),
         None => Ok(None),
     }
 }
 
-fn row_of(ground: &Ground, kind: LiteralKind) -> Option<Row> {
-    let (elem, limit) = match kind {
-        LiteralKind::Array { len, elem } => (elem, Some(len)),
-        LiteralKind::OpenArray { elem } | LiteralKind::Slice { elem } => (elem, None),
-        _ => return None,
-    };
-    Some(Row {
-        elem,
-        limit,
-        next: Some(0),
-        len: 0,
-        taken: IndexSet::new(ground.alloc),
-        items: Some(Vec::new(ground.alloc)),
-    })
+/// The elements, and the length of the literal.
+fn each_item(
+    ground: &mut Ground,
+    elem: TypeId,
+    limit: Option<u64>,
+    elements: Vec<Entry>,
+) -> Result<Option<(Vec<ItemInit>, u64)>, NoMemory>
+    ensures { Comes ground.old ground.new (counted result) (AreItems elem limit elements.items ground.old.types) }
+{
+    let mut row = Row::new(ground.alloc, limit);
+    let mut items = Some(Vec::new(ground.alloc));
+    for element in elements {
+        let item = item_in(ground, &mut row, elem, element)?;
+        items = with_last(items, item)?;
+    }
+    let len = row.limit.unwrap_or(row.len);
+    Ok(items.zip(Some(len)))
 }
 
-fn add_element(ground: &mut Ground, row: &mut Row, element: Entry) -> Result<(), NoMemory> {
+impl Row {
+    fn new(alloc: Global, limit: Option<u64>) -> Row
+        ensures met { HasMet limit [] result }
+        ensures len { result.len ≡ 0 }
+    {
+        Row {
+            limit,
+            next: Some(0),
+            len: 0,
+            taken: IndexSet::new(alloc),
+        }
+    }
+}
+
+/// An element behind others. The length is known where all are sound.
+fn item_in(
+    ground: &mut Ground,
+    row: &mut Row,
+    elem: TypeId,
+    element: Entry,
+) -> Result<Option<ItemInit>, NoMemory>
+    ensures { (limit : Option ℕ) (before : List (Option ℕ)) → HasMet limit before row.old → Teaches ground.old ground.new result (IsItem ground.old.types elem limit before element) (λ known. HasMet limit (before ++ known ∷ []) row.new × IsLonger known result row.old.len row.new.len) }
+{
     let Entry { at, key, value } = element;
-    let index = element_index(ground, row, key);
+    let index = element_index(ground, row.next, key);
     let (index, value) = beside(index, value)?;
     let value = one_value(ground, value);
-    row.next = following(index);
     let index = free_index(ground, row, at, index);
     let (index, value) = beside(index, value)?;
-    let value = assigned(ground, value, Some(row.elem));
-    let item = match both(Ok(index), value)? {
-        Some((index, value)) => Some(ItemInit { index, value }),
-        None => None,
-    };
-    let items = row.items.take();
-    row.items = with_last(items, item)?;
-    Ok(())
+    let value = assigned(ground, value, Some(elem));
+    match both(Ok(index), value)? {
+        Some((index, value)) => Ok(Some(ItemInit { index, value })),
+        None => Ok(None),
+    }
 }
 
 /// The index of an element: that of its key, and without one the next.
 fn element_index(
     ground: &mut Ground,
-    row: &Row,
+    next: Option<u64>,
     key: Option<Seen>,
-) -> Result<Option<u64>, NoMemory> {
+) -> Result<Option<u64>, NoMemory>
+    ensures { Comes ground.old ground.new result (IsIndexOf ground.old.types key next) }
+{
     let Some(key) = key else {
-        return Ok(row.next);
+        return Ok(next);
     };
-    let key = match one_value(ground, key) {
+    match index_key(ground, key)? {
         Some(key) => {
-            let is_one = is_constant(&key.expr);
-            asked(ground, key, is_one, Rule::BadCompositeLiteral)
+            let index = index_of(&key);
+            drop(key);
+            index
         }
-        None => None,
-    };
-    let Some(key) = whole_index(ground, key, Rule::BadIndex)? else {
-        return Ok(None);
-    };
-    let index = index_of(&key);
-    drop(key);
-    index
+        None => Ok(None),
+    }
 }
 
-const fn following(index: Option<u64>) -> Option<u64> {
+/// The key of an element, as a whole number.
+fn index_key(ground: &mut Ground, key: Seen) -> Result<Option<TypedExpr>, NoMemory>
+    ensures { Comes ground.old ground.new result (IsIndexKey ground.old.types key) }
+{
+    let key = constant_key(ground, key);
+    whole_index(ground, key, Rule::BadIndex)
+}
+
+/// A key that is a constant. `BadCompositeLiteral` at any other.
+fn constant_key(ground: &mut Ground, key: Seen) -> Option<Given>
+    ensures answer { result ≡ (and_then (one_value ground.old.types key) constant_given).sound }
+    ensures broken { ground.new ≡ reported ground.old (and_then (one_value ground.old.types key) constant_given).broken }
+{
+    let key = one_value(ground, key)?;
+    let is_one = is_constant(&key.expr);
+    asked(ground, key, is_one, Rule::BadCompositeLiteral)
+}
+
+const fn following(index: Option<u64>) -> Option<u64>
+    ensures { result ≡ following index }
+{
     match index {
         Some(index) => index.checked_add(1),
         None => None,
@@ -136,7 +186,9 @@ const fn following(index: Option<u64>) -> Option<u64> {
 }
 
 /// The index that a constant key is.
-fn index_of(key: &TypedExpr) -> Result<Option<u64>, NoMemory> {
+fn index_of(key: &TypedExpr) -> Result<Option<u64>, NoMemory>
+    ensures { IfOk result (λ index. index ≡ index_in key.now) }
+{
     let Some(number) = integer_of(key) else {
         return Err(lost());
     };
@@ -152,7 +204,10 @@ fn free_index(
     row: &mut Row,
     at: Pos,
     index: Option<u64>,
-) -> Result<Option<u64>, NoMemory> {
+) -> Result<Option<u64>, NoMemory>
+    ensures { (limit : Option ℕ) (before : List (Option ℕ)) → HasMet limit before row.old → Frees ground.old ground.new at limit before index row.old.len row.new result }
+{
+    row.next = following(index);
     let Some(index) = index else {
         return Ok(None);
     };
@@ -164,13 +219,13 @@ fn free_index(
         ground.report(at, Rule::BadCompositeLiteral);
         return Ok(None);
     }
-    if let Some(len) = index.checked_add(1) {
-        row.len = row.len.max(len);
-    }
+    row.len = row.len.max(row.next.unwrap_or(0));
     Ok(Some(index))
 }
 
-fn is_past(index: u64, limit: Option<u64>) -> bool {
+fn is_past(index: u64, limit: Option<u64>) -> bool
+    ensures { result ≡ is_past index limit }
+{
     match limit {
         Some(limit) => index >= limit,
         None => false,
@@ -184,7 +239,9 @@ fn finished(
     elem: TypeId,
     items: Vec<ItemInit>,
     len: u64,
-) -> Result<Option<TypedExpr>, NoMemory> {
+) -> Result<Option<TypedExpr>, NoMemory>
+    ensures { Turns ground.old ground.new result (IsFinished literal elem (items.items, len)) }
+{
     let of = finished_type(ground, literal, elem, len);
     match both(of, Ok(Some(items)))? {
         Some((of, items)) => {
@@ -201,17 +258,31 @@ fn finished_type(
     literal: Literal,
     elem: TypeId,
     len: u64,
-) -> Result<Option<TypeId>, NoMemory> {
+) -> Result<Option<TypeId>, NoMemory>
+    ensures { Turns ground.old ground.new result (IsTypeAs literal.kind literal elem len) }
+{
     match literal.kind {
-        LiteralKind::OpenArray { .. } => {
-            let array = ground.hold(TypeTerm::Array { len, elem })?;
-            let fits = ground.within_limits(literal.at, array)?;
-            Ok(fits.then_some(array))
-        }
+        LiteralKind::OpenArray { .. } => open_array(ground, literal.at, elem, len),
         LiteralKind::Slice { .. } => {
             let fits = ground.fit_many(literal.at, elem, len)?;
             Ok(fits.then_some(literal.of))
         }
-        _ => Ok(Some(literal.of)),
+        LiteralKind::Struct | LiteralKind::Array { .. } | LiteralKind::Map { .. } => {
+            Ok(Some(literal.of))
+        }
     }
+}
+
+/// The array type of so many elements. `TypeTooLarge` at the place where it is too large.
+fn open_array(
+    ground: &mut Ground,
+    at: Pos,
+    elem: TypeId,
+    len: u64,
+) -> Result<Option<TypeId>, NoMemory>
+    ensures { Turns ground.old ground.new result (IsOpenArray at elem len) }
+{
+    let array = ground.hold(TypeTerm::Array { len, elem })?;
+    let fits = ground.within_limits(at, array)?;
+    Ok(fits.then_some(array))
 }

@@ -1,14 +1,14 @@
 -- What becomes of rules one after another, where one is a function.
-use Rattle.std.proofs.Common.{◌≡◌, refl, sym, ap, ◌∙◌, subst, Option, Some, None, Result, Ok, Err}
+use Rattle.std.proofs.Common.{◌≡◌, refl, subst, Option, Some, None, Result, Ok, Err}
 use Rattle.std.specs.Prelude.{IfOk}
 use Rattle.go_base.specs.declared.memory.NoMemory.{NoMemory}
 use Rattle.go_type.specs.Table.{Table}
 use Rattle.typed_parts.specs.declared.ground.Ground.{Ground}
 use Rattle.typed_parts.specs.Joining.{sound}
-use Rattle.typed_parts.specs.Judged.{Comes, IsFine, Judged, Outcome, fine, reported}
-use Rattle.typed_parts.specs.Limits.{Basis, basis}
-use Rattle.typed_parts.specs.Turning.{Asks, IsFollowed, IsThenSoundly, Keeps, Soundly, Turned, Turns}
-use Rattle.typed_parts.proofs.Turns.{asks, came, followed, keeps_comes, nothing_came, outcome_of, stays, then_nothing, then_soundly}
+use Rattle.typed_parts.specs.Judged.{IsFine, Judged, reported}
+use Rattle.typed_parts.specs.Limits.{Basis}
+use Rattle.typed_parts.specs.Turning.{Asks, IsFollowed, IsThenSoundly, Keeps, Turned, Turns}
+use Rattle.typed_parts.proofs.Turns.{asks, came, followed, nothing_came, stays, then_nothing, then_soundly}
 
 -- a part that came, as what is sound
 pub turned_of : {A : Type 0} (old new : Ground) (Is : Basis → Basis → Judged A → Type 0) (came : Result (Option A) NoMemory)

@@ -1,5 +1,5 @@
 -- What becomes of index expressions.
-use Rattle.std.proofs.Common.{◌≡◌, refl, sym, ap, ◌∙◌, subst, Bool, true, false, Option, Some, None, Result, Ok, Err}
+use Rattle.std.proofs.Common.{◌≡◌, sym, ap, ◌∙◌, subst, false, Option, Some, None, Result, Ok, Err}
 use Rattle.std.specs.Prelude.{ℤ, IfOk}
 use Rattle.std.specs.Global.{Box}
 use Rattle.std.specs.Option.{option_zip}
@@ -15,19 +15,17 @@ use Rattle.typed_parts.specs.declared.ground.Ground.{Ground}
 use Rattle.typed_parts.specs.declared.meaning.Given.{Given}
 use Rattle.typed_parts.specs.declared.meaning.Seen.{Seen}
 use Rattle.typed_parts.specs.declared.shapes.Shape.{Shape}
-use Rattle.typed_parts.specs.declared.shapes.Shape.TheVariants as shape
 use Rattle.typed_parts.specs.Adapting.{IsAssignedTo}
 use Rattle.typed_parts.specs.Joining.{beside}
-use Rattle.typed_parts.specs.Judged.{Comes, Judged, judged, reported, unsound}
+use Rattle.typed_parts.specs.Judged.{Comes, Judged, judged, reported}
 use Rattle.typed_parts.specs.Limits.{Basis, basis}
 use Rattle.typed_parts.specs.Meanings.{one_value}
 use Rattle.typed_parts.specs.Nodes.{node}
 use Rattle.typed_parts.specs.Turning.{Asks, Keeps, Soundly, Turned, Turns}
 use Rattle.typed_parts.specs.Wholes.{IsTextTyped, IsWhole}
 use Rattle.typed_parts.proofs.Turns.{asks, came, first_came, followed, keeps, nothing, nothing_came, outcome_of, second_stays, something}
-use Rattle.typed_parts.proofs.Turns.{stays}
 use Rattle.typed_primaries.specs.Indexing.{IsAt, IsElement, IsElementAt, IsElementBy, IsElementOf, IsIndex, IsIndexExpression, IsIndexed, IsIndexedAfter}
-use Rattle.typed_primaries.specs.Indexing.{IsIndexedBy, IsMapElement, IsNumbered, IsOfMap, index_below, index_form, indexed}
+use Rattle.typed_primaries.specs.Indexing.{IsIndexedBy, IsMapElement, IsNumbered, IsOfMap, index_below, indexed}
 use Rattle.typed_primaries.specs.Indexing.{known_length, map_form, map_types, numbered}
 use Rattle.typed_parts.specs.Made.{IsOnTwo}
 use Rattle.typed_primaries.specs.Steps.{IsDereferenced}

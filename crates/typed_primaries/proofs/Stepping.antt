@@ -1,5 +1,5 @@
 -- What becomes of steps along fields and pointers.
-use Rattle.std.proofs.Common.{◌≡◌, ℕ, ◌+◌, ◌<◌, refl, sym, ap, ◌∙◌, subst, List, [], ◌∷◌, ◌++◌, length, get_or, take, Option, Some, None}
+use Rattle.std.proofs.Common.{◌≡◌, ℕ, ◌+◌, ◌<◌, refl, sym, ap, ◌∙◌, subst, List, length, get_or, take, Option, Some, None}
 use Rattle.std.proofs.Common.{Result, Ok, Err}
 use Rattle.std.proofs.lemmas.List.{take_more}
 use Rattle.std.proofs.Math.Seq.{take-length}
@@ -7,22 +7,20 @@ use Rattle.std.specs.Prelude.{IfOk}
 use Rattle.std.specs.Global.{Box}
 use Rattle.go_base.specs.declared.ids.TypeId.{TypeId}
 use Rattle.go_base.specs.declared.memory.NoMemory.{NoMemory}
-use Rattle.go_base.specs.declared.place.Pos.{Pos}
 use Rattle.go_tree.specs.declared.exprs.ExprKind.TheVariants.{AddressOf, Deref, FieldOf}
 use Rattle.go_tree.specs.declared.exprs.TypedExpr.{TypedExpr}
 use Rattle.go_type.specs.declared.term.TypeTerm.TheVariants.{Pointer}
-use Rattle.go_type.specs.Table.{Table, term_at, with_term}
+use Rattle.go_type.specs.Table.{Table}
 use Rattle.typed_parts.specs.declared.ground.Ground.{Ground}
-use Rattle.typed_parts.specs.Joining.{beside, sound}
-use Rattle.typed_parts.specs.Judged.{IsFine, Judged, fine}
+use Rattle.typed_parts.specs.Joining.{beside}
+use Rattle.typed_parts.specs.Judged.{fine}
 use Rattle.typed_parts.specs.Nodes.{node}
 use Rattle.typed_parts.specs.Shapes.{pointed}
-use Rattle.typed_parts.specs.Limits.{Basis, basis}
-use Rattle.typed_parts.specs.Turning.{Asks, IsHeld, Keeps, Turned, Turns}
+use Rattle.typed_parts.specs.Limits.{basis}
+use Rattle.typed_parts.specs.Turning.{IsHeld, Turned, Turns}
 use Rattle.typed_parts.proofs.Turns.{came, first_came, second_stays, stays, then_soundly}
-use Rattle.typed_parts.specs.Made.{IsOnOne}
 use Rattle.typed_primaries.specs.Steps.{IsAddress, IsAddressOf, IsAddressed, IsAlong, IsBehind, IsDereferenced, IsFieldOf}
-use Rattle.typed_primaries.specs.Steps.{IsPointerTo, field_form, field_type}
+use Rattle.typed_primaries.specs.Steps.{IsPointerTo, field_type}
 
 pub behind_pointer : (types : Table) (x made : TypedExpr) (o : Option TypeId) (base : TypeId) (b : Box TypedExpr)
     → o ≡ pointed types x.of → o ≡ Some base → b.value ≡ x → made ≡ node x.at base (Deref b) → IsDereferenced types x made

@@ -1,2 +1,5 @@
 pub mod Steps
 pub mod Indexing
+pub mod Slicing
+pub mod Asserting
+pub mod Selecting

@@ -1,5 +1,15 @@
 //! Selectors, method values and method expressions. Go specification, "Selectors", "Method expressions" and "Method values".
 
+ghost use Rattle.std.specs.Prelude.{◌≡◌, ◌++◌, ◌↔◌, IfOk, IsTrue, OnOk};
+ghost use Rattle.std.specs.List.{list_any};
+ghost use Rattle.go_type.specs.Selector.{is_wanted};
+ghost use Rattle.go_type.specs.Table.{definition_at};
+ghost use Rattle.typed_parts.specs.Joining.{sound};
+ghost use Rattle.typed_parts.specs.Judged.{Comes, reported};
+ghost use Rattle.typed_parts.specs.Turning.{Turns};
+ghost use Rattle.typed_parts.specs.Made.{IsOnOne};
+ghost use Rattle.typed_primaries.specs.Selecting.{HasMethod, IsBoundMethod, IsConcreteMethod, IsFieldOrMethod, IsMethodExpression, IsMethodOf, IsPrefixed, IsReceiver, IsSelectedBy, IsSelectedOf, IsSelection, IsSelector, by_pointer, by_pointer_in, has_address, receiver_asked, value_form, wanted, with_first};
+
 use crate::steps::{addressed, along, dereferenced};
 use go_base::{FuncId, NameId, NoMemory, Pos, Rule, TypeId};
 use go_rules::untyped_kind;
@@ -8,8 +18,9 @@ use go_type::{
     MethodEntry, SelectError, Selection, SelectionKind, Signature, TypeIds, TypeTerm,
     find_selector, method_set,
 };
+use std::alloc::Global;
 use typed_parts::{
-    Given, Ground, Meaning, Seen, both, boxed, is_place, lost, node, only, pointed, single, sound,
+    Given, Ground, Meaning, Seen, beside, boxed, is_place, lost, node, only, pointed, single, sound,
 };
 
 /// A name that is selected.
@@ -29,7 +40,9 @@ pub fn selector(
     name_at: Pos,
     name: NameId,
     package: u32,
-) -> Result<Option<TypedExpr>, NoMemory> {
+) -> Result<Option<TypedExpr>, NoMemory>
+    ensures { Turns ground.old ground.new result (IsSelector x (record { at = name_at; name = name; «package» = «package» })) }
+{
     let selected = Selected {
         at: name_at,
         name,
@@ -43,10 +56,10 @@ pub fn selector(
             ground.report(at, Rule::BadBuiltInCall);
             Ok(None)
         }
-        Some(Meaning::Value(expr)) => {
-            let x = single(ground, Given { at, expr });
-            field_or_method(ground, x, selected)
-        }
+        Some(Meaning::Value(expr)) => match single(ground, Given { at, expr }) {
+            Some(x) => field_or_method(ground, x, selected),
+            None => Ok(None),
+        },
     }
 }
 
@@ -55,7 +68,9 @@ fn selection_of(
     ground: &mut Ground,
     of: TypeId,
     selected: Selected,
-) -> Result<Option<Selection>, NoMemory> {
+) -> Result<Option<Selection>, NoMemory>
+    ensures { Comes ground.old ground.new result (IsSelection ground.old.types of selected) }
+{
     if untyped_kind(&ground.types, of).is_some() {
         ground.report(selected.at, Rule::NoSuchFieldOrMethod);
         return Ok(None);
@@ -83,31 +98,54 @@ fn selection_of(
 /// What is selected of a value.
 fn field_or_method(
     ground: &mut Ground,
-    x: Option<Given>,
+    x: Given,
     selected: Selected,
-) -> Result<Option<TypedExpr>, NoMemory> {
-    let Some(x) = x else {
-        return Ok(None);
-    };
-    let selection = selection_of(ground, x.expr.of, selected);
-    let Some((selection, x)) = both(selection, Ok(Some(x)))? else {
-        return Ok(None);
-    };
+) -> Result<Option<TypedExpr>, NoMemory>
+    ensures { Turns ground.old ground.new result (IsFieldOrMethod selected x) }
+{
+    let (selection, x) = beside(selection_of(ground, x.expr.of, selected), x)?;
+    match selection.zip(Some(x)) {
+        Some((selection, x)) => selected_by(ground, x.expr, selection, selected),
+        None => Ok(None),
+    }
+}
+
+/// What a selection leads to from a value.
+fn selected_by(
+    ground: &mut Ground,
+    expr: TypedExpr,
+    selection: Selection,
+    selected: Selected,
+) -> Result<Option<TypedExpr>, NoMemory>
+    ensures { Turns ground.old ground.new result (IsSelectedBy selected expr selection) }
+{
     let (kind, result) = (selection.kind, selection.result);
-    let expr = along(ground, x.expr, selection.path.as_slice());
+    let expr = along(ground, expr, selection.path.as_slice());
     drop(selection);
-    let expr = expr?;
+    selected_of(ground, expr?, kind, result, selected)
+}
+
+/// A field, or a method of a value that fields lead to.
+fn selected_of(
+    ground: &mut Ground,
+    expr: TypedExpr,
+    kind: SelectionKind,
+    of: TypeId,
+    selected: Selected,
+) -> Result<Option<TypedExpr>, NoMemory>
+    ensures { Turns ground.old ground.new result (IsSelectedOf selected kind of expr) }
+{
     match kind {
         SelectionKind::Field => Ok(Some(expr)),
         SelectionKind::Method(function) => {
-            concrete_method(ground, expr, function, result, selected.at)
+            concrete_method(ground, expr, function, of, selected.at)
         }
         SelectionKind::InterfaceMethod => {
             let method = Method::Interface {
                 name: selected.name,
                 package: selected.package,
             };
-            sound(method_value(ground, expr, result, method))
+            sound(method_value(ground, expr, of, method))
         }
     }
 }
@@ -118,7 +156,9 @@ fn method_value(
     receiver: TypedExpr,
     of: TypeId,
     method: Method,
-) -> Result<TypedExpr, NoMemory> {
+) -> Result<TypedExpr, NoMemory>
+    ensures { IfOk result (IsOnOne receiver.at of (value_form method) receiver) }
+{
     let at = receiver.at;
     let receiver = boxed(ground, receiver)?;
     Ok(node(at, of, ExprKind::MethodValue { receiver, method }))
@@ -132,31 +172,74 @@ fn concrete_method(
     function: FuncId,
     signature: TypeId,
     name_at: Pos,
-) -> Result<Option<TypedExpr>, NoMemory> {
-    let owner = pointed(ground, expr.of).unwrap_or(expr.of);
-    let by_pointer = has_pointer_receiver(ground.types.methods(owner), function);
-    let may = !by_pointer || may_address(ground, &expr);
+) -> Result<Option<TypedExpr>, NoMemory>
+    ensures { Turns ground.old ground.new result (IsConcreteMethod name_at function signature expr) }
+{
+    match ask_receiver(ground, expr, function, name_at) {
+        Some(expr) => bound_method(ground, expr, function, signature),
+        None => Ok(None),
+    }
+}
+
+/// A method of a value that may be its receiver.
+fn bound_method(
+    ground: &mut Ground,
+    expr: TypedExpr,
+    function: FuncId,
+    signature: TypeId,
+) -> Result<Option<TypedExpr>, NoMemory>
+    ensures { Turns ground.old ground.new result (IsBoundMethod function signature expr) }
+{
+    let receiver = receiver(ground, expr, function)?;
+    sound(method_value(ground, receiver, signature, Method::Concrete(function)))
+}
+
+/// A value that may be the receiver of a method. `ReceiverNotAddressable` at the name.
+fn ask_receiver(
+    ground: &mut Ground,
+    expr: TypedExpr,
+    function: FuncId,
+    name_at: Pos,
+) -> Option<TypedExpr>
+    ensures answer { result ≡ (receiver_asked ground.old.types name_at function expr).sound }
+    ensures broken { ground.new ≡ reported ground.old (receiver_asked ground.old.types name_at function expr).broken }
+{
+    let may = !by_pointer(ground, expr.of, function) || has_address(ground, &expr);
     if !may {
         ground.report(name_at, Rule::ReceiverNotAddressable);
     }
-    let Some(expr) = only(Some(expr), may) else {
-        return Ok(None);
-    };
-    let receiver = if by_pointer {
+    only(Some(expr), may)
+}
+
+/// The receiver of a method: a pointer where the method takes one, and else the value itself.
+fn receiver(ground: &mut Ground, expr: TypedExpr, function: FuncId) -> Result<TypedExpr, NoMemory>
+    ensures { Turns ground.old ground.new (sound result) (IsReceiver function expr) }
+{
+    if by_pointer(ground, expr.of, function) {
         addressed(ground, expr)
     } else {
         dereferenced(ground, expr)
-    };
-    sound(method_value(ground, receiver?, signature, Method::Concrete(function)))
+    }
 }
 
 /// Whether a value is a pointer, or has an address.
-fn may_address(ground: &Ground, expr: &TypedExpr) -> bool {
+fn has_address(ground: &Ground, expr: &TypedExpr) -> bool
+    ensures { result ≡ has_address ground.now.types expr.now }
+{
     pointed(ground, expr.of).is_some() || is_place(expr)
 }
 
-/// Whether a method among those of a type has a pointer as its receiver.
-fn has_pointer_receiver(methods: &[MethodEntry], function: FuncId) -> bool {
+/// Whether a method of a type, or of what it points to, has a pointer as its receiver.
+fn by_pointer(ground: &Ground, of: TypeId, function: FuncId) -> bool
+    ensures { result ≡ by_pointer ground.now.types of function }
+{
+    let owner = pointed(ground, of).unwrap_or(of);
+    by_pointer_in(ground.types.methods(owner), function)
+}
+
+fn by_pointer_in(methods: &[MethodEntry], function: FuncId) -> bool
+    ensures { result ≡ by_pointer_in methods.now function }
+{
     for method in methods {
         if method.kind == SelectionKind::Method(function) {
             return method.pointer;
@@ -171,7 +254,9 @@ fn method_expression(
     at: Pos,
     of: TypeId,
     selected: Selected,
-) -> Result<Option<TypedExpr>, NoMemory> {
+) -> Result<Option<TypedExpr>, NoMemory>
+    ensures { Turns ground.old ground.new result (IsMethodExpression at of selected) }
+{
     let Some(selection) = selection_of(ground, of, selected)? else {
         return Ok(None);
     };
@@ -179,11 +264,24 @@ fn method_expression(
         ground.report(selected.at, Rule::NoSuchFieldOrMethod);
         return Ok(None);
     }
-    let Some(function) = with_receiver(ground, of, selection.result)? else {
-        return Err(lost());
-    };
-    let fits = ground.within_limits(at, function)?;
-    Ok(fits.then_some(node(
+    method_of(ground, at, of, selected, selection)
+}
+
+/// A method of the method set of a type. `TypeTooLarge` where its function type is.
+fn method_of(
+    ground: &mut Ground,
+    at: Pos,
+    of: TypeId,
+    selected: Selected,
+    selection: Selection,
+) -> Result<Option<TypedExpr>, NoMemory>
+    ensures { Turns ground.old ground.new result (IsMethodOf at of selected selection) }
+{
+    let function = with_receiver(ground, of, selection.result)?;
+    if !ground.within_limits(at, function)? {
+        return Ok(None);
+    }
+    Ok(Some(node(
         at,
         function,
         ExprKind::MethodExpr {
@@ -195,14 +293,18 @@ fn method_expression(
 }
 
 /// Whether the method set of a type has the method.
-fn has_method(ground: &Ground, of: TypeId, selected: Selected) -> Result<bool, NoMemory> {
+fn has_method(ground: &Ground, of: TypeId, selected: Selected) -> Result<bool, NoMemory>
+    ensures { IfOk result (λ has. IsTrue has ↔ HasMethod ground.now.types of selected) }
+{
     let methods = method_set(ground.alloc, &ground.types, of)?;
     Ok(is_among(methods.as_slice(), selected))
 }
 
-fn is_among(methods: &[MethodEntry], selected: Selected) -> bool {
+fn is_among(methods: &[MethodEntry], selected: Selected) -> bool
+    ensures { result ≡ list_any (λ entry. is_wanted (wanted selected) entry.name entry.«package») methods.now }
+{
     for method in methods {
-        if method.name == selected.name && method.package == selected.package {
+        if selected.name == method.name && selected.package == method.package {
             return true;
         }
     }
@@ -214,23 +316,32 @@ fn with_receiver(
     ground: &mut Ground,
     receiver: TypeId,
     function: TypeId,
-) -> Result<Option<TypeId>, NoMemory> {
+) -> Result<TypeId, NoMemory>
+    ensures { Turns ground.old ground.new (sound result) (IsPrefixed receiver function) }
+{
     let Some(TypeTerm::Func(signature)) = ground.types.underlying_term(function) else {
-        return Ok(None);
+        return Err(lost());
     };
-    let mut params = TypeIds::new(ground.alloc);
-    params.push(receiver)?;
-    push_all(&mut params, signature.params.as_slice())?;
-    let longer = Signature {
-        params,
-        results: signature.results.copy(ground.alloc)?,
-        variadic: signature.variadic,
-    };
-    let id = ground.hold(TypeTerm::Func(longer))?;
-    Ok(Some(id))
+    let longer = longer(ground.alloc, receiver, signature)?;
+    ground.hold(TypeTerm::Func(longer))
 }
 
-fn push_all(ids: &mut TypeIds, more: &[TypeId]) -> Result<(), NoMemory> {
+fn longer(alloc: Global, receiver: TypeId, signature: &Signature) -> Result<Signature, NoMemory>
+    ensures { IfOk result (λ made. made ≡ with_first receiver signature.now) }
+{
+    let mut params = TypeIds::new(alloc);
+    params.push(receiver)?;
+    push_all(&mut params, signature.params.as_slice())?;
+    Ok(Signature {
+        params,
+        results: signature.results.copy(alloc)?,
+        variadic: signature.variadic,
+    })
+}
+
+fn push_all(ids: &mut TypeIds, more: &[TypeId]) -> Result<(), NoMemory>
+    ensures { OnOk result (ids.new ≡ ids.old ++ more.now) }
+{
     for id in more {
         ids.push(*id)?;
     }

@@ -5,7 +5,8 @@ use Rattle.typed_parts.specs.Joining.{beside}
 use Rattle.typed_calls.specs.Converting.{MayConvert}
 use Rattle.typed_calls.specs.Converting.{IsTypedConverted}
 use Rattle.typed_parts.specs.Turning.{Turns}
-use Rattle.typed_calls.proofs.Converts.{if_came, typed_made, typed_refused}
+use Rattle.typed_built_ins.proofs.Asks.{if_came}
+use Rattle.typed_calls.proofs.Converts.{typed_made, typed_refused}
 use Rattle.typed_calls.proofs.converting.converted_typed.Goals as goal
 use Rattle.typed_parts.proofs.Turns.{first_came, second_stays}
 

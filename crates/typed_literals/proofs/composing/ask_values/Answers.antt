@@ -1,7 +1,7 @@
-use Rattle.std.proofs.Common.{◌≡◌, refl, sym, ap, ◌∙◌, List, [], ◌∷◌, ◌++◌, length, append_assoc, arith}
+use Rattle.std.proofs.Common.{◌≡◌, ap, ◌∙◌, [], ◌∷◌, ◌++◌, length, append_assoc, arith}
 use Rattle.std.specs.Vec.Iter.{into_iter_items}
 use Rattle.go_type.specs.Table.{Table}
-use Rattle.typed_parts.specs.Judged.{Broken, reported}
+use Rattle.typed_parts.specs.Judged.{reported}
 use Rattle.typed_parts.specs.Meanings.{one_value}
 use Rattle.typed_literals.specs.declared.composing.Entry.{Entry}
 use Rattle.typed_literals.specs.Composing.{values_broken}

@@ -1,12 +1,9 @@
-use Rattle.std.proofs.Common.{◌≡◌, sym, ◌∙◌, subst, Ok, ap}
+use Rattle.std.proofs.Common.{◌≡◌, sym, ◌∙◌, subst, Ok}
 use Rattle.std.specs.Prelude.{IfOk}
-use Rattle.go_base.specs.declared.ids.TypeId.{TypeId}
-use Rattle.go_tree.specs.declared.exprs.ExprKind.TheVariants.{AddressOf}
 use Rattle.go_tree.specs.declared.exprs.TypedExpr.{TypedExpr}
 use Rattle.go_type.specs.declared.term.TypeTerm.TheVariants.{Pointer}
 use Rattle.typed_parts.specs.Adapting.{IsMade}
 use Rattle.typed_parts.specs.Joining.{beside}
-use Rattle.typed_parts.specs.Nodes.{node}
 use Rattle.typed_parts.proofs.Turns.{first_came, held, second_stays}
 use Rattle.typed_literals.specs.Composing.{composite}
 use Rattle.typed_literals.proofs.Composes.{node_address, node_plain}

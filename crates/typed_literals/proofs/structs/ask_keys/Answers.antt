@@ -1,4 +1,4 @@
-use Rattle.std.proofs.Common.{◌≡◌, ap, sym, ◌∙◌, ◌+◌, take}
+use Rattle.std.proofs.Common.{ap, sym, ◌∙◌, ◌+◌, take}
 use Rattle.std.specs.Prelude.{not, ◌&&◌, Bool}
 use Rattle.typed_literals.specs.Composing.{broken_where}
 use Rattle.typed_literals.specs.Structs.{are_alike, is_alike, unlike_broken}

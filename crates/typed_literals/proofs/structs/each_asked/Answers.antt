@@ -1,8 +1,8 @@
-use Rattle.std.proofs.Common.{◌≡◌, refl, sym, ap, ◌∙◌, List, [], ◌∷◌, ◌++◌, length, append_assoc, arith, Option}
+use Rattle.std.proofs.Common.{◌≡◌, sym, ap, ◌∙◌, List, [], ◌∷◌, ◌++◌, length, append_assoc, arith, Option}
 use Rattle.std.specs.Vec.Iter.{into_iter_items}
 use Rattle.go_type.specs.Table.{Table}
 use Rattle.typed_parts.specs.declared.meaning.Given.{Given}
-use Rattle.typed_parts.specs.Judged.{Broken, reported}
+use Rattle.typed_parts.specs.Judged.{reported}
 use Rattle.typed_parts.specs.Meanings.{one_value}
 use Rattle.typed_literals.specs.declared.composing.FieldEntry.{FieldEntry}
 use Rattle.typed_literals.specs.declared.structs.Element.{Element}

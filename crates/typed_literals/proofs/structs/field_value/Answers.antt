@@ -1,6 +1,5 @@
-use Rattle.std.proofs.Common.{◌≡◌, ap, sym, Option, Some, None}
+use Rattle.std.proofs.Common.{ap, sym, Some, None}
 use Rattle.std.specs.Option.{option_map}
-use Rattle.go_tree.specs.declared.exprs.TypedExpr.{TypedExpr}
 use Rattle.typed_literals.specs.Structs.{init_of}
 use Rattle.typed_literals.proofs.Structures.{value_of}
 use Rattle.typed_literals.proofs.structs.field_value.Goals as goal

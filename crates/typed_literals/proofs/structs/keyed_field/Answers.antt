@@ -1,4 +1,4 @@
-use Rattle.std.proofs.Common.{◌≡◌, ℕ, sym, ap, subst, ◌∙◌, Some, None, Ok, Bool, true}
+use Rattle.std.proofs.Common.{◌≡◌, sym, ap, subst, ◌∙◌, Some, Ok, Bool, true}
 use Rattle.std.specs.Option.{option_zip}
 use Rattle.std.specs.Prelude.{not, nat_eq}
 use Rattle.indexmap.specs.IndexSet.{Updates, contains}

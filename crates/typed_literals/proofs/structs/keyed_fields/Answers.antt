@@ -1,19 +1,16 @@
-use Rattle.std.proofs.Common.{◌≡◌, ℕ, refl, sym, ap, ◌∙◌, subst, List, [], ◌∷◌, ◌++◌, length, append-nil, append_assoc, Option, arith, rules}
-use Rattle.std.specs.Vec.Iter.{into_iter_items, into_iter_len}
+use Rattle.std.proofs.Common.{◌≡◌, ℕ, refl, sym, ap, ◌∙◌, subst, List, [], ◌∷◌, ◌++◌, length, append-nil, append_assoc, arith, rules}
+use Rattle.std.specs.Vec.Iter.{into_iter_items}
 use Rattle.std.proofs.lemmas.List.{nil_from_length}
 use Rattle.std.specs.Prelude.{nat_eq}
 use Rattle.std.specs.List.{list_any}
-use Rattle.go_base.specs.declared.memory.NoMemory.{NoMemory}
-use Rattle.go_tree.specs.declared.exprs.FieldInit.{FieldInit}
 use Rattle.go_type.specs.Table.{Table}
 use Rattle.typed_parts.specs.Joining.{items_of}
-use Rattle.typed_parts.specs.Judged.{Outcome}
 use Rattle.typed_parts.specs.Turning.{IsEach, Turned}
 use Rattle.typed_parts.proofs.Turns.{each_more, each_none}
 use Rattle.typed_literals.specs.declared.structs.Element.{Element}
 use Rattle.typed_parts.specs.Shapes.{fields_of}
 use Rattle.typed_literals.specs.Structs.{AreTaken, IsKeyed}
-use Rattle.typed_literals.proofs.Keys.{IsKeyedAt, keyed_at, kept_types, on_ok}
+use Rattle.typed_literals.proofs.Keys.{IsKeyedAt, keyed_at, kept_types}
 use Rattle.typed_literals.proofs.structs.keyed_fields.Goals as goal
 
 pub loop-element-init : goal.loop-element-init

@@ -1,8 +1,6 @@
 use Rattle.std.proofs.Common.{◌≡◌, sym, ◌∙◌, subst, Some, None}
 use Rattle.std.specs.Option.{option_zip}
-use Rattle.go_tree.specs.declared.exprs.FieldInit.{FieldInit}
 use Rattle.typed_parts.specs.Judged.{Comes}
-use Rattle.typed_parts.proofs.Steps.{nothing_came}
 use Rattle.typed_literals.specs.declared.structs.Element.{Element}
 use Rattle.typed_parts.specs.Shapes.{fields_of}
 use Rattle.typed_literals.specs.Structs.{IsValueOf, listed_field}

@@ -1,4 +1,4 @@
-use Rattle.std.proofs.Common.{◌≡◌, sym, ◌∙◌, List, Some}
+use Rattle.std.proofs.Common.{sym, ◌∙◌, List, Some}
 use Rattle.go_tree.specs.declared.exprs.FieldInit.{FieldInit}
 use Rattle.typed_parts.specs.Joining.{listed, only}
 use Rattle.typed_parts.proofs.Turns.{nothing, nothing_came, something}

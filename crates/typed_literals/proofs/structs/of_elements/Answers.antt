@@ -1,10 +1,9 @@
-use Rattle.std.proofs.Common.{◌≡◌, ap, sym, subst, ◌∙◌, List, Some, None, Option, Result}
+use Rattle.std.proofs.Common.{◌≡◌, ap, sym, subst, ◌∙◌, List, Option, Result}
 use Rattle.go_base.specs.declared.memory.NoMemory.{NoMemory}
 use Rattle.go_tree.specs.declared.exprs.Elements.TheVariants.{Fields}
 use Rattle.go_tree.specs.declared.exprs.TypedExpr.{TypedExpr}
 use Rattle.std.specs.Prelude.{Bool}
-use Rattle.typed_parts.specs.declared.ground.Ground.{Ground}
-use Rattle.typed_parts.specs.Joining.{items_of, only}
+use Rattle.typed_parts.specs.Joining.{items_of}
 use Rattle.typed_parts.specs.Turning.{Turned, Turns}
 use Rattle.typed_parts.specs.Judged.{reported}
 use Rattle.typed_literals.specs.declared.structs.Element.{Element}

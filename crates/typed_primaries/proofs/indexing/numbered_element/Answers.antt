@@ -3,7 +3,6 @@ use Rattle.std.specs.Option.{option_zip}
 use Rattle.go_base.specs.declared.memory.NoMemory.{NoMemory}
 use Rattle.go_tree.specs.declared.exprs.TypedExpr.{TypedExpr}
 use Rattle.go_type.specs.Table.{Table}
-use Rattle.typed_parts.specs.Joining.{sound}
 use Rattle.typed_parts.specs.Turning.{Turns}
 use Rattle.typed_parts.proofs.Turns.{nothing, nothing_came, something}
 use Rattle.typed_primaries.specs.Indexing.{IsElement, IsElementOf}

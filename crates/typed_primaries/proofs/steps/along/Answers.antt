@@ -1,4 +1,4 @@
-use Rattle.std.proofs.Common.{◌≡◌, length, arith}
+use Rattle.std.proofs.Common.{arith}
 use Rattle.typed_primaries.specs.Steps.{IsAlong}
 use Rattle.typed_primaries.proofs.Stepping.{along_all, along_more}
 use Rattle.typed_primaries.proofs.steps.along.Goals as goal

@@ -1,0 +1,13 @@
+use Rattle.std.proofs.Common.{◌≡◌, ◌++◌, length}
+use Rattle.std.specs.Vec.Iter.{into_iter_items, into_iter_len}
+use Rattle.typed_parts.specs.Joining.{items_of}
+use Rattle.typed_literals.proofs.Gathering.{KnownSoFar}
+use Rattle.typed_literals.proofs.Items.{IsItemAt, IsRowSoFar}
+use Rattle.typed_literals.proofs.arrays.each_item.Given as goal
+
+abbrev pub invariant-loop-element : goal.invariant-loop-element
+invariant-loop-element l = record {
+  rest : l.yielded ++ into_iter_items l.element-iterator ≡ into_iter_items l.initial.element-iterator;
+  so_far : KnownSoFar l.fn.ground l.ground (IsItemAt l.fn.elem l.fn.limit) (IsRowSoFar l.fn.limit (items_of l.items) l.row) l.yielded (items_of l.items);
+  counted : into_iter_len l.element-iterator ≡ length (into_iter_items l.element-iterator);
+}
