@@ -11,6 +11,7 @@ use Rattle.code_safety.proofs.Machines.{IsThrown}
 use Rattle.code_safety.proofs.Sames.{under_plain, held_id, zip_tested, same_id_alike}
 use Rattle.code_safety.proofs.Shapes.{Alike, alike_sym, zip_turned}
 use Rattle.code_safety.proofs.Sites.{Among, KnownFits, Valued, HasValue}
+use Rattle.code_safety.proofs.Terms.{truth_term, any_term}
 use Rattle.code_safety.proofs.Values.{Typing, Fits, IsOf, AreOf, Points, PointsAs, HasSignature, under_of}
 use Rattle.go_base.specs.declared.ids.FuncId.{FuncId}
 use Rattle.go_base.specs.declared.ids.TypeId.{TypeId}
@@ -261,24 +262,12 @@ integer_kind c held f it of h kind = let k = known_of c f it of h in by k.0 k.1.
     by (known_as.Function id) is h = absurd (no_function (term_at c.types of) (means.function_at c id) refl h)
     by (known_as.Address base) is h = absurd (no_address (term_at c.types of) base refl h)
 
-pub truth_is : (of : Option TypeTerm) → is_truth of ≡ true → of ≡ Some (term.Basic basic.Bool)
-truth_is (Some (term.Basic basic.Bool)) h = refl
-truth_is _ h = absurd (true≢false (sym h))
-
 pub truth_value : (t : Typing) (s : Site) (it : Operand) → HasValue t s it
     → is_truth_operand s.code s.function it ≡ true → (b : Bool) × (value s it ≡ Some (truth b))
 truth_value t s it has h =
-    let v = shape_value t s it has (term.Basic basic.Bool) (truth_is (shape s.code s.function it) h) in
+    let v = shape_value t s it has (term.Basic basic.Bool) (truth_term (shape s.code s.function it) h) in
     let b = truth_in s.code t v.0 v.1.1 in
     (b.0, v.1.0 ∙ ap Some b.1)
-
-none_of : (methods : List MethodType) → (length methods == 0) ≡ true → methods ≡ []
-none_of [] h = refl
-none_of (method ∷ methods) h = absurd (let e = (unsigned_Decides (length (method ∷ methods)) 0).0 h in omega arith)
-
-any_is : (of : Option TypeTerm) → is_any of ≡ true → of ≡ Some (term.Interface [])
-any_is (Some (term.Interface methods)) h = ap (λ methods. Some (term.Interface methods)) (none_of methods h)
-any_is _ h = absurd (true≢false (sym h))
 
 pub any_value : (t : Typing) (s : Site) → IsHeld s.code.types → (it : Operand) → HasValue t s it
     → is_any_operand s.code s.function it ≡ true → (v : Val) × ((value s it ≡ Some v) × IsThrown s.code t v)
@@ -293,7 +282,7 @@ any_value t s held it has h = by (held_type (known s.code s.function it)) refl h
           (
             v.1.0,
             subst (λ term. Fits s.code t v.0 term)
-                (under_plain s.code.types held of (term.Interface []) (any_is (term_at s.code.types of) h) refl) v.1.1,
+                (under_plain s.code.types held of (term.Interface []) (any_term (term_at s.code.types of) h) refl) v.1.1,
           ),
         )
 
