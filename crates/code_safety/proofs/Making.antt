@@ -39,7 +39,7 @@ use Rattle.ssa_mean.specs.Step.{Site, value, with_integer, make_slice, make_chan
 use Rattle.ssa_mean.specs.Zeros.{zero_of}
 use Rattle.ssa_typed.specs.Forms.{FitsGiving, fits_giving}
 use Rattle.ssa_typed.specs.Operands.{is_integer_operand}
-use Rattle.type_shapes.specs.Shapes.{is_pointer_to, is_map, is_slice, is_chan}
+use Rattle.type_shapes.specs.Shapes.{is_map, is_slice, is_chan}
 
 -- ---- what types are
 

@@ -1,7 +1,7 @@
 -- What operands are, from what typed code says of them.
-use Rattle.std.proofs.Common.{◌≡◌, inl, inr, ℕ, ℤ, zero, suc, Bool, true, false, true≢false, ◌==◌, List, [], ◌∷◌, length, Option, Some, None, refl, sym, subst, ap, ◌∙◌, slice_get, is_some, if◌then◌else◌, option_map, arith}
+use Rattle.std.proofs.Common.{◌≡◌, inl, inr, ℕ, ℤ, zero, suc, Bool, true, false, true≢false, List, [], ◌∷◌, Option, Some, None, refl, sym, subst, ap, ◌∙◌, slice_get, is_some, if◌then◌else◌, option_map}
 use Rattle.std.proofs.lemmas.Option.{none-some, cond_some, option_and_then_some}
-use Rattle.std.specs.Cmp.{booleans_Decides, unsigned_Decides}
+use Rattle.std.specs.Cmp.{booleans_Decides}
 use Rattle.std.specs.Cmp.Lexicographic.{pointwise}
 use Rattle.std.specs.List.{AllZip}
 use Rattle.std.specs.Option.{option_and_then}
@@ -21,7 +21,6 @@ use Rattle.go_type.specs.Same.{both, each, same_id, same_id-Decides, same_ids, s
 use Rattle.go_type.specs.Sizes.{is_declared}
 use Rattle.go_type.specs.Table.{Table, term_at}
 use Rattle.go_type.specs.declared.term.Basic.TheVariants as basic
-use Rattle.go_type.specs.declared.term.MethodType.{MethodType}
 use Rattle.go_type.specs.declared.term.Signature.{Signature}
 use Rattle.go_type.specs.declared.term.TypeTerm.{TypeTerm}
 use Rattle.go_type.specs.declared.term.TypeTerm.TheVariants as term
@@ -38,7 +37,7 @@ use Rattle.ssa_typed.specs.Operands.{known, is_known, is_operand, shape, held_ty
 use Rattle.ssa_typed.specs.Operands.{is_function_type, is_signature, is_value, type_of, address_of, value_of, has_constant, term_of, is_integer_type, is_any_type, pointee_of}
 use Rattle.ssa_typed.specs.declared.known.Known.{Known}
 use Rattle.ssa_typed.specs.declared.known.Known.TheVariants as known_as
-use Rattle.type_shapes.specs.Shapes.{is_truth, is_any, is_pointer_to, base_of}
+use Rattle.type_shapes.specs.Shapes.{is_pointer_to, base_of}
 
 -- something is known of an operand of a type
 pub known_of : (c : Code) (f : Function) (it : Operand) (of : TypeId) → is_operand c f it of ≡ true

@@ -24,7 +24,6 @@ use Rattle.go_type.specs.declared.operators.CompareOp.TheVariants as comparison
 use Rattle.go_type.specs.declared.operators.UnaryOp.{UnaryOp}
 use Rattle.go_type.specs.declared.operators.UnaryOp.TheVariants as unary_op
 use Rattle.go_type.specs.declared.term.Basic.TheVariants as basic
-use Rattle.go_type.specs.declared.term.TypeTerm.{TypeTerm}
 use Rattle.go_type.specs.declared.term.TypeTerm.TheVariants as term
 use Rattle.go_value.specs.Ints.{operated, shift_value, wrapped}
 use Rattle.go_value.specs.Values.{Val, truth, number, text}
