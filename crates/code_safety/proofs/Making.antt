@@ -13,6 +13,7 @@ use Rattle.code_safety.proofs.Sames.{under_plain}
 use Rattle.code_safety.proofs.Shapes.{alike_self}
 use Rattle.code_safety.proofs.Sites.{Reads}
 use Rattle.code_safety.proofs.Stores.{with_home, home_grows, makes, new_home, with_map_home, map_home_grows, new_slices, array_fits}
+use Rattle.code_safety.proofs.Terms.{there, pointer_term}
 use Rattle.code_safety.proofs.Values.{Typing, one, many, MapHome, Fits, IsOf, IsStore, EntriesFit, PointsInto, under_of}
 use Rattle.code_safety.proofs.Zeros.{zero_fits}
 use Rattle.go_base.specs.declared.ids.TypeId.{TypeId}
@@ -38,17 +39,9 @@ use Rattle.ssa_mean.specs.Step.{Site, value, with_integer, make_slice, make_chan
 use Rattle.ssa_mean.specs.Zeros.{zero_of}
 use Rattle.ssa_typed.specs.Forms.{FitsGiving, fits_giving}
 use Rattle.ssa_typed.specs.Operands.{is_integer_operand}
-use Rattle.type_shapes.specs.Shapes.{is_pointer_to, is_map, is_slice, is_chan}
+use Rattle.type_shapes.specs.Shapes.{is_map, is_slice, is_chan}
 
 -- ---- what types are
-
-pub some_of : {A : Type 0} (it : Option A) → is_some it ≡ true → (x : A) × (it ≡ Some x)
-some_of None h = absurd (true≢false (sym h))
-some_of (Some x) h = (x, refl)
-
-pub points_to : (of : Option TypeTerm) (base : TypeId) → is_pointer_to of base ≡ true → of ≡ Some (term.Pointer base)
-points_to (Some (term.Pointer other)) base h = ap (λ id. Some (term.Pointer id)) ((same_id-Decides other base).0 h)
-points_to _ base h = absurd (true≢false (sym h))
 
 map_is : (of : Option TypeTerm) → is_map of ≡ true → (key elem : TypeId) × (of ≡ Some (term.Map key elem))
 map_is (Some (term.Map key elem)) h = (key, elem, refl)
@@ -74,9 +67,9 @@ unfolding FitsGiving fits_giving
 new_comes t s base reads of typed =
     let c = s.code in
     let store = s.machine.store in
-    let zero = some_of (zero_of c base) (both (has_zero c (Some base)) _ reads.runnable).0 in
+    let zero = there (zero_of c base) (both (has_zero c (Some base)) _ reads.runnable).0 in
     let grown = with_home (one base) t in
-    let under = under_plain c.types reads.safe.held of (term.Pointer base) (points_to (term_at c.types of) base typed) refl in
+    let under = under_plain c.types reads.safe.held of (term.Pointer base) (pointer_term (term_at c.types of) base typed) refl in
     let into : PointsInto c grown (record { number = length store.cells }) [] base =
     record { home = one base; there = new_home c t store (one base) reads.store; of = base; at = refl; alike = alike_self c.types base } in
     let fit : StoresFit c t of (pointer (new_pointer store)) (made store zero.0) =
@@ -187,7 +180,7 @@ make_slice_comes t s made len cap reads of typed =
     let elem = is.0 in
     let element : element_in (under_of c made) ≡ Some elem =
     ap (λ id. element_in (under_of c id)) ((same_id-Decides made of).0 k.0) ∙ ap element_in is.1 in
-    let zero = some_of (zero_of c elem)
+    let zero = there (zero_of c elem)
     (sym (ap (λ found. is_some (option_and_then (zero_of c) found)) element) ∙ (both (has_zero c (element_in (under_of c made))) _ reads.runnable).0) in
     let n = integer_value t s len (reads.values len (inl refl)) m.0 in
     let o = integer_value t s cap (reads.values cap (inr (inl refl))) m.1 in

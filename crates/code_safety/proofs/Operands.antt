@@ -1,7 +1,7 @@
 -- What operands are, from what typed code says of them.
-use Rattle.std.proofs.Common.{◌≡◌, inl, inr, ℕ, ℤ, zero, suc, Bool, true, false, true≢false, ◌==◌, List, [], ◌∷◌, length, Option, Some, None, refl, sym, subst, ap, ◌∙◌, slice_get, is_some, if◌then◌else◌, option_map, arith}
+use Rattle.std.proofs.Common.{◌≡◌, inl, inr, ℕ, ℤ, zero, suc, Bool, true, false, true≢false, List, [], ◌∷◌, Option, Some, None, refl, sym, subst, ap, ◌∙◌, slice_get, is_some, if◌then◌else◌, option_map}
 use Rattle.std.proofs.lemmas.Option.{none-some, cond_some, option_and_then_some}
-use Rattle.std.specs.Cmp.{booleans_Decides, unsigned_Decides}
+use Rattle.std.specs.Cmp.{booleans_Decides}
 use Rattle.std.specs.Cmp.Lexicographic.{pointwise}
 use Rattle.std.specs.List.{AllZip}
 use Rattle.std.specs.Option.{option_and_then}
@@ -11,6 +11,7 @@ use Rattle.code_safety.proofs.Machines.{IsThrown}
 use Rattle.code_safety.proofs.Sames.{under_plain, held_id, zip_tested, same_id_alike}
 use Rattle.code_safety.proofs.Shapes.{Alike, alike_sym, zip_turned}
 use Rattle.code_safety.proofs.Sites.{Among, KnownFits, Valued, HasValue}
+use Rattle.code_safety.proofs.Terms.{truth_term, any_term}
 use Rattle.code_safety.proofs.Values.{Typing, Fits, IsOf, AreOf, Points, PointsAs, HasSignature, under_of}
 use Rattle.go_base.specs.declared.ids.FuncId.{FuncId}
 use Rattle.go_base.specs.declared.ids.TypeId.{TypeId}
@@ -20,7 +21,6 @@ use Rattle.go_type.specs.Same.{both, each, same_id, same_id-Decides, same_ids, s
 use Rattle.go_type.specs.Sizes.{is_declared}
 use Rattle.go_type.specs.Table.{Table, term_at}
 use Rattle.go_type.specs.declared.term.Basic.TheVariants as basic
-use Rattle.go_type.specs.declared.term.MethodType.{MethodType}
 use Rattle.go_type.specs.declared.term.Signature.{Signature}
 use Rattle.go_type.specs.declared.term.TypeTerm.{TypeTerm}
 use Rattle.go_type.specs.declared.term.TypeTerm.TheVariants as term
@@ -37,7 +37,7 @@ use Rattle.ssa_typed.specs.Operands.{known, is_known, is_operand, shape, held_ty
 use Rattle.ssa_typed.specs.Operands.{is_function_type, is_signature, is_value, type_of, address_of, value_of, has_constant, term_of, is_integer_type, is_any_type, pointee_of}
 use Rattle.ssa_typed.specs.declared.known.Known.{Known}
 use Rattle.ssa_typed.specs.declared.known.Known.TheVariants as known_as
-use Rattle.type_shapes.specs.Shapes.{is_truth, is_any, is_pointer_to, base_of}
+use Rattle.type_shapes.specs.Shapes.{is_pointer_to, base_of}
 
 -- something is known of an operand of a type
 pub known_of : (c : Code) (f : Function) (it : Operand) (of : TypeId) → is_operand c f it of ≡ true
@@ -261,24 +261,12 @@ integer_kind c held f it of h kind = let k = known_of c f it of h in by k.0 k.1.
     by (known_as.Function id) is h = absurd (no_function (term_at c.types of) (means.function_at c id) refl h)
     by (known_as.Address base) is h = absurd (no_address (term_at c.types of) base refl h)
 
-pub truth_is : (of : Option TypeTerm) → is_truth of ≡ true → of ≡ Some (term.Basic basic.Bool)
-truth_is (Some (term.Basic basic.Bool)) h = refl
-truth_is _ h = absurd (true≢false (sym h))
-
 pub truth_value : (t : Typing) (s : Site) (it : Operand) → HasValue t s it
     → is_truth_operand s.code s.function it ≡ true → (b : Bool) × (value s it ≡ Some (truth b))
 truth_value t s it has h =
-    let v = shape_value t s it has (term.Basic basic.Bool) (truth_is (shape s.code s.function it) h) in
+    let v = shape_value t s it has (term.Basic basic.Bool) (truth_term (shape s.code s.function it) h) in
     let b = truth_in s.code t v.0 v.1.1 in
     (b.0, v.1.0 ∙ ap Some b.1)
-
-none_of : (methods : List MethodType) → (length methods == 0) ≡ true → methods ≡ []
-none_of [] h = refl
-none_of (method ∷ methods) h = absurd (let e = (unsigned_Decides (length (method ∷ methods)) 0).0 h in omega arith)
-
-any_is : (of : Option TypeTerm) → is_any of ≡ true → of ≡ Some (term.Interface [])
-any_is (Some (term.Interface methods)) h = ap (λ methods. Some (term.Interface methods)) (none_of methods h)
-any_is _ h = absurd (true≢false (sym h))
 
 pub any_value : (t : Typing) (s : Site) → IsHeld s.code.types → (it : Operand) → HasValue t s it
     → is_any_operand s.code s.function it ≡ true → (v : Val) × ((value s it ≡ Some v) × IsThrown s.code t v)
@@ -293,7 +281,7 @@ any_value t s held it has h = by (held_type (known s.code s.function it)) refl h
           (
             v.1.0,
             subst (λ term. Fits s.code t v.0 term)
-                (under_plain s.code.types held of (term.Interface []) (any_is (term_at s.code.types of) h) refl) v.1.1,
+                (under_plain s.code.types held of (term.Interface []) (any_term (term_at s.code.types of) h) refl) v.1.1,
           ),
         )
 

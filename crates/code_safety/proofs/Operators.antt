@@ -6,9 +6,9 @@ use Rattle.std.specs.Option.{option_and_then}
 use Rattle.std.specs.Ordering.{nat_cmp, int_cmp}
 use Rattle.code_safety.proofs.Forms.{truth_in, text_in, number_in, number_fits}
 use Rattle.code_safety.proofs.Machines.{ValueComes}
-use Rattle.code_safety.proofs.Making.{some_of}
-use Rattle.code_safety.proofs.Operands.{operand_value, integer_value, integer_kind, truth_is}
+use Rattle.code_safety.proofs.Operands.{operand_value, integer_value, integer_kind}
 use Rattle.code_safety.proofs.Sites.{Reads}
+use Rattle.code_safety.proofs.Terms.{there, truth_term, text_term}
 use Rattle.code_safety.proofs.Values.{Typing, Fits, IsOf, TruthFits, under_of}
 use Rattle.go_base.specs.declared.ids.TypeId.{TypeId}
 use Rattle.go_maps.specs.Equality.{compared}
@@ -24,7 +24,6 @@ use Rattle.go_type.specs.declared.operators.CompareOp.TheVariants as comparison
 use Rattle.go_type.specs.declared.operators.UnaryOp.{UnaryOp}
 use Rattle.go_type.specs.declared.operators.UnaryOp.TheVariants as unary_op
 use Rattle.go_type.specs.declared.term.Basic.TheVariants as basic
-use Rattle.go_type.specs.declared.term.TypeTerm.{TypeTerm}
 use Rattle.go_type.specs.declared.term.TypeTerm.TheVariants as term
 use Rattle.go_value.specs.Ints.{operated, shift_value, wrapped}
 use Rattle.go_value.specs.Values.{Val, truth, number, text}
@@ -57,10 +56,6 @@ two_are s first second next a b is are =
 
 -- ---- integers and strings
 
-pub text_is : (of : Option TypeTerm) → is_text of ≡ true → of ≡ Some (term.Basic basic.Text)
-text_is (Some (term.Basic basic.Text)) h = refl
-text_is _ h = absurd (true≢false (sym h))
-
 is_operator : (o : BinaryOp) → (is_some (shift_of o) || is_some (int_op_of o)) ≡ true
 is_operator binary_op.Add = refl
 is_operator binary_op.Sub = refl
@@ -85,7 +80,7 @@ module _ (c : Code) (t : Typing) (of : TypeId) where
   numbers_come : is_some (kind_of c.types of) ≡ true → (kind : Option IntKind) → kind ≡ kind_of c.types of → (o : BinaryOp) (a b : Val) (n m : ℤ)
       → a ≡ number n → b ≡ number m → ValueComes c t of (operation kind o a b)
   numbers_come is kind same o a b n m first second =
-      let found = some_of (kind_of c.types of) is in
+      let found = there (kind_of c.types of) is in
       subst (λ a. ValueComes c t of (operation kind o a b)) (sym first)
       (subst (λ b. ValueComes c t of (operation kind o (number n) b)) (sym second)
       (subst (λ kind. ValueComes c t of (on_integers kind o n m)) (sym (same ∙ found.1))
@@ -106,7 +101,7 @@ module _ (c : Code) (t : Typing) (of : TypeId) where
       → ValueComes c t of (operation kind o a b)
   taken_comes binary_op.Add h kind same a b first second =
       ⊎_elim (λ is. both_numbers binary_op.Add kind (same is) is a b first second)
-      (λ is. texts_come (text_is (under_of c of) is) kind a b first second)
+      (λ is. texts_come (text_term (under_of c of) is) kind a b first second)
       (or_cases (is_some (kind_of c.types of)) (is_text (under_of c of)) h)
     where
       both_numbers : (o : BinaryOp) (kind : Option IntKind) → kind ≡ kind_of c.types of → is_some (kind_of c.types of) ≡ true → (a b : Val) → IsOf c t a of → IsOf c t b of
@@ -123,7 +118,7 @@ module _ (c : Code) (t : Typing) (of : TypeId) where
   -- ---- comparisons
 
   truth_fits : is_truth (under_of c of) ≡ true → (b : Bool) → IsOf c t (truth b) of
-  truth_fits h b = subst (λ term. TruthFits term) (sym (truth_is (under_of c of) h)) tt
+  truth_fits h b = subst (λ term. TruthFits term) (sym (truth_term (under_of c of) h)) tt
 
   equality_comes : is_truth (under_of c of) ≡ true → (o : CompareOp) → is_equality o ≡ true → (it : Result Bool Fault)
       → ValueComes c t of (equality o it)
@@ -161,8 +156,8 @@ module _ (c : Code) (t : Typing) (of : TypeId) where
       let m = number_in c t b (under_of c side) is second in
       numbers_compare fits answers o a b n.0 m.0 n.1 m.1)
       (λ is.
-      let x = text_in c t a (subst (λ term. Fits c t a term) (text_is (under_of c side) is) first) in
-      let y = text_in c t b (subst (λ term. Fits c t b term) (text_is (under_of c side) is) second) in
+      let x = text_in c t a (subst (λ term. Fits c t a term) (text_term (under_of c side) is) first) in
+      let y = text_in c t b (subst (λ term. Fits c t b term) (text_term (under_of c side) is) second) in
       texts_compare fits answers o a b x.0 y.0 x.1 y.1)
       (or_cases (is_some (kind_of c.types side)) (is_text (under_of c side)) h)
 
@@ -247,14 +242,14 @@ module _ (c : Code) (t : Typing) (of : TypeId) where
   negated_comes : (o : UnaryOp) → is_some (kind_of c.types of) ≡ true → (kind : Option IntKind) → kind ≡ kind_of c.types of → (n : ℤ)
       → ((k : IntKind) → ValueComes c t of (negated o k n)) → ValueComes c t of (unary_of kind o (number n))
   negated_comes o is kind same n each =
-      let found = some_of (kind_of c.types of) is in
+      let found = there (kind_of c.types of) is in
       subst (λ kind. ValueComes c t of (negated_in kind o n)) (sym (same ∙ found.1)) (each found.0)
 
   unary_fits : (o : UnaryOp) → has_unary c.types o of ≡ true → (kind : Option IntKind)
       → (is_some (kind_of c.types of) ≡ true → kind ≡ kind_of c.types of) → (a : Val) → IsOf c t a of
       → ValueComes c t of (unary_of kind o a)
   unary_fits unary_op.Not h kind same a fits =
-      let b = truth_in c t a (subst (λ term. Fits c t a term) (truth_is (under_of c of) h) fits) in
+      let b = truth_in c t a (subst (λ term. Fits c t a term) (truth_term (under_of c of) h) fits) in
       subst (λ a. ValueComes c t of (unary_of kind unary_op.Not a)) (sym b.1) (truth_fits c t of h (not b.0))
   unary_fits unary_op.Negate h kind same a fits =
       let n = number_in c t a (under_of c of) h fits in

@@ -7,12 +7,13 @@ use Rattle.code_safety.proofs.Forms.{text_in, number_fits, slice_in, parts_in}
 use Rattle.code_safety.proofs.Lists as lists
 use Rattle.code_safety.proofs.Lists.{some_same}
 use Rattle.code_safety.proofs.Machines.{ValueComes, StoreComes}
-use Rattle.code_safety.proofs.Making.{points_to, with_integer_is}
+use Rattle.code_safety.proofs.Making.{with_integer_is}
 use Rattle.code_safety.proofs.Operands.{operand_value, shape_is, shape_value, held_value, integer_value, pointee_value, pointee_is}
 use Rattle.code_safety.proofs.Operators.{result_comes, two_are}
 use Rattle.code_safety.proofs.Sames.{under_plain}
 use Rattle.code_safety.proofs.Sites.{Reads, Among, HasValue}
 use Rattle.code_safety.proofs.Stores.{parts_are, part_is, loads, puts, part_points, element_points, sliced_slices, whole_slices, placed}
+use Rattle.code_safety.proofs.Terms.{pointer_term}
 use Rattle.code_safety.proofs.Values.{Typing, Fits, IsOf, Points, Slices, item_types, under_of}
 use Rattle.go_base.specs.declared.ids.CellId.{CellId}
 use Rattle.go_base.specs.declared.ids.TypeId.{TypeId}
@@ -56,7 +57,7 @@ followed_comes {A} P at next fails goes = by at.cell refl
     by None e = fails
     by (Some cell) e = goes cell e
 
-id_is : (found : Option TypeId) (of : TypeId) → shapes.is_id found of ≡ true → found ≡ Some of
+pub id_is : (found : Option TypeId) (of : TypeId) → shapes.is_id found of ≡ true → found ≡ Some of
 id_is None of h = absurd (true≢false (sym h))
 id_is (Some id) of h = ap Some ((same_id-Decides id of).0 h)
 
@@ -153,7 +154,7 @@ pointer_fits : (t : Typing) (s : Site) {it : Op} → Reads t s it → (of base :
     → shapes.is_pointer_to (term_at s.code.types of) base ≡ true → (at : Pointer) → Points s.code t at base → IsOf s.code t (pointer at) of
 pointer_fits t s reads of base h at points =
     subst (λ term. Fits s.code t (pointer at) term)
-    (sym (under_plain s.code.types reads.safe.held of (term.Pointer base) (points_to (term_at s.code.types of) base h) refl)) points
+    (sym (under_plain s.code.types reads.safe.held of (term.Pointer base) (pointer_term (term_at s.code.types of) base h) refl)) points
 
 -- the fields of a struct, of which one has a type
 record FieldOf (of : Option TypeTerm) (n : ℕ) (id : TypeId) : Type 0 where

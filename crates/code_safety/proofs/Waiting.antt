@@ -19,8 +19,9 @@ use Rattle.code_safety.proofs.Shapes.{alike_self}
 use Rattle.code_safety.proofs.Sites.{SiteFits, Reads, Among, HasValue}
 use Rattle.code_safety.proofs.Terms.{never, there}
 use Rattle.code_safety.proofs.Throwing.{there_safe, switches_safe, meets_safe}
-use Rattle.code_safety.proofs.Values.{Typing}
-use Rattle.code_safety.proofs.Waking.{ReceivedFits, SelectedFits, received_term, sent_term, element_is, id_is, Plain, send_plain, receive_plain, receive_gets, select_gets, all_woken_fit}
+use Rattle.code_safety.proofs.Places.{id_is}
+use Rattle.code_safety.proofs.Values.{Typing, ChanFits}
+use Rattle.code_safety.proofs.Waking.{ReceivedFits, SelectedFits, received_term, sent_term, element_is, Plain, send_plain, receive_plain, receive_gets, select_gets, all_woken_fit}
 use Rattle.go_base.specs.declared.ids.ChanId.{ChanId}
 use Rattle.go_base.specs.declared.ids.GoId.{GoId}
 use Rattle.go_base.specs.declared.ids.TypeId.{TypeId}
@@ -34,6 +35,7 @@ use Rattle.go_sched.specs.declared.scheduling.Point.TheVariants as point
 use Rattle.go_type.specs.Same.{same_id}
 use Rattle.go_type.specs.Table.{term_at, basic_id}
 use Rattle.go_type.specs.declared.term.Basic.TheVariants as basic
+use Rattle.go_type.specs.declared.term.Dir.{Dir}
 use Rattle.go_type.specs.declared.term.TypeTerm.TheVariants as term
 use Rattle.go_value.specs.Values.{Val, chan_number}
 use Rattle.go_value.specs.declared.faults.Fault.{Fault}
@@ -245,6 +247,12 @@ record Gone (t : Typing) (s : Site) (instr : Instr) (site : SiteFits t s instr) 
   is : found ≡ Some (behind_with s instr.register after it)
   gives : GivesOf s.code t it site.of
 
+gone_with : (t : Typing) (s : Site) (instr : Instr) (site : SiteFits t s instr) (after : State) (found : Option Val) (v : Val)
+    → found ≡ Some v → GivesOf s.code t (Some v) site.of
+    → Gone t s instr site after (option_map (λ given. behind_with s instr.register after (Some given)) found)
+gone_with t s instr site after found v is gives =
+    record { it = Some v; is = ap (option_map (λ given. behind_with s instr.register after (Some given))) is; gives = gives }
+
 gone_safe : (t : Typing) (s : Site) (instr : Instr) (site : SiteFits t s instr) → Plain instr → (after : State)
     → RunsOn s.code t s.machine.goroutines s.machine.sched after → (others : List Woken)
     → AreWoken s.code t s.machine.goroutines s.machine.sched.current.number after.runnable others → (found : Option Machine)
@@ -271,6 +279,15 @@ operation_safe t s instr site plain after takes next otherwise gone (Ok default)
     gone_safe t s instr site plain after fits [] tt otherwise it
 operation_safe t s instr site plain after takes next otherwise gone (Ok (done index found others)) or_else fits =
     gone_safe t s instr site plain after fits.0 others fits.1.1 (next index found) (gone index found fits.1.0)
+
+-- the channel that an operand is
+channel_value : (t : Typing) (s : Site) (it : Operand) → HasValue t s it → (way : Dir) (elem : TypeId)
+    → shape s.code s.function it ≡ Some (term.Chan way elem)
+    → (id : Option ChanId) × ((value s it ≡ Some (chan_number id)) × ChanFits s.code t id elem)
+channel_value t s it has way elem is =
+    let v = shape_value t s it has (term.Chan way elem) is in
+    let id = chan_in s.code t v.0 way elem v.1.1 in
+    (id.0, (v.1.0 ∙ ap Some id.1.0, id.1.1))
 
 -- ---- sends
 
@@ -303,11 +320,10 @@ send_safe t s instr site channel it is =
         let m = s.machine in
         let reads = subst (λ o. Reads t s o) is (site_reads t s instr site) in
         let way = sent_term (shape c s.function channel) elem e in
-        let v = shape_value t s channel (reads.values channel (inl refl)) (term.Chan way.0 elem) way.1 in
-        let id = chan_in c t v.0 way.0 elem v.1.1 in
+        let id = channel_value t s channel (reads.values channel (inl refl)) way.0 elem way.1 in
         let w = operand_value t s site.safe.held it (reads.values it (inr (inl refl))) elem h in
         let after = (sends 0 w.0 m.sched id.0).after in
-        there_safe c (λ channel. where_there (send_on s channel) (value s it)) (value s channel) (chan_number id.0) (v.1.0 ∙ ap Some id.1.0)
+        there_safe c (λ channel. where_there (send_on s channel) (value s it)) (value s channel) (chan_number id.0) id.1.0
         (there_safe c (send_on s (chan_number id.0)) (value s it) w.0 w.1.0
         (operation_safe t s instr site (send_plain instr (op.Send channel it) is tt) after
         (λ n found. (n ≡ 0) × GivesCase c t s.function 0 instr.op found (chans.send id.0 w.0))
@@ -353,23 +369,18 @@ receive_safe t s instr site channel comma_ok is =
     let elem = receive_typed c f channel comma_ok site.of typed in
     let reads = subst (λ o. Reads t s o) is (site_reads t s instr site) in
     let way = received_term (shape c f channel) elem.0 elem.1 in
-    let v = shape_value t s channel (reads.values channel (inl refl)) (term.Chan way.0 elem.0) way.1 in
-    let id = chan_in c t v.0 way.0 elem.0 v.1.1 in
+    let id = channel_value t s channel (reads.values channel (inl refl)) way.0 elem.0 way.1 in
     let from : ReceivesFrom c f channel elem.0 =
     record { of = elem.0; is = element_is c f channel elem.0 elem.1; alike = alike_self c.types elem.0 } in
     let after = (receives 0 m.sched id.0).after in
-    there_safe c (receive_from s instr.register channel comma_ok) (value s channel) (chan_number id.0) (v.1.0 ∙ ap Some id.1.0)
+    there_safe c (receive_from s instr.register channel comma_ok) (value s channel) (chan_number id.0) id.1.0
     (operation_safe t s instr site (receive_plain c f 0 elem.0 instr o is from) after
     (λ n found. (n ≡ 0) × GivesCase c t f 0 instr.op found (chans.receive id.0))
     (λ index it. option_map (λ given. behind_with s instr.register after (Some given)) (received c f channel comma_ok it)) None
     (λ index found took.
     let got = receive_gets c site.safe t f channel comma_ok site.of typed runnable found
     (case_received c t f channel comma_ok id.0 found (subst (λ o. GivesCase c t f 0 o found (chans.receive id.0)) is took.1)) in
-    record {
-      it = Some got.0;
-      is = ap (option_map (λ given. behind_with s instr.register after (Some given))) got.1.0;
-      gives = got.1.1;
-    })
+    gone_with t s instr site after (received c f channel comma_ok found) got.0 got.1.0 got.1.1)
     (receives 0 m.sched id.0).answer (inl (receives_plain 0 m.sched id.0))
     (receives_fit c t m.goroutines m.sched site.machine.sched site.machine.current (site_waits t s instr site) 0 id.0
     (elem.0, (id.1.1, subst (λ o. MayReceive c f 0 elem.0 o) (sym is) from))))
@@ -405,15 +416,14 @@ cases_fit t s safe blocking all (case.Send channel item ∷ cases) n ids typed h
     by (Some elem) e h rest =
         let c = s.code in
         let way = sent_term (shape c s.function channel) elem e in
-        let v = shape_value t s channel (has channel (inl refl)) (term.Chan way.0 elem) way.1 in
-        let id = chan_in c t v.0 way.0 elem v.1.1 in
+        let id = channel_value t s channel (has channel (inl refl)) way.0 elem way.1 in
         let w = operand_value t s safe.held item (has item (inr (inl refl))) elem h in
         record {
           asked = chans.send id.0 w.0 ∷ rest.asked;
           is =
               ap (λ first. with_case first (cases_of c s.frame cases))
               (ap (λ found. option_and_then (λ id. option_map (chans.send id) (value s item)) (option_and_then meant_channel found))
-              (v.1.0 ∙ ap Some id.1.0) ∙ ap (option_map (chans.send id.0)) w.1.0)
+              id.1.0 ∙ ap (option_map (chans.send id.0)) w.1.0)
               ∙ ap (with_case (Some (chans.send id.0 w.0))) rest.is;
           fits = case_each c t s.function (op.Select blocking all) n (chans.send id.0 w.0) rest.asked (elem, (id.1.1, (w.1.1, tt))) rest.fits;
         }
@@ -425,14 +435,13 @@ cases_fit t s safe blocking all (case.Receive channel ∷ cases) n (of ∷ ids) 
     let rest = cases_fit t s safe blocking all cases (suc n) ids k.1 (λ it among. has it (inr among))
     (λ k. subst (λ m. slice_get all m ≡ slice_get cases k) (omega arith) (same (suc k))) in
     let way = received_term (shape c s.function channel) of elem in
-    let v = shape_value t s channel (has channel (inl refl)) (term.Chan way.0 of) way.1 in
-    let id = chan_in c t v.0 way.0 of v.1.1 in
+    let id = channel_value t s channel (has channel (inl refl)) way.0 of way.1 in
     let here : slice_get all n ≡ Some (case.Receive channel) = subst (λ m. slice_get all m ≡ Some (case.Receive channel)) (omega arith) (same 0) in
     record {
       asked = chans.receive id.0 ∷ rest.asked;
       is =
           ap (λ first. with_case first (cases_of c s.frame cases))
-          (ap (λ found. option_map chans.receive (option_and_then meant_channel found)) (v.1.0 ∙ ap Some id.1.0))
+          (ap (λ found. option_map chans.receive (option_and_then meant_channel found)) id.1.0)
           ∙ ap (with_case (Some (chans.receive id.0))) rest.is;
       fits =
           case_each c t s.function (op.Select blocking all) n (chans.receive id.0) rest.asked (
@@ -498,17 +507,9 @@ select_safe t s instr site blocking cases is =
     (λ index found took.
     let got = select_gets c site.safe t f blocking cases site.of typed runnable (Some index) found
     (case_selected c t f blocking cases index found took.0 (subst (λ o. GivesCase c t f index o found took.0) is took.1.1)) in
-    record {
-      it = Some got.0;
-      is = ap (option_map (λ given. behind_with s instr.register after (Some given))) got.1.0;
-      gives = got.1.1;
-    })
+    gone_with t s instr site after (selected c f cases (Some index) found) got.0 got.1.0 got.1.1)
     outcome.answer
-    (inr (record {
-      it = Some other.0;
-      is = ap (option_map (λ given. behind_with s instr.register after (Some given))) other.1.0;
-      gives = other.1.1;
-    }))
+    (inr (gone_with t s instr site after (selected c f cases None None) other.0 other.1.0 other.1.1))
     (selects_fit c t m.goroutines m.sched site.machine.sched site.machine.current (site_waits t s instr site) asked.asked (not blocking)
     (λ n it found.
     subst (λ o. CaseFits c t f n o it) (sym is)

@@ -20,6 +20,7 @@ use Rattle.code_safety.proofs.Sames.{is_of_alike}
 use Rattle.code_safety.proofs.Sites.{IsRegister}
 use Rattle.code_safety.proofs.Terms.{never, same_is, basic_term, tuple_term, truth_fits, ok_fits, there}
 use Rattle.code_safety.proofs.Throwing.{moved_fits, begun_as}
+use Rattle.code_safety.proofs.Places.{id_is}
 use Rattle.code_safety.proofs.Values.{Typing, Fits, PartsFit, IsOf, under_of}
 use Rattle.code_safety.proofs.Zeros.{zero_fits}
 use Rattle.go_base.specs.declared.ids.TypeId.{TypeId}
@@ -116,10 +117,6 @@ SelectedFits c t f cases chosen None = Unit {0}
 SelectedFits c t f cases None (Some it) = ⊥
 SelectedFits c t f cases (Some index) (Some it) =
     (channel : Operand) × ((slice_get cases index ≡ Some (case.Receive channel)) × ReceivedFits c t f channel (Some it))
-
-pub id_is : (found : Option TypeId) (of : TypeId) → is_id found of ≡ true → found ≡ Some of
-id_is None of h = never h
-id_is (Some id) of h = ap Some (same_is id of h)
 
 received_parts_fit : (c : Code) → IsSafe c → (t : Typing) (f : Function) (chosen : Option ℕ) (it : Option Val) (n : ℕ)
     (cases : List SelectCase) (ids : List TypeId) → takes_cases c f cases ids ≡ true → list_all (receives_zero c f) cases ≡ true
