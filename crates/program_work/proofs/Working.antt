@@ -16,10 +16,8 @@ use Rattle.go_interp.specs.Ran.{TellsRun}
 use Rattle.go_sources.specs.declared.sources.SourceFile.{SourceFile}
 use Rattle.go_tree.specs.declared.program.Program.{Program}
 use Rattle.ssa_ir.specs.declared.code.Code.{Code}
-use Rattle.ssa_mean.specs.Answers.{Answers, AreAnswers}
 use Rattle.ssa_mean.specs.Runs.{IsRunOf}
 use Rattle.ssa_print.specs.Codes as shown
-use Rattle.ssa_print.specs.Operands.{setting_of}
 use Rattle.program_work.proofs.Listings.{some_listing}
 use Rattle.program_work.proofs.Written.{whole_front, front_behind, front_longer, finished, stopped, finishes_as, unfinished_as}
 use Rattle.program_work.specs.Asked.{lack_naive, wants_registers}
