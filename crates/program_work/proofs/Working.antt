@@ -1,8 +1,11 @@
-use Rattle.std.proofs.Common.{◌≡◌, ◌∙◌, ◌⊎◌, ℕ, Bool, true, false, List, [], ◌++◌, Option, Some, None, refl, sym, ap, subst, inl, inr, IsTrue, is_some, IfSome}
+use Rattle.std.proofs.Common.{◌≡◌, ◌∙◌, ◌⊎◌, ⊎_elim, ℕ, Bool, true, false, List, [], ◌++◌, Option, Some, None, refl, sym, ap, subst, inl, inr, IsTrue, is_some, IfSome}
 use Rattle.std.proofs.KnownBytes.{Appends-nil, Appends-trans}
 use Rattle.std.proofs.lemmas.List.{append-nil, append_cancel_left}
 use Rattle.std.specs.Io.KnownBytes.{Appends}
 use Rattle.cg_sets.specs.declared.edges.Edge.{Edge}
+use Rattle.code_safety.proofs.Stepping.{never_stuck}
+use Rattle.code_safety.specs.Runnable.{IsRunnable}
+use Rattle.code_safety.specs.Safety.{IsSafe}
 use Rattle.command_line.specs.declared.command.Letters.{Letters}
 use Rattle.command_line.specs.declared.command.LoadCommand.{LoadCommand}
 use Rattle.go_base.specs.declared.ending.Ending.TheVariants.{Bound}
@@ -13,17 +16,15 @@ use Rattle.go_interp.specs.Ran.{TellsRun}
 use Rattle.go_sources.specs.declared.sources.SourceFile.{SourceFile}
 use Rattle.go_tree.specs.declared.program.Program.{Program}
 use Rattle.ssa_ir.specs.declared.code.Code.{Code}
-use Rattle.ssa_mean.specs.Answers.{Answers, AreAnswers}
-use Rattle.ssa_mean.specs.Runs.{IsRunOf, IsStuck}
+use Rattle.ssa_mean.specs.Runs.{IsRunOf}
 use Rattle.ssa_print.specs.Codes as shown
-use Rattle.ssa_print.specs.Operands.{setting_of}
 use Rattle.program_work.proofs.Listings.{some_listing}
 use Rattle.program_work.proofs.Written.{whole_front, front_behind, front_longer, finished, stopped, finishes_as, unfinished_as}
 use Rattle.program_work.specs.Asked.{lack_naive, wants_registers}
 use Rattle.program_work.specs.Graphs.{AreAsked}
 use Rattle.program_work.specs.Outputs.{Comes, Finishes, IsUnfinished}
 use Rattle.program_work.specs.Stopping.{outcome_at}
-use Rattle.program_work.specs.Working.{EndsIn, HasRun, IsCodeText, IsListing, IsNotBuilt, IsRun, IsRunBy, IsServed, IsSound, IsTextOf, IsWork, Lists, ListsFront, done, ran, outside, worked, first_path, start_of}
+use Rattle.program_work.specs.Working.{AreSane, EndsIn, HasRun, IsCodeText, IsListing, IsNotBuilt, IsRun, IsRunBy, IsServed, IsSound, IsTextOf, IsWork, Lists, ListsFront, done, ran, outside, worked, first_path, start_of}
 use Rattle.program_work.specs.declared.outcome.Outcome.TheVariants as outcomes
 use Rattle.program_work.specs.declared.outcome.Outcome.{Outcome}
 use Rattle.program_work.specs.declared.stop.Stop.TheVariants as stops
@@ -48,16 +49,22 @@ untrue h = cc
 one_text : (xs ys : List ℕ) (a b : List ℕ) → ys ≡ xs ++ a → ys ≡ xs ++ b → a ≡ b
 one_text xs ys a b p q = append_cancel_left xs a b (sym p ∙ q)
 
-told_run : (code : Code) (command : LoadCommand) (ending : Ending) (xs ys output : List ℕ) → TellsRun code command.choices command.bound ending (Some xs) (Some ys) → ys ≡ xs ++ output → IsRun code command ending output
-told_run code command ending xs ys output told appends answers are =
-    let t = told answers are in
-    subst (λ (o : List ℕ). IsRunOf code command.choices command.bound o ending ⊎ IsStuck code command.choices command.bound answers) (one_text xs ys t.0 output t.1.1 appends) t.1.0
+-- sound and runnable code is not stuck
+is_safe : (code : Code) → IsSound code → IsRunnable code → IsSafe code
+unfolding AreSane
+is_safe code sound runs = record { held = sound.held; sane = sound.sane; typed = sound.typed; runnable = runs }
 
-pub has_run : (code : Code) (command : LoadCommand) (ending : Ending) (old new : Option (List ℕ)) → TellsRun code command.choices command.bound ending old new → interp.HasWritten old new → HasRun code command ending old new
-has_run code command ending None new told w = record { output = w.output; appends = w.appends; is_run = λ h. untrue h }
-has_run code command ending (Some xs) None told w = absurd w.appends
-has_run code command ending (Some xs) (Some ys) told w =
-    record { output = w.output; appends = w.appends; is_run = λ h. told_run code command ending xs ys w.output told w.appends }
+told_run : (code : Code) (command : LoadCommand) (ending : Ending) (xs ys output : List ℕ) → IsSound code → TellsRun code command.choices command.bound ending (Some xs) (Some ys) → ys ≡ xs ++ output → IsRun code command ending output
+told_run code command ending xs ys output sound told appends answers are runs =
+    let t = told answers are in
+    let run : IsRunOf code command.choices command.bound t.0 ending = ⊎_elim (λ is. is) (λ halts. absurd (never_stuck code command.choices command.bound answers (is_safe code sound runs) are halts)) t.1.0 in
+    subst (λ (o : List ℕ). IsRunOf code command.choices command.bound o ending) (one_text xs ys t.0 output t.1.1 appends) run
+
+pub has_run : (code : Code) (command : LoadCommand) (ending : Ending) (old new : Option (List ℕ)) → IsSound code → TellsRun code command.choices command.bound ending old new → interp.HasWritten old new → HasRun code command ending old new
+has_run code command ending None new sound told w = record { output = w.output; appends = w.appends; is_run = λ h. untrue h }
+has_run code command ending (Some xs) None sound told w = absurd w.appends
+has_run code command ending (Some xs) (Some ys) sound told w =
+    record { output = w.output; appends = w.appends; is_run = λ h. told_run code command ending xs ys w.output sound told w.appends }
 
 -- a sink that tells what it holds goes on to
 still_tells : (old new : Option (List ℕ)) (text : List ℕ) → Appends old new text → IsTrue (is_some old) → IsTrue (is_some new)

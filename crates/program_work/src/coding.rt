@@ -12,7 +12,8 @@ use ssa_sane::sanity;
 use ssa_typed::type_code;
 use std::alloc::Global;
 
-/// The code of a program. It is judged before it is printed or run: each function is sane, and the code is typed.
+/// The code of a program. It is judged before it is printed or run: each function is sane, and the code is typed. Its
+/// types are held.
 pub fn sound_code(alloc: Global, program: &Program) -> Result<Code, Stop>
     ensures sound { IfOk result IsSound }
     ensures fault { IsErrOf result WriteFault → ⊥ }
@@ -20,6 +21,7 @@ pub fn sound_code(alloc: Global, program: &Program) -> Result<Code, Stop>
     let code = build(alloc, program, Form::Naive)?;
     judge(alloc, code.functions.as_slice())?;
     type_code(alloc, &code)?;
+    code.types.laws();
     Ok(code)
 }
 

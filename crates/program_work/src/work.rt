@@ -203,6 +203,7 @@ fn run_code<O: Sink>(
     command: &LoadCommand,
     out: &mut O,
 ) -> Result<Ending, Stop>
+    requires sound { IsSound code.now }
     ensures ran { IfOk result (λ ending. HasRun code.now command.now ending (O.written out.old) (O.written out.new)) }
     ensures written { HasWritten (O.written out.old) (O.written out.new) }
     ensures fault { IsErrOf result WriteFault → HasFaulted (O.faults out.old) (O.faults out.new) }

@@ -4,6 +4,7 @@ use Rattle.program_work.proofs.coding.sound_code.Goals as goal
 
 pub returns-clause-sound : goal.returns-clause-sound
 returns-clause-sound c = record {
+  held = c.laws.ensures;
   sane = subst AreSane c.as_slice.ensures c.in_ok-judge.ensures.sane;
   typed = c.in_ok-type_code.ensures.typed refl;
 }
