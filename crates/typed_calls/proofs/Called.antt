@@ -1,5 +1,5 @@
 -- What becomes of calls of functions.
-use Rattle.std.proofs.Common.{◌≡◌, ℕ, suc, ◌+◌, get_or, refl, sym, ap, ◌∙◌, subst, List, [], ◌∷◌, ◌++◌, length, map, Bool, true, false}
+use Rattle.std.proofs.Common.{◌≡◌, ℕ, suc, ◌+◌, get_or, refl, sym, ap, ◌∙◌, subst, List, [], ◌∷◌, ◌++◌, length}
 use Rattle.std.proofs.Common.{Option, Some, None, Result, Ok, Err, append-nil, arith}
 use Rattle.std.specs.Global.{Vec}
 use Rattle.std.specs.Option.{option_flatten, option_to_list, option_zip}

@@ -1,7 +1,7 @@
 -- What becomes of arguments that are passed, and packed.
 use Rattle.std.proofs.Common.{◌≡◌, ℕ, suc, ◌+◌, ◌<◌, ◌≤◌, min, refl, sym, ap, ◌∙◌, subst, List, [], ◌∷◌, ◌++◌, length, map, take, drop}
-use Rattle.std.proofs.Common.{Bool, true, false, ◌==◌, Option, Some, None, Result, Ok, Err, append-nil, length-take, arith, tests, get_or}
-use Rattle.std.specs.Global.{Box, Vec}
+use Rattle.std.proofs.Common.{Bool, true, false, ◌==◌, Option, Some, None, Result, Ok, Err, length-take, arith, tests, get_or}
+use Rattle.std.specs.Global.{Vec}
 use Rattle.std.specs.Prelude.{IfOk, if◌then◌else◌, nat_lt}
 use Rattle.std.proofs.lemmas.Bool.{false≢true}
 use Rattle.std.proofs.lemmas.List.{drop-append-le, drop_all, take-append-le, take_all, take_more}

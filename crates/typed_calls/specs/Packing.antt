@@ -1,6 +1,6 @@
 -- Arguments as values of the parameters, packed where these are variadic. Go specification, "Calls" and "Passing
 -- arguments to ... parameters".
-use Rattle.std.specs.Prelude.{◌≡◌, ℕ, zero, suc, ◌+◌, List, [], ◌∷◌, ◌++◌, length, nat_lt, take, drop}
+use Rattle.std.specs.Prelude.{◌≡◌, ℕ, ◌+◌, List, [], ◌∷◌, ◌++◌, length, nat_lt, take, drop}
 use Rattle.std.specs.Prelude.{if◌then◌else◌, Option, Some, None}
 use Rattle.std.specs.Global.{Box, Vec}
 use Rattle.go_base.specs.declared.ids.TypeId.{TypeId}

@@ -1,4 +1,4 @@
-use Rattle.std.proofs.Common.{◌≡◌, sym, ◌∙◌, vec_len}
+use Rattle.std.proofs.Common.{sym, ◌∙◌, vec_len}
 use Rattle.typed_calls.proofs.Called.{each_argued, popped, sole_argued}
 use Rattle.typed_calls.proofs.calling.arguments_of.Goals as goal
 

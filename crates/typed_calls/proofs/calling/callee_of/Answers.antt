@@ -1,4 +1,4 @@
-use Rattle.std.proofs.Common.{refl, ◌∙◌}
+use Rattle.std.proofs.Common.{refl}
 use Rattle.go_tree.specs.declared.exprs.Callee.TheOpen as layers
 use Rattle.go_tree.specs.declared.exprs.Callee.TheVariants as callee
 use Rattle.go_tree.specs.declared.exprs.ExprKind.TheVariants as kinds

@@ -1,6 +1,5 @@
-use Rattle.std.proofs.Common.{◌≡◌, sym, ◌∙◌, subst, Ok, Some, Option, Result}
+use Rattle.std.proofs.Common.{◌≡◌, sym, ◌∙◌, subst, Ok, Some, Option}
 use Rattle.std.specs.Option.{option_zip}
-use Rattle.go_base.specs.declared.memory.NoMemory.{NoMemory}
 use Rattle.go_tree.specs.declared.exprs.TypedExpr.{TypedExpr}
 use Rattle.typed_parts.specs.declared.meaning.Given.{Given}
 use Rattle.typed_parts.specs.Joining.{beside}

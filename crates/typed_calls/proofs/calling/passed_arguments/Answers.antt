@@ -1,4 +1,4 @@
-use Rattle.std.proofs.Common.{◌≡◌, sym, ◌∙◌}
+use Rattle.std.proofs.Common.{sym, ◌∙◌}
 use Rattle.typed_calls.specs.Passing.{written}
 use Rattle.typed_calls.proofs.Called.{misnumbered, numbered_as}
 use Rattle.typed_calls.proofs.calling.passed_arguments.Goals as goal

@@ -1,4 +1,4 @@
-use Rattle.std.proofs.Common.{◌≡◌, sym, ap, ◌∙◌, subst, List, Ok}
+use Rattle.std.proofs.Common.{◌≡◌, sym, ◌∙◌, subst, List, Ok}
 use Rattle.std.specs.Prelude.{IfOk}
 use Rattle.go_base.specs.declared.ids.TypeId.{TypeId}
 use Rattle.go_tree.specs.declared.exprs.TypedExpr.{TypedExpr}

@@ -1,11 +1,10 @@
-use Rattle.std.proofs.Common.{◌≡◌, sym, ap, ◌∙◌, subst, Ok}
+use Rattle.std.proofs.Common.{◌≡◌, sym, ◌∙◌, subst, Ok}
 use Rattle.go_tree.specs.declared.exprs.TypedExpr.{TypedExpr}
-use Rattle.go_tree.specs.declared.exprs.Values.{Values}
 use Rattle.go_type.specs.declared.term.Signature.{Signature}
 use Rattle.typed_parts.specs.Joining.{beside}
 use Rattle.typed_parts.specs.Turning.{Turns}
-use Rattle.typed_parts.proofs.Turns.{first_came, nothing_came, second_stays}
-use Rattle.typed_calls.specs.Calling.{IsResulting, IsSignatureCall}
+use Rattle.typed_parts.proofs.Turns.{first_came, second_stays}
+use Rattle.typed_calls.specs.Calling.{IsResulting}
 use Rattle.typed_calls.specs.Passing.{written}
 use Rattle.typed_calls.proofs.Called.{signature_called, signature_refused}
 use Rattle.typed_calls.proofs.calling.signature_call.Goals as goal

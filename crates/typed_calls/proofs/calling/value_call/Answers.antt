@@ -1,9 +1,9 @@
-use Rattle.std.proofs.Common.{◌≡◌, sym, ap, ◌∙◌, subst, Ok, Some, Option}
+use Rattle.std.proofs.Common.{◌≡◌, sym, ◌∙◌, subst, Ok, Some, Option}
 use Rattle.go_tree.specs.declared.exprs.TypedExpr.{TypedExpr}
 use Rattle.go_type.specs.declared.term.Signature.{Signature}
 use Rattle.typed_parts.specs.Joining.{beside}
 use Rattle.typed_parts.specs.Turning.{Turns}
-use Rattle.typed_parts.proofs.Turns.{first_came, nothing_came, second_stays}
+use Rattle.typed_parts.proofs.Turns.{first_came, second_stays}
 use Rattle.typed_calls.specs.declared.calling.Arguments.{Arguments}
 use Rattle.typed_calls.specs.Calling.{IsSignatureCall}
 use Rattle.typed_calls.specs.Passing.{signature_of, written}

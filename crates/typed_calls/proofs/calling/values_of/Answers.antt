@@ -1,7 +1,6 @@
-use Rattle.std.proofs.Common.{◌≡◌, sym, ap, ◌∙◌, List, [], ◌∷◌, ◌++◌, length, append-nil, append_assoc, arith, Option}
+use Rattle.std.proofs.Common.{◌≡◌, sym, ap, ◌∙◌, List, [], ◌∷◌, ◌++◌, length, append_assoc, arith, Option}
 use Rattle.std.specs.Vec.Iter.{into_iter_items}
 use Rattle.typed_parts.specs.declared.meaning.Given.{Given}
-use Rattle.typed_parts.specs.declared.meaning.Seen.{Seen}
 use Rattle.typed_parts.specs.Meanings.{value_of}
 use Rattle.typed_built_ins.proofs.Makes.{reports_more}
 use Rattle.typed_calls.specs.Calling.{seen_broken, seen_values}

@@ -1,4 +1,4 @@
-use Rattle.std.proofs.Common.{◌≡◌, subst, Some, None, Option}
+use Rattle.std.proofs.Common.{subst, Option}
 use Rattle.std.specs.Global.{Vec}
 use Rattle.go_tree.specs.declared.exprs.TypedExpr.{TypedExpr}
 use Rattle.typed_parts.specs.Joining.{items_of}

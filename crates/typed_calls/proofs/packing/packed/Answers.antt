@@ -1,4 +1,4 @@
-use Rattle.std.proofs.Common.{◌≡◌, sym, ◌∙◌}
+use Rattle.std.proofs.Common.{sym, ◌∙◌}
 use Rattle.typed_calls.proofs.Packs.{packs_all, packs_none, unpacked}
 use Rattle.typed_calls.proofs.packing.packed.Goals as goal
 

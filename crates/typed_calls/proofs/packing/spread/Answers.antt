@@ -1,4 +1,4 @@
-use Rattle.std.proofs.Common.{◌≡◌, sym, ◌∙◌, subst, Some, None, Ok, Option}
+use Rattle.std.proofs.Common.{◌≡◌, sym, ◌∙◌, subst, Ok, Option}
 use Rattle.std.specs.Prelude.{IfOk}
 use Rattle.std.specs.Global.{Vec}
 use Rattle.go_tree.specs.declared.exprs.TypedExpr.{TypedExpr}

@@ -1,4 +1,4 @@
-use Rattle.std.proofs.Common.{◌≡◌, refl, sym, ap, ◌∙◌, List, [], ◌∷◌, ◌++◌, length, take, drop, append-nil, append_assoc, arith, rules}
+use Rattle.std.proofs.Common.{◌≡◌, refl, sym, ap, ◌∙◌, List, [], ◌∷◌, length, take, drop, append-nil, append_assoc, arith, rules}
 use Rattle.std.specs.Vec.Iter.{into_iter_items}
 use Rattle.go_tree.specs.declared.exprs.ItemInit.{ItemInit}
 use Rattle.go_tree.specs.declared.exprs.TypedExpr.{TypedExpr}
