@@ -1,5 +1,5 @@
 -- What becomes of conversions.
-use Rattle.std.proofs.Common.{◌≡◌, ℤ, refl, sym, ap, ◌∙◌, subst, List, [], ◌∷◌, ◌++◌, Bool, true, false}
+use Rattle.std.proofs.Common.{◌≡◌, refl, sym, ap, ◌∙◌, subst, List, [], ◌∷◌, Bool}
 use Rattle.std.proofs.Common.{Option, Some, None, Result, Ok, Err, inl, inr}
 use Rattle.std.specs.Global.{Vec}
 use Rattle.std.specs.Option.{option_map}
@@ -17,7 +17,7 @@ use Rattle.type_bare.specs.Stripped.{KeepsDefinitions}
 use Rattle.typed_parts.specs.declared.ground.Ground.{Ground}
 use Rattle.typed_parts.specs.declared.meaning.Given.{Given}
 use Rattle.typed_parts.specs.Joining.{items_of, listed, sound}
-use Rattle.typed_parts.specs.Judged.{Broken, Comes, Judged, Outcome, breaks, fine, judged, reported, unsound}
+use Rattle.typed_parts.specs.Judged.{Broken, Comes, Judged, breaks, fine, judged, reported}
 use Rattle.typed_parts.specs.Retyping.{IsGiven}
 use Rattle.typed_calls.specs.declared.converting.ConstantConversion.{ConstantConversion}
 use Rattle.typed_calls.specs.declared.converting.UntypedConversion.{UntypedConversion}

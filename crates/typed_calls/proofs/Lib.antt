@@ -1,1 +1,3 @@
 pub mod Converts
+pub mod Packs
+pub mod Called

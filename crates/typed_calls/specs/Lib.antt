@@ -1,2 +1,4 @@
 pub mod Converting
 pub mod Passing
+pub mod Packing
+pub mod Calling

@@ -1,6 +1,6 @@
 -- How many arguments a call has, to which parameters they go, and what is called. Go specification, "Calls" and
 -- "Passing arguments to ... parameters".
-use Rattle.std.specs.Prelude.{◌≡◌, ℕ, ◌-◌, ◌||◌, not, is_some, nat_le, nat_lt, nat_eq, Bool, true, false, if◌then◌else◌}
+use Rattle.std.specs.Prelude.{ℕ, ◌-◌, ◌||◌, not, is_some, nat_le, nat_lt, nat_eq, Bool, true, false, if◌then◌else◌}
 use Rattle.std.specs.Prelude.{List, [], ◌∷◌, length, Option, Some, None, slice_get}
 use Rattle.std.specs.Global.{Box}
 use Rattle.std.specs.Option.{option_map}
@@ -14,57 +14,68 @@ use Rattle.go_tree.specs.declared.exprs.Method.TheVariants as method
 use Rattle.go_tree.specs.declared.exprs.TypedExpr.{TypedExpr}
 use Rattle.go_type.specs.declared.term.Signature.{Signature}
 use Rattle.go_type.specs.declared.term.TypeTerm.{TypeTerm}
-use Rattle.go_type.specs.declared.term.TypeTerm.TheVariants.{Func, Slice, Tuple}
+use Rattle.go_type.specs.declared.term.TypeTerm.TheVariants.{Func, Slice}
 use Rattle.go_type.specs.Assignable.{underlying_term_of}
-use Rattle.go_type.specs.Table.{Table, term_at, with_term}
+use Rattle.go_type.specs.Table.{Table}
+use Rattle.typed_parts.specs.declared.meaning.Given.{Given}
 use Rattle.typed_parts.specs.Judged.{Broken}
 use Rattle.typed_parts.specs.Several.{place_of}
 use Rattle.typed_calls.specs.declared.calling.Arguments.{Arguments}
-use Rattle.typed_calls.specs.declared.calling.Arguments.TheVariants.{Each, Spread}
+use Rattle.typed_calls.specs.declared.calling.Arguments.TheVariants as arguments
 use Rattle.typed_calls.specs.declared.calling.CallSite.{CallSite}
 use Rattle.typed_calls.specs.declared.calling.NumberBreach.{NumberBreach}
 use Rattle.typed_calls.specs.declared.calling.NumberBreach.TheVariants as breach
 use Rattle.typed_calls.specs.declared.packing.Plan.{Plan}
 
+-- ---- arguments: one value each, or the values of a call of several
+
+pub data Written : Type 0 where
+  each : List (Option Given) → Written
+  spread : Given → List TypeId → Written
+
+abbrev pub written : Arguments → Written
+written (arguments.Each values) = Written.each values.items
+written (arguments.Spread value parts) = Written.spread value parts.items
+
 -- ---- the number of arguments
 
 -- a call of several values counts for so many
-abbrev pub count : Arguments → ℕ
-count (Each values) = length values.items
-count (Spread value parts) = length parts.items
+abbrev pub count : Written → ℕ
+count (Written.each values) = length values
+count (Written.spread value parts) = length parts
 
-abbrev pub is_spread : Arguments → Bool
-is_spread (Each values) = false
-is_spread (Spread value parts) = true
+abbrev pub is_spread : Written → Bool
+is_spread (Written.each values) = false
+is_spread (Written.spread value parts) = true
 
 -- where the arguments begin, where they are sound
-abbrev pub place : Arguments → Pos → Option Pos
-place (Each values) otherwise = place_of values.items otherwise
-place (Spread value parts) otherwise = Some value.at
+abbrev pub place : Written → Pos → Option Pos
+place (Written.each values) otherwise = place_of values otherwise
+place (Written.spread value parts) otherwise = Some value.at
 
 -- "If the final argument is assignable to a slice type []T and is followed by `...`, it is passed unchanged": of a
 -- variadic function, as the argument of its last parameter
 abbrev pub dots_breach : Signature → Bool → ℕ → ℕ → Option NumberBreach
-dots_breach signature spread written wanted =
-    if not signature.variadic || (spread || nat_lt wanted written) then Some breach.Dots
-    else if nat_eq written wanted then None
+dots_breach signature spreads number wanted =
+    if not signature.variadic || (spreads || nat_lt wanted number) then Some breach.Dots
+    else if nat_eq number wanted then None
     else Some breach.Count
 
 abbrev pub is_enough : Bool → ℕ → ℕ → Bool
-is_enough true written wanted = nat_le (wanted - 1) written
-is_enough false written wanted = nat_eq written wanted
+is_enough true number wanted = nat_le (wanted - 1) number
+is_enough false number wanted = nat_eq number wanted
 
 -- each parameter has an argument, but for a variadic one, which has any number
 abbrev pub count_breach : Signature → ℕ → ℕ → Option NumberBreach
-count_breach signature written wanted =
-    if is_enough signature.variadic written wanted then None else Some breach.Count
+count_breach signature number wanted =
+    if is_enough signature.variadic number wanted then None else Some breach.Count
 
 abbrev pub breach_at : Option Pos → Signature → Bool → ℕ → Option NumberBreach
-breach_at (Some dots) signature spread written = dots_breach signature spread written (length signature.params)
-breach_at None signature spread written = count_breach signature written (length signature.params)
+breach_at (Some dots) signature spreads number = dots_breach signature spreads number (length signature.params)
+breach_at None signature spreads number = count_breach signature number (length signature.params)
 
-abbrev pub number_breach : CallSite → Signature → Arguments → Option NumberBreach
-number_breach call signature arguments = breach_at call.dots signature (is_spread arguments) (count arguments)
+abbrev pub number_breach : CallSite → Signature → Written → Option NumberBreach
+number_breach call signature given = breach_at call.dots signature (is_spread given) (count given)
 
 abbrev pub breach_broken : NumberBreach → Option Pos → Option Pos → List Broken
 breach_broken breach.Dots (Some dots) (Some place) = record { at = dots; rule = BadUseOfDots } ∷ []
@@ -118,9 +129,3 @@ function_term _ = None
 -- the function type that the underlying type is
 abbrev pub signature_of : Table → TypeId → Option Signature
 signature_of types of = function_term (underlying_term_of types of)
-
--- a call is of its one result, or of none or several values, whose type is held
-abbrev pub IsResultOf : Table → Table → List TypeId → TypeId → Type 0
-IsResultOf before after (only ∷ []) of = (after ≡ before) × (of ≡ only)
-IsResultOf before after results of =
-    (term_at after of ≡ Some (Tuple results)) × (after ≡ with_term (Tuple results) before)

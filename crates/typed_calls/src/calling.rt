@@ -1,18 +1,21 @@
 //! Calls. Go specification, "Calls" and "Passing arguments to ... parameters".
 
-ghost use Rattle.std.specs.Prelude.{◌≡◌, IfOk, OnOk};
+ghost use Rattle.std.specs.Prelude.{◌≡◌, ◌∷◌, [], IfOk, OnOk, Some};
+ghost use Rattle.typed_parts.specs.Joining.{sound};
 ghost use Rattle.typed_parts.specs.Judged.{reported};
-ghost use Rattle.typed_calls.specs.Passing.{IsResultOf, breach_broken, count, is_spread, method_callee, number_breach, place, signature_of};
+ghost use Rattle.typed_parts.specs.Turning.{Turns};
+ghost use Rattle.typed_calls.specs.Calling.{AreArguments, ArePassedAs, IsCall, IsCallNode, IsCallee, IsFunctionCall, IsResult, IsResulting, IsSignatureCall, IsValueCall, IsValueCallee, are_singles, arguments_asked, one_of, seen_broken, seen_values, sole_written};
+ghost use Rattle.typed_calls.specs.Passing.{breach_broken, count, is_spread, method_callee, number_breach, place, signature_of, written, Written};
 
 use crate::converting::conversion;
-use crate::packing::{Plan, packed_values, passed_each, spread};
+use crate::packing::{Plan, each_passed, spread};
 use go_base::{NoMemory, Pos, Rule, TypeId};
 use go_tree::{Callee, ExprKind, Method, TypedExpr, Values};
 use go_type::{Signature, TypeTerm};
 use typed_built_ins::built_in;
 use typed_parts::{
-    Given, Ground, Meaning, Seen, beside, both, boxed, node, place_of, several_parts, single,
-    sound, value_of,
+    Given, Ground, Meaning, Seen, beside, boxed, node, place_of, several_parts, single, sound,
+    value_of,
 };
 
 /// `f(..)`, whose parenthesis and `...` have places: a conversion where the callee is a type, a call of a built-in
@@ -24,7 +27,9 @@ pub fn call(
     parenthesis: Pos,
     arguments: Vec<Seen>,
     dots: Option<Pos>,
-) -> Result<Option<TypedExpr>, NoMemory> {
+) -> Result<Option<TypedExpr>, NoMemory>
+    ensures { Turns ground.old ground.new result (IsCall callee parenthesis arguments.items dots) }
+{
     let Seen { at, meaning } = callee;
     let call = CallSite {
         at,
@@ -57,7 +62,9 @@ fn function_call(
     call: CallSite,
     callee: Option<Given>,
     arguments: Vec<Seen>,
-) -> Result<Option<TypedExpr>, NoMemory> {
+) -> Result<Option<TypedExpr>, NoMemory>
+    ensures { Turns ground.old ground.new result (IsFunctionCall call arguments.items callee) }
+{
     let (arguments, callee) = beside(arguments_of(ground, arguments), callee)?;
     match callee.zip(Some(arguments)) {
         Some((callee, arguments)) => value_call(ground, call, callee.expr, arguments),
@@ -71,7 +78,9 @@ fn value_call(
     call: CallSite,
     callee: TypedExpr,
     arguments: Arguments,
-) -> Result<Option<TypedExpr>, NoMemory> {
+) -> Result<Option<TypedExpr>, NoMemory>
+    ensures { Turns ground.old ground.new result (IsValueCall call callee (written arguments)) }
+{
     let signature = signature_of(ground, callee.of);
     let (signature, (callee, arguments)) = beside(signature, (callee, arguments))?;
     match signature {
@@ -91,27 +100,43 @@ fn signature_call(
     signature: Signature,
     callee: TypedExpr,
     arguments: Arguments,
-) -> Result<Option<TypedExpr>, NoMemory> {
+) -> Result<Option<TypedExpr>, NoMemory>
+    ensures { Turns ground.old ground.new result (IsSignatureCall call signature callee (written arguments)) }
+{
     let arguments = passed_arguments(ground, call, &signature, arguments);
-    match both(arguments, Ok(Some((callee, signature))))? {
-        Some((arguments, (callee, signature))) => {
-            let of = result_of(ground, signature.results.as_slice());
-            drop(signature);
-            sound(call_node(ground, call, of, callee, arguments))
-        }
+    let (arguments, (callee, signature)) = beside(arguments, (callee, signature))?;
+    match arguments {
+        Some(arguments) => resulting_call(ground, call, signature, callee, arguments),
         None => Ok(None),
     }
 }
 
-/// The node of a call whose type came.
+/// The call, where its arguments are sound.
+fn resulting_call(
+    ground: &mut Ground,
+    call: CallSite,
+    signature: Signature,
+    callee: TypedExpr,
+    arguments: Values,
+) -> Result<Option<TypedExpr>, NoMemory>
+    ensures { Turns ground.old ground.new result (IsResulting call signature.results callee arguments) }
+{
+    let of = result_of(ground, signature.results.as_slice());
+    drop(signature);
+    let (of, (callee, arguments)) = beside(of, (callee, arguments))?;
+    sound(call_node(ground, call, of, callee, arguments))
+}
+
+/// The node of a call of a type.
 fn call_node(
     ground: &Ground,
     call: CallSite,
-    of: Result<TypeId, NoMemory>,
+    of: TypeId,
     callee: TypedExpr,
     arguments: Values,
-) -> Result<TypedExpr, NoMemory> {
-    let (of, (callee, arguments)) = beside(of, (callee, arguments))?;
+) -> Result<TypedExpr, NoMemory>
+    ensures { IfOk result (IsCallNode call of callee arguments) }
+{
     let (callee, arguments) = beside(callee_of(ground, callee), arguments)?;
     Ok(node(call.parenthesis, of, ExprKind::CallOf { callee, arguments }))
 }
@@ -131,17 +156,18 @@ fn signature_of(ground: &Ground, of: TypeId) -> Result<Option<Signature>, NoMemo
 
 /// The type of a call: of the one result, or of none or several values.
 fn result_of(ground: &mut Ground, results: &[TypeId]) -> Result<TypeId, NoMemory>
-    ensures result_is { IfOk result (IsResultOf ground.old.types ground.new.types results.now) }
-    ensures keeps { OnOk result (ground.new ≡ record ground.old { types = ground.new.types }) }
+    ensures { Turns ground.old ground.new (sound result) (IsResult results.now) }
 {
-    match results {
-        [only] => Ok(*only),
-        _ => ground.tuple(results),
+    if results.len() == 1 {
+        return Ok(results[0]);
     }
+    ground.tuple(results)
 }
 
 /// What is called, by the value that is.
-fn callee_of(ground: &Ground, expr: TypedExpr) -> Result<Callee, NoMemory> {
+fn callee_of(ground: &Ground, expr: TypedExpr) -> Result<Callee, NoMemory>
+    ensures { IfOk result (IsCallee expr) }
+{
     let (at, of, kind) = expr.into_parts();
     match kind {
         ExprKind::FunctionOf(function) => Ok(Callee::Function(function)),
@@ -151,7 +177,9 @@ fn callee_of(ground: &Ground, expr: TypedExpr) -> Result<Callee, NoMemory> {
     }
 }
 
-fn value_callee(ground: &Ground, expr: TypedExpr) -> Result<Callee, NoMemory> {
+fn value_callee(ground: &Ground, expr: TypedExpr) -> Result<Callee, NoMemory>
+    ensures { IfOk result (IsValueCallee expr) }
+{
     let expr = boxed(ground, expr)?;
     Ok(Callee::Value(expr))
 }
@@ -179,11 +207,11 @@ enum Arguments {
 }
 
 /// The arguments: one value each, or one call of several. `WrongNumberOfValues` at any other call of none or several.
-fn arguments_of(ground: &mut Ground, arguments: Vec<Seen>) -> Result<Arguments, NoMemory> {
-    let mut values = Vec::new(ground.alloc);
-    for argument in arguments {
-        values.push(value_of(ground, argument))?;
-    }
+fn arguments_of(ground: &mut Ground, arguments: Vec<Seen>) -> Result<Arguments, NoMemory>
+    ensures arguments { IfOk result (λ made. Some (written made) ≡ (arguments_asked ground.old.types arguments.items).sound) }
+    ensures broken { OnOk result (ground.new ≡ reported ground.old (arguments_asked ground.old.types arguments.items).broken) }
+{
+    let mut values = values_of(ground, arguments)?;
     if values.len() == 1 {
         let value = values.pop().flatten();
         drop(values);
@@ -192,7 +220,21 @@ fn arguments_of(ground: &mut Ground, arguments: Vec<Seen>) -> Result<Arguments, 
     each_argument(ground, values)
 }
 
-fn each_argument(ground: &mut Ground, values: Vec<Option<Given>>) -> Result<Arguments, NoMemory> {
+fn values_of(ground: &mut Ground, arguments: Vec<Seen>) -> Result<Vec<Option<Given>>, NoMemory>
+    ensures values { IfOk result (λ values. values.items ≡ seen_values arguments.items) }
+    ensures broken { OnOk result (ground.new ≡ reported ground.old (seen_broken arguments.items)) }
+{
+    let mut values = Vec::new(ground.alloc);
+    for argument in arguments {
+        values.push(value_of(ground, argument))?;
+    }
+    Ok(values)
+}
+
+fn each_argument(ground: &mut Ground, values: Vec<Option<Given>>) -> Result<Arguments, NoMemory>
+    ensures arguments { IfOk result (λ made. Some (written made) ≡ (are_singles ground.old.types values.items).sound) }
+    ensures broken { OnOk result (ground.new ≡ reported ground.old (are_singles ground.old.types values.items).broken) }
+{
     let mut singles = Vec::new(ground.alloc);
     for value in values {
         singles.push(only_one(ground, value))?;
@@ -200,19 +242,28 @@ fn each_argument(ground: &mut Ground, values: Vec<Option<Given>>) -> Result<Argu
     Ok(Arguments::Each(singles))
 }
 
-fn only_one(ground: &mut Ground, value: Option<Given>) -> Option<Given> {
+fn only_one(ground: &mut Ground, value: Option<Given>) -> Option<Given>
+    ensures answer { result ≡ (one_of ground.old.types value).sound }
+    ensures broken { ground.new ≡ reported ground.old (one_of ground.old.types value).broken }
+{
     let value = value?;
     single(ground, value)
 }
 
-fn sole_argument(ground: &mut Ground, value: Option<Given>) -> Result<Arguments, NoMemory> {
+fn sole_argument(ground: &mut Ground, value: Option<Given>) -> Result<Arguments, NoMemory>
+    ensures arguments { IfOk result (λ made. Some (written made) ≡ (sole_written ground.old.types value).sound) }
+    ensures broken { OnOk result (ground.new ≡ reported ground.old (sole_written ground.old.types value).broken) }
+{
     match value {
         Some(value) => given_argument(ground, value),
         None => one_argument(ground, None),
     }
 }
 
-fn given_argument(ground: &mut Ground, value: Given) -> Result<Arguments, NoMemory> {
+fn given_argument(ground: &mut Ground, value: Given) -> Result<Arguments, NoMemory>
+    ensures arguments { IfOk result (λ made. Some (written made) ≡ (sole_written ground.old.types (Some value)).sound) }
+    ensures broken { OnOk result (ground.new ≡ reported ground.old (sole_written ground.old.types (Some value)).broken) }
+{
     let (parts, value) = beside(several_parts(ground, value.expr.of), value)?;
     match parts {
         Some(parts) => Ok(Arguments::Spread(value, parts)),
@@ -223,7 +274,9 @@ fn given_argument(ground: &mut Ground, value: Given) -> Result<Arguments, NoMemo
     }
 }
 
-fn one_argument(ground: &Ground, value: Option<Given>) -> Result<Arguments, NoMemory> {
+fn one_argument(ground: &Ground, value: Option<Given>) -> Result<Arguments, NoMemory>
+    ensures { IfOk result (λ made. written made ≡ Written.each (value ∷ [])) }
+{
     let mut values = Vec::new(ground.alloc);
     values.push(value)?;
     Ok(Arguments::Each(values))
@@ -231,7 +284,7 @@ fn one_argument(ground: &Ground, value: Option<Given>) -> Result<Arguments, NoMe
 
 impl Arguments {
     fn count(&self) -> usize
-        ensures { result ≡ count self.now }
+        ensures { result ≡ count (written self.now) }
     {
         match self {
             Arguments::Each(values) => values.len(),
@@ -240,14 +293,14 @@ impl Arguments {
     }
 
     fn is_spread(&self) -> bool
-        ensures { result ≡ is_spread self.now }
+        ensures { result ≡ is_spread (written self.now) }
     {
         matches!(self, Arguments::Spread(_, _))
     }
 
     /// The place of the first argument; None where one is unsound.
     fn place(&self, otherwise: Pos) -> Option<Pos>
-        ensures { result ≡ place self.now otherwise }
+        ensures { result ≡ place (written self.now) otherwise }
     {
         match self {
             Arguments::Each(values) => place_of(values.as_slice(), otherwise),
@@ -262,7 +315,7 @@ fn number_breach(
     signature: &Signature,
     arguments: &Arguments,
 ) -> Option<NumberBreach>
-    ensures { result ≡ number_breach call signature.now arguments.now }
+    ensures { result ≡ number_breach call signature.now (written arguments.now) }
 {
     let written = arguments.count();
     let wanted = signature.params.as_slice().len();
@@ -294,7 +347,7 @@ enum NumberBreach {
 }
 
 fn report_number(ground: &mut Ground, call: CallSite, breach: NumberBreach, arguments: &Arguments)
-    ensures { ground.new ≡ reported ground.old (breach_broken breach call.dots (place arguments.now call.at)) }
+    ensures { ground.new ≡ reported ground.old (breach_broken breach call.dots (place (written arguments.now) call.at)) }
 {
     let Some(place) = arguments.place(call.at) else {
         return;
@@ -311,31 +364,30 @@ fn passed_arguments(
     call: CallSite,
     signature: &Signature,
     arguments: Arguments,
-) -> Result<Option<Values>, NoMemory> {
+) -> Result<Option<Values>, NoMemory>
+    ensures { Turns ground.old ground.new result (AreArguments call signature.now (written arguments)) }
+{
     match number_breach(call, signature, &arguments) {
         Some(breach) => {
             report_number(ground, call, breach, &arguments);
             drop(arguments);
             Ok(None)
         }
-        None => {
-            let plan = Plan::new(ground, call, signature);
-            planned_arguments(ground, signature, plan, arguments)
-        }
+        None => planned_arguments(ground, call, signature, arguments),
     }
 }
 
 fn planned_arguments(
     ground: &mut Ground,
+    call: CallSite,
     signature: &Signature,
-    plan: Plan,
     arguments: Arguments,
-) -> Result<Option<Values>, NoMemory> {
+) -> Result<Option<Values>, NoMemory>
+    ensures { Turns ground.old ground.new result (ArePassedAs call signature.now (written arguments)) }
+{
+    let plan = Plan::new(ground, call, signature);
     match arguments {
-        Arguments::Each(values) => {
-            let values = passed_each(ground, signature, plan, values);
-            packed_values(ground, plan, values)
-        }
+        Arguments::Each(values) => each_passed(ground, signature, plan, values),
         Arguments::Spread(tuple, parts) => spread(ground, signature, plan, tuple, parts),
     }
 }

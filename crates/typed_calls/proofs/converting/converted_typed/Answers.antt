@@ -1,4 +1,4 @@
-use Rattle.std.proofs.Common.{◌≡◌, sym, ap, ◌∙◌, subst, Ok, false, true}
+use Rattle.std.proofs.Common.{◌≡◌, sym, ◌∙◌, subst, Ok, false, true}
 use Rattle.std.specs.Prelude.{IsTrue, ◌↔◌, Bool}
 use Rattle.go_tree.specs.declared.exprs.TypedExpr.{TypedExpr}
 use Rattle.typed_parts.specs.Joining.{beside}
