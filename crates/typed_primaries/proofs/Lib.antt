@@ -5,3 +5,4 @@ pub mod Slices
 pub mod Asserts
 pub mod Selects
 pub mod MethodNames
+pub mod Lists

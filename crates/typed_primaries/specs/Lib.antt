@@ -3,3 +3,4 @@ pub mod Indexing
 pub mod Slicing
 pub mod Asserting
 pub mod Selecting
+pub mod Listing

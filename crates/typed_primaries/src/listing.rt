@@ -1,6 +1,15 @@
 //! Lists of values that go to as many targets. Go specification, "Assignment statements", "Variable declarations" and "Return
 //! statements".
 
+ghost use Rattle.std.specs.Prelude.{◌≡◌, ◌∷◌, [], Option, IfOk, OnOk, length, map, true};
+ghost use Rattle.std.specs.List.{flat_map};
+ghost use Rattle.std.specs.Option.{option_map};
+ghost use Rattle.typed_parts.specs.declared.meaning.Given.{Given};
+ghost use Rattle.typed_parts.specs.Joining.{items_of};
+ghost use Rattle.typed_parts.specs.Judged.{reported};
+ghost use Rattle.typed_parts.specs.Turning.{Asks, IsEach, Turns};
+ghost use Rattle.typed_primaries.specs.Listing.{AreEachInto, AreGivenInto, AreOfFormBy, AreOfOne, AreOfParts, AreValuesInto, IsGoing, IsInto, IsOkGoing, IsOkPair, IsPartGoing, IsPartInto, IsValueInto, Told, all_of, as_many, each_outline, given_broken, given_of, no_outline, no_type, outline, outlined, single_broken, spread_outline, takes_ok, target_at, told_items, type_in, unlike};
+
 use crate::asserting::{has_ok_form, with_ok as made_with_ok};
 use go_base::{NoMemory, Pos, Rule, TypeId};
 use go_tree::{ExprKind, TypedExpr, Values};
@@ -39,23 +48,17 @@ pub fn values_into(
     values: Vec<Seen>,
     targets: &[Into],
     with_ok: bool,
-) -> Result<Listed, NoMemory> {
+) -> Result<Listed, NoMemory>
+    ensures { Turns ground.old ground.new (outlined result) (AreValuesInto at values.items targets.now with_ok) }
+{
     let givens = each_given(ground, values)?;
-    if givens.len() == targets.len() {
-        return each_into(ground, givens, targets);
-    }
-    if givens.len() == 1 {
-        return sole_into(ground, givens, targets, with_ok);
-    }
-    let place = place_of(givens.as_slice(), at);
-    if let Some(place) = place {
-        ground.report(place, Rule::WrongNumberOfValues);
-    }
-    ask_singles(ground, givens);
-    nothing(ground, targets)
+    givens_into(ground, at, givens, targets, with_ok)
 }
 
-fn each_given(ground: &mut Ground, values: Vec<Seen>) -> Result<Vec<Option<Given>>, NoMemory> {
+fn each_given(ground: &mut Ground, values: Vec<Seen>) -> Result<Vec<Option<Given>>, NoMemory>
+    ensures givens { IfOk result (λ made. made.items ≡ map given_of values.items) }
+    ensures broken { OnOk result (ground.new ≡ reported ground.old (flat_map given_broken values.items)) }
+{
     let mut givens = Vec::new(ground.alloc);
     for value in values {
         givens.push(value_of(ground, value))?;
@@ -63,20 +66,60 @@ fn each_given(ground: &mut Ground, values: Vec<Seen>) -> Result<Vec<Option<Given
     Ok(givens)
 }
 
-fn ask_singles(ground: &mut Ground, values: Vec<Option<Given>>) {
+fn givens_into(
+    ground: &mut Ground,
+    at: Pos,
+    givens: Vec<Option<Given>>,
+    targets: &[Into],
+    with_ok: bool,
+) -> Result<Listed, NoMemory>
+    ensures { Turns ground.old ground.new (outlined result) (AreGivenInto at targets.now with_ok givens.items) }
+{
+    if givens.len() == targets.len() {
+        each_into(ground, givens, targets)
+    } else if givens.len() == 1 {
+        sole_into(ground, givens, targets, with_ok)
+    } else {
+        unlike(ground, at, givens, targets)
+    }
+}
+
+/// Another number of values than of targets. `WrongNumberOfValues` at the first value, or at `at` where there are none.
+fn unlike(
+    ground: &mut Ground,
+    at: Pos,
+    givens: Vec<Option<Given>>,
+    targets: &[Into],
+) -> Result<Listed, NoMemory>
+    ensures { Turns ground.old ground.new (outlined result) (Asks (unlike at targets.now givens.items)) }
+{
+    if let Some(place) = place_of(givens.as_slice(), at) {
+        ground.report(place, Rule::WrongNumberOfValues);
+    }
+    ask_singles(ground, givens);
+    nothing(ground, targets)
+}
+
+fn ask_singles(ground: &mut Ground, values: Vec<Option<Given>>)
+    ensures { ground.new ≡ reported ground.old (flat_map (single_broken ground.old.types) values.items) }
+{
     for value in values {
         ask_single(ground, value);
     }
 }
 
-fn ask_single(ground: &mut Ground, value: Option<Given>) {
+fn ask_single(ground: &mut Ground, value: Option<Given>)
+    ensures { ground.new ≡ reported ground.old (single_broken ground.old.types value) }
+{
     if let Some(value) = value {
         drop(single(ground, value));
     }
 }
 
 /// Nothing sound goes to the targets.
-fn nothing(ground: &Ground, targets: &[Into]) -> Result<Listed, NoMemory> {
+fn nothing(ground: &Ground, targets: &[Into]) -> Result<Listed, NoMemory>
+    ensures { IfOk result (λ listed. outline listed ≡ no_outline targets.now) }
+{
     let mut types = Vec::new(ground.alloc);
     for _ in targets {
         types.push(None)?;
@@ -92,23 +135,40 @@ fn each_into(
     ground: &mut Ground,
     values: Vec<Option<Given>>,
     targets: &[Into],
-) -> Result<Listed, NoMemory> {
-    let mut parts = Parts::new(ground);
-    for (number, value) in values.into_iter().enumerate() {
-        let value = value_into(ground, value, target_at(targets, number));
-        parts = parts.with(value)?;
-    }
+) -> Result<Listed, NoMemory>
+    ensures { Turns ground.old ground.new (outlined result) (AreEachInto targets.now values.items) }
+{
+    let values = each_value(ground, values, targets)?;
+    each_listed(ground, values)
+}
+
+/// Values that are one for each target.
+fn each_listed(ground: &Ground, values: Vec<Option<TypedExpr>>) -> Result<Listed, NoMemory>
+    ensures { IfOk result (λ listed. outline listed ≡ each_outline values.items) }
+{
+    let parts = all_parts(ground, values)?;
     Ok(parts.each())
 }
 
-fn type_at(value: &Option<TypedExpr>) -> Option<TypeId> {
-    match value {
-        Some(value) => Some(value.of),
-        None => None,
+fn each_value(
+    ground: &mut Ground,
+    values: Vec<Option<Given>>,
+    targets: &[Into],
+) -> Result<Vec<Option<TypedExpr>>, NoMemory>
+    ensures { Turns ground.old ground.new (told_items result) (IsEach (IsValueInto targets.now) values.items) }
+{
+    let mut made = Vec::new(ground.alloc);
+    for value in values {
+        let target = target_at(targets, made.len());
+        let value = value_into(ground, value, target)?;
+        made.push(value)?;
     }
+    Ok(made)
 }
 
-fn target_at(targets: &[Into], number: usize) -> Into {
+fn target_at(targets: &[Into], number: usize) -> Into
+    ensures { result ≡ target_at targets.now number }
+{
     match targets.get(number) {
         Some(target) => *target,
         None => Into::Unsound,
@@ -119,11 +179,26 @@ fn value_into(
     ground: &mut Ground,
     value: Option<Given>,
     target: Into,
-) -> Result<Option<TypedExpr>, NoMemory> {
-    let Some(value) = value else {
-        return Ok(None);
-    };
-    let value = single(ground, value);
+) -> Result<Option<TypedExpr>, NoMemory>
+    ensures { Turns ground.old ground.new result (IsInto target value) }
+{
+    match value {
+        Some(value) => {
+            let value = single(ground, value);
+            going(ground, value, target)
+        }
+        None => Ok(None),
+    }
+}
+
+/// A value to where it goes.
+fn going(
+    ground: &mut Ground,
+    value: Option<Given>,
+    target: Into,
+) -> Result<Option<TypedExpr>, NoMemory>
+    ensures { Turns ground.old ground.new result (IsGoing target value) }
+{
     match target {
         Into::Type(to) => assigned(ground, value, Some(to)),
         Into::Any => by_default(ground, value),
@@ -140,46 +215,181 @@ fn sole_into(
     mut values: Vec<Option<Given>>,
     targets: &[Into],
     with_ok: bool,
-) -> Result<Listed, NoMemory> {
+) -> Result<Listed, NoMemory>
+    requires { length values.items ≡ 1 }
+    ensures { (x : Option Given) → values.items ≡ x ∷ [] → Turns ground.old ground.new (outlined result) (AreOfOne with_ok targets.now x) }
+{
     let value = values.pop().flatten();
     drop(values);
-    let Some(Given { at, expr }) = value else {
+    one_into(ground, value, targets, with_ok)
+}
+
+fn one_into(
+    ground: &mut Ground,
+    value: Option<Given>,
+    targets: &[Into],
+    with_ok: bool,
+) -> Result<Listed, NoMemory>
+    ensures { Turns ground.old ground.new (outlined result) (AreOfOne with_ok targets.now value) }
+{
+    let Some(value) = value else {
         return nothing(ground, targets);
     };
-    let (parts, expr) = beside(several_parts(ground, expr.of), expr)?;
+    let (parts, value) = beside(several_parts(ground, value.expr.of), value)?;
+    match parts_for(parts, targets.len()) {
+        Some(parts) => parts_into(ground, value, parts, targets),
+        None => form_into(ground, value, targets, with_ok),
+    }
+}
+
+/// The types of several values, where they are as many as wanted.
+fn parts_for(parts: Option<Vec<TypeId>>, wanted: usize) -> Option<Vec<TypeId>>
+    ensures { option_map (λ ids. ids.items) result ≡ as_many wanted (option_map (λ ids. ids.items) parts) }
+{
     match parts {
-        Some(parts) if parts.len() == targets.len() => {
-            let passed = parts_into(ground, at, parts.as_slice(), targets);
-            drop(parts);
-            spread(ground, expr, passed)
-        }
+        Some(parts) if parts.len() == wanted => Some(parts),
         parts => {
             drop(parts);
-            form_into(ground, at, expr, targets, with_ok)
+            None
         }
     }
 }
 
-/// One value for two targets, where it has a comma-ok form. `WrongNumberOfValues` at any other.
-fn form_into(
+/// The parts of one value that is several.
+fn parts_into(
+    ground: &mut Ground,
+    value: Given,
+    parts: Vec<TypeId>,
+    targets: &[Into],
+) -> Result<Listed, NoMemory>
+    ensures { Turns ground.old ground.new (outlined result) (AreOfParts targets.now value parts.items) }
+{
+    let Given { at, expr } = value;
+    let made = each_part(ground, at, parts.as_slice(), targets);
+    drop(parts);
+    let (made, expr) = beside(made, expr)?;
+    spread(ground, expr, made)
+}
+
+fn each_part(
     ground: &mut Ground,
     at: Pos,
-    expr: TypedExpr,
+    parts: &[TypeId],
+    targets: &[Into],
+) -> Result<Vec<Option<TypedExpr>>, NoMemory>
+    ensures { Turns ground.old ground.new (told_items result) (IsEach (IsPartInto at targets.now) parts.now) }
+{
+    let mut made = Vec::new(ground.alloc);
+    for of in parts {
+        let number = made.len();
+        let part = part_into(ground, at, number, *of, target_at(targets, number))?;
+        made.push(part)?;
+    }
+    Ok(made)
+}
+
+fn part_into(
+    ground: &mut Ground,
+    at: Pos,
+    number: usize,
+    of: TypeId,
+    target: Into,
+) -> Result<Option<TypedExpr>, NoMemory>
+    ensures { Turns ground.old ground.new result (IsPartGoing at number of target) }
+{
+    let Ok(part) = u32::try_from(number) else {
+        return Err(lost());
+    };
+    match target {
+        Into::Type(to) => assigned_part(ground, at, part, of, to),
+        Into::Any => Ok(Some(node(at, of, ExprKind::PartOf(part)))),
+        Into::Unsound => Ok(None),
+    }
+}
+
+/// One value for two targets, where it has a form that gives a second one. `WrongNumberOfValues` at any other.
+fn form_into(
+    ground: &mut Ground,
+    value: Given,
     targets: &[Into],
     with_ok: bool,
-) -> Result<Listed, NoMemory> {
-    if with_ok && targets.len() == 2 && has_ok_form(&expr) {
-        let passed = ok_into(ground, at, expr.of, targets);
-        let (passed, expr) = beside(passed, expr)?;
-        let (expr, passed) = beside(made_with_ok(ground, expr), passed)?;
-        return spread(ground, expr, Ok(passed));
+) -> Result<Listed, NoMemory>
+    ensures { Turns ground.old ground.new (outlined result) (AreOfFormBy (takes_ok with_ok targets.now value.expr) targets.now value) }
+{
+    if takes_ok(with_ok, targets, &value.expr) {
+        return pair_into(ground, value, targets);
     }
-    drop(expr);
-    ground.report(at, Rule::WrongNumberOfValues);
+    ground.report(value.at, Rule::WrongNumberOfValues);
+    drop(value);
     nothing(ground, targets)
 }
 
-/// The values for targets that were seen so far, and their types.
+/// Whether a form of two values may go to the targets.
+fn takes_ok(with_ok: bool, targets: &[Into], value: &TypedExpr) -> bool
+    ensures { result ≡ takes_ok with_ok targets.now value.now }
+{
+    with_ok && targets.len() == 2 && has_ok_form(value)
+}
+
+/// The two values of a comma-ok form.
+fn pair_into(ground: &mut Ground, value: Given, targets: &[Into]) -> Result<Listed, NoMemory>
+    ensures { Turns ground.old ground.new (outlined result) (AreOfFormBy true targets.now value) }
+{
+    let (parts, value) = beside(ok_pair(ground, value.at, value.expr.of, targets), value)?;
+    let (tuple, parts) = beside(made_with_ok(ground, value.expr), parts)?;
+    spread(ground, tuple, parts)
+}
+
+fn ok_pair(
+    ground: &mut Ground,
+    at: Pos,
+    of: TypeId,
+    targets: &[Into],
+) -> Result<Vec<Option<TypedExpr>>, NoMemory>
+    ensures { Turns ground.old ground.new (told_items result) (IsOkPair targets.now at of) }
+{
+    let value = part_into(ground, at, 0, of, target_at(targets, 0))?;
+    let (ok, value) = beside(ok_into(ground, at, target_at(targets, 1)), value)?;
+    pair_of(ground, value, ok)
+}
+
+fn pair_of(
+    ground: &Ground,
+    value: Option<TypedExpr>,
+    ok: Option<TypedExpr>,
+) -> Result<Vec<Option<TypedExpr>>, NoMemory>
+    ensures { IfOk result (λ made. made.items ≡ value ∷ ok ∷ []) }
+{
+    let mut made = Vec::new(ground.alloc);
+    made.push(value)?;
+    made.push(ok)?;
+    Ok(made)
+}
+
+fn ok_into(ground: &mut Ground, at: Pos, target: Into) -> Result<Option<TypedExpr>, NoMemory>
+    ensures { Turns ground.old ground.new result (IsOkGoing at target) }
+{
+    match target {
+        Into::Type(to) => assigned_ok(ground, at, to),
+        Into::Any => Ok(Some(node(at, basic(Basic::Bool), ExprKind::PartOf(1)))),
+        Into::Unsound => Ok(None),
+    }
+}
+
+/// The parts of one expression of several values.
+fn spread(
+    ground: &Ground,
+    tuple: TypedExpr,
+    parts: Vec<Option<TypedExpr>>,
+) -> Result<Listed, NoMemory>
+    ensures { IfOk result (λ listed. outline listed ≡ spread_outline tuple parts.items) }
+{
+    let (parts, tuple) = beside(all_parts(ground, parts), tuple)?;
+    let (tuple, parts) = beside(boxed(ground, tuple), parts)?;
+    Ok(parts.spread(tuple))
+}
+
+/// Values for targets, and their types.
 #[derive(Drop)]
 struct Parts {
     /// None where one is unsound.
@@ -187,26 +397,34 @@ struct Parts {
     types: Vec<Option<TypeId>>,
 }
 
+fn all_parts(ground: &Ground, parts: Vec<Option<TypedExpr>>) -> Result<Parts, NoMemory>
+    ensures values { IfOk result (λ made. items_of made.values ≡ all_of parts.items) }
+    ensures types { IfOk result (λ made. made.types.items ≡ map type_in parts.items) }
+{
+    let mut values = Some(Vec::new(ground.alloc));
+    let mut types = Vec::new(ground.alloc);
+    for part in parts {
+        types.push(type_in(&part))?;
+        values = with_last(values, part)?;
+    }
+    Ok(Parts { values, types })
+}
+
+fn type_in(part: &Option<TypedExpr>) -> Option<TypeId>
+    ensures { result ≡ type_in part.now }
+{
+    match part {
+        Some(part) => Some(part.of),
+        None => None,
+    }
+}
+
 impl Parts {
-    fn new(ground: &Ground) -> Parts {
-        Parts {
-            values: Some(Vec::new(ground.alloc)),
-            types: Vec::new(ground.alloc),
-        }
-    }
-
-    /// One more value that came.
-    fn with(self, value: Result<Option<TypedExpr>, NoMemory>) -> Result<Parts, NoMemory> {
-        let Parts { values, types } = self;
-        let (value, (values, types)) = beside(value, (values, types))?;
-        let types = with_type(types, type_at(&value));
-        let (types, (values, value)) = beside(types, (values, value))?;
-        let (values, types) = beside(with_last(values, value), types)?;
-        Ok(Parts { values, types })
-    }
-
     /// The values, one for each target.
-    fn each(self) -> Listed {
+    fn each(self) -> Listed
+        ensures values { (outline result).values ≡ option_map Told.each (items_of self.values) }
+        ensures types { (outline result).types ≡ self.types.items }
+    {
         let Parts { values, types } = self;
         match values {
             Some(values) => Listed {
@@ -221,7 +439,10 @@ impl Parts {
     }
 
     /// The values as parts of one of several.
-    fn spread(self, tuple: Box<TypedExpr>) -> Listed {
+    fn spread(self, tuple: Box<TypedExpr>) -> Listed
+        ensures values { (outline result).values ≡ option_map (Told.spread tuple.value) (items_of self.values) }
+        ensures types { (outline result).types ≡ self.types.items }
+    {
         let Parts { values, types } = self;
         match Some(tuple).zip(values) {
             Some((tuple, parts)) => Listed {
@@ -233,70 +454,5 @@ impl Parts {
                 types,
             },
         }
-    }
-}
-
-fn with_type(
-    mut types: Vec<Option<TypeId>>,
-    of: Option<TypeId>,
-) -> Result<Vec<Option<TypeId>>, NoMemory> {
-    types.push(of)?;
-    Ok(types)
-}
-
-fn spread(
-    ground: &Ground,
-    tuple: TypedExpr,
-    parts: Result<Parts, NoMemory>,
-) -> Result<Listed, NoMemory> {
-    let (parts, tuple) = beside(parts, tuple)?;
-    let (tuple, parts) = beside(boxed(ground, tuple), parts)?;
-    Ok(parts.spread(tuple))
-}
-
-fn parts_into(
-    ground: &mut Ground,
-    at: Pos,
-    parts: &[TypeId],
-    targets: &[Into],
-) -> Result<Parts, NoMemory> {
-    let mut passed = Parts::new(ground);
-    for (number, of) in parts.iter().enumerate() {
-        let value = part_into(ground, at, number, *of, target_at(targets, number));
-        passed = passed.with(value)?;
-    }
-    Ok(passed)
-}
-
-fn part_into(
-    ground: &mut Ground,
-    at: Pos,
-    number: usize,
-    of: TypeId,
-    target: Into,
-) -> Result<Option<TypedExpr>, NoMemory> {
-    let Ok(part) = u32::try_from(number) else {
-        return Err(lost());
-    };
-    match target {
-        Into::Type(to) => assigned_part(ground, at, part, of, to),
-        Into::Any => Ok(Some(node(at, of, ExprKind::PartOf(part)))),
-        Into::Unsound => Ok(None),
-    }
-}
-
-/// The two values of a comma-ok form.
-fn ok_into(ground: &mut Ground, at: Pos, of: TypeId, targets: &[Into]) -> Result<Parts, NoMemory> {
-    let value = part_into(ground, at, 0, of, target_at(targets, 0));
-    let passed = Parts::new(ground).with(value)?;
-    let told = told_into(ground, at, target_at(targets, 1));
-    passed.with(told)
-}
-
-fn told_into(ground: &mut Ground, at: Pos, target: Into) -> Result<Option<TypedExpr>, NoMemory> {
-    match target {
-        Into::Type(to) => assigned_ok(ground, at, to),
-        Into::Any => Ok(Some(node(at, basic(Basic::Bool), ExprKind::PartOf(1)))),
-        Into::Unsound => Ok(None),
     }
 }
