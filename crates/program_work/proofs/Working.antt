@@ -55,10 +55,11 @@ unfolding AreSane
 is_safe code sound runs = record { held = sound.held; sane = sound.sane; typed = sound.typed; runnable = runs }
 
 told_run : (code : Code) (command : LoadCommand) (ending : Ending) (xs ys output : List ℕ) → IsSound code → TellsRun code command.choices command.bound ending (Some xs) (Some ys) → ys ≡ xs ++ output → IsRun code command ending output
-told_run code command ending xs ys output sound told appends answers are runs =
+told_run code command ending xs ys output sound told appends answers are =
     let t = told answers are in
-    let run : IsRunOf code command.choices command.bound t.0 ending = ⊎_elim (λ is. is) (λ halts. absurd (never_stuck code command.choices command.bound answers (is_safe code sound runs) are halts)) t.1.0 in
-    subst (λ (o : List ℕ). IsRunOf code command.choices command.bound o ending) (one_text xs ys t.0 output t.1.1 appends) run
+    let same : t.0 ≡ output = one_text xs ys t.0 output t.1.1 appends in
+    ⊎_elim (λ is. inl (subst (λ (o : List ℕ). IsRunOf code command.choices command.bound o ending) same is))
+    (λ halts. inr (halts, λ runs. never_stuck code command.choices command.bound answers (is_safe code sound runs) are halts)) t.1.0
 
 pub has_run : (code : Code) (command : LoadCommand) (ending : Ending) (old new : Option (List ℕ)) → IsSound code → TellsRun code command.choices command.bound ending old new → interp.HasWritten old new → HasRun code command ending old new
 has_run code command ending None new sound told w = record { output = w.output; appends = w.appends; is_run = λ h. untrue h }

@@ -19,7 +19,7 @@ use Rattle.go_type.specs.Held.{IsHeld}
 use Rattle.ssa_ir.specs.declared.code.Code.{Code}
 use Rattle.ssa_ir.specs.declared.code.Function.{Function}
 use Rattle.ssa_mean.specs.Answers.{Answers, AreAnswers}
-use Rattle.ssa_mean.specs.Runs.{IsRunOf}
+use Rattle.ssa_mean.specs.Runs.{IsRunOf, IsStuck}
 use Rattle.ssa_print.specs.Codes as shown
 use Rattle.ssa_print.specs.Operands.{setting_of}
 use Rattle.ssa_sane.specs.Sane.{IsSane}
@@ -70,11 +70,13 @@ abbrev pub IsListing : List SourceFile → Program → Option Graph → List ℕ
 IsListing files program None text = text ≡ []
 IsListing files program (Some graph) text = IsGraphText files program graph text
 
--- a run of a runnable code with the choices and the bound of a command writes this output, and ends so
+-- a run of a code with the choices and the bound of a command writes this output, and ends so, but where the code is
+-- stuck, as runnable code never is
 abbrev pub IsRun : Code → LoadCommand → Ending → List ℕ → Type 0
 IsRun code command ending output =
-    (answers : Answers) → AreAnswers code.types answers → IsRunnable code
+    (answers : Answers) → AreAnswers code.types answers
     → IsRunOf code command.choices command.bound output ending
+    ⊎ (IsStuck code command.choices command.bound answers × (IsRunnable code → ⊥))
 
 abbrev pub IsRunBy : Option Code → LoadCommand → Ending → List ℕ → Type 0
 IsRunBy None command ending output = ⊥
