@@ -1,0 +1,80 @@
+-- The tests of a whole code tell that it is runnable.
+use Rattle.std.proofs.Common.{◌≡◌, ℕ, Bool, true, false, List, [], ◌∷◌, Contains, length, sym, ap, ◌∙◌, refl, subst, true≢false}
+use Rattle.std.specs.Prelude.{Option, Some, None, slice_get, slice_index_or, not, ◌||◌, ◌==◌}
+use Rattle.std.specs.List.{All, list_all}
+use Rattle.std.specs.Option.{option_map_or}
+use Rattle.go_base.specs.declared.ids.TypeId.{TypeId}
+use Rattle.go_type.specs.Assignable.{underlying_term_of, Implements}
+use Rattle.go_type.specs.Table.{Table, definition_at}
+use Rattle.go_type.specs.declared.methods.MethodEntry.{MethodEntry}
+use Rattle.go_type.specs.declared.term.Basic.TheVariants as basic
+use Rattle.go_type.specs.declared.term.MethodType.{MethodType}
+use Rattle.go_type.specs.declared.term.TypeTerm.{TypeTerm}
+use Rattle.go_type.specs.declared.term.TypeTerm.TheVariants as term
+use Rattle.go_value.specs.Interfaces.{is_interface_type}
+use Rattle.ssa_ir.specs.Blocks.{instrs_at, instrs_in}
+use Rattle.ssa_ir.specs.declared.code.Block.{Block}
+use Rattle.ssa_ir.specs.declared.code.Code.{Code}
+use Rattle.ssa_ir.specs.declared.code.Function.{Function}
+use Rattle.ssa_ir.specs.declared.ops.Instr.{Instr}
+use Rattle.ssa_mean.specs.BuiltIns.{is_text_term}
+use Rattle.ssa_mean.specs.Faults.{error_string}
+use Rattle.ssa_runnable.specs.Boxed.{boxed_of}
+use Rattle.ssa_runnable.specs.Methods.{AllHave, HasAll}
+use Rattle.ssa_runnable.specs.Runnable.{HasMethods, IsBoxed, IsRunnable, has_method, runs, fits_external}
+use Rattle.ssa_runnable.specs.Tests.{all_run, blocks_run, functions_run, externals_fit, fits_error, fits_interface}
+use Rattle.ssa_runnable.proofs.Boxing.{boxed_there}
+use Rattle.ssa_runnable.proofs.Lists.{all_at}
+
+in_block : (c : Code) (f : Function) (block place : ℕ) (instr : Instr) (o : Option Block) → slice_get f.blocks block ≡ o
+    → slice_get (instrs_in o) place ≡ Some instr → blocks_run c f f.blocks ≡ true → runs c f instr.op ≡ true
+in_block c f block place instr None e at h = cc
+in_block c f block place instr (Some it) e at h =
+    all_at (λ (i : Instr). runs c f i.op) it.instrs place instr
+    (all_at (λ (b : Block). all_run c f b.instrs) f.blocks block it h e) at
+
+instr_runs : (c : Code) → functions_run c c.functions ≡ true → (number block place : ℕ) (f : Function) (instr : Instr)
+    → slice_get c.functions number ≡ Some f → slice_get (instrs_at f block) place ≡ Some instr
+    → runs c f instr.op ≡ true
+instr_runs c h number block place f instr at_f at_i =
+    in_block c f block place instr (slice_get f.blocks block) refl at_i
+    (all_at (λ (g : Function). blocks_run c g g.blocks) c.functions number f h at_f)
+
+text_is : (it : Option TypeTerm) → is_text_term it ≡ true → it ≡ Some (term.Basic basic.Text)
+text_is it h = ?
+
+none_is : (methods : List MethodEntry) → (length methods == 0) ≡ true → methods ≡ []
+none_is [] h = refl
+none_is (method ∷ methods) h = cc
+
+no_methods : (is_one : Bool) (methods : List MethodEntry) → is_one ≡ true
+    → not is_one || (length methods == 0) ≡ true → methods ≡ []
+no_methods true methods e h = none_is methods h
+no_methods false methods e h = absurd (true≢false (sym e))
+
+error_fits : (types : Table) (o : Option TypeId) (of : TypeId) → o ≡ Some of → fits_error types o ≡ true
+    → underlying_term_of types of ≡ Some (term.Basic basic.Text)
+error_fits types o of e h = text_is (underlying_term_of types of) (sym (ap (fits_error types) e) ∙ h)
+
+-- ---- methods
+
+pub methods_stand : (c : Code) (boxed keys : List TypeId) → boxed ≡ boxed_of c → All (Contains keys) boxed
+    → ((of : TypeId) → AllHave c keys of) → HasMethods c
+methods_stand c boxed keys e there all of interface methods is_boxed implements is =
+    let within : Contains (boxed_of c) of = boxed_there c of is_boxed in
+    let found : Contains keys of =
+    subst (Contains keys) within.2 (subst (λ l. All (Contains keys) l) e there within.0 of within.1) in
+    let has : HasAll c interface methods of =
+    subst (HasAll c interface methods) found.2 (all interface methods is found.0 of found.1) in
+    has implements
+
+pub is_whole : (c : Code) → externals_fit c.types c.functions ≡ true → fits_error c.types (error_string c) ≡ true
+    → ((of : TypeId) → fits_interface c.types of ≡ true) → functions_run c c.functions ≡ true → HasMethods c
+    → IsRunnable c
+is_whole c externals error interfaces run methods = record {
+  instrs = instr_runs c run;
+  externals = λ number f at. all_at (λ (g : Function). fits_external c.types g g.kind) c.functions number f externals at;
+  errors = λ of e. error_fits c.types (error_string c) of e error;
+  interfaces = λ of e. no_methods (is_interface_type c.types of) (definition_at c.types of).methods e (interfaces of);
+  methods = methods;
+}

@@ -1,0 +1,6 @@
+use Rattle.std.proofs.Common.{take, Contains}
+use Rattle.std.specs.List.{All}
+use Rattle.ssa_runnable.proofs.implementing.distinct.Given as goal
+
+abbrev pub invariant-loop-of : goal.invariant-loop-of
+invariant-loop-of l = All (Contains l.set.keys) (take l.of-index l.types)

@@ -1,0 +1,7 @@
+use Rattle.std.proofs.Common.{◌≡◌, true, take}
+use Rattle.std.specs.List.{list_all}
+use Rattle.ssa_runnable.specs.Tests.{all_run}
+use Rattle.ssa_runnable.proofs.sites.Site.all_run.Given as goal
+
+abbrev pub invariant-loop-instr : goal.invariant-loop-instr
+invariant-loop-instr l = all_run l.self.code l.self.function (take l.instr-index l.instrs) ≡ true
