@@ -1,5 +1,5 @@
 -- What the code puts into interfaces is in the list of those types.
-use Rattle.std.proofs.Common.{◌≡◌, ℕ, false, List, [], ◌∷◌, ◌++◌, Contains, sym, ap, ◌∙◌, refl, subst}
+use Rattle.std.proofs.Common.{◌≡◌, ℕ, false, [], ◌∷◌, Contains, sym, ap, ◌∙◌, refl, subst}
 use Rattle.std.specs.Prelude.{Option, Some, None, slice_get, if◌then◌else◌}
 use Rattle.std.proofs.lemmas.List.Elements.{Contains-append_left, Contains-append_right, Contains-push}
 use Rattle.go_base.specs.declared.ids.TypeId.{TypeId}
@@ -10,7 +10,6 @@ use Rattle.ssa_ir.specs.declared.code.Code.{Code}
 use Rattle.ssa_ir.specs.declared.code.Function.{Function}
 use Rattle.ssa_ir.specs.declared.operands.Operand.{Operand}
 use Rattle.ssa_ir.specs.declared.ops.Instr.{Instr}
-use Rattle.ssa_ir.specs.declared.ops.Op.{Op}
 use Rattle.ssa_ir.specs.declared.ops.Op.TheVariants as op
 use Rattle.ssa_mean.specs.Faults.{error_string}
 use Rattle.ssa_mean.specs.Operands.{type_of}
@@ -37,11 +36,11 @@ module _ (c : Code) (f : Function) where
       (flat_at (λ (i : Instr). boxed_by c f i.op) it.instrs place instr of at h)
 
 pub boxed_there : (c : Code) (of : TypeId) → IsBoxed c of → Contains (boxed_of c) of
-boxed_there c of (by_instr f number block place instr to of it at_f at_i is_op is_type plain) =
+boxed_there c _ (by_instr f number block place instr to of it at_f at_i is_op is_type plain) =
     Contains-append_left (boxed_functions c c.functions) (types_if (error_string c)) of
     (flat_at (λ (g : Function). boxed_blocks c g g.blocks) c.functions number f of at_f
     (in_blocks c f block place instr of (slice_get f.blocks block) refl at_i
     (by_op c f instr to of it is_op is_type plain)))
-boxed_there c of (by_fault of e) =
+boxed_there c _ (by_fault of e) =
     Contains-append_right (boxed_functions c c.functions) (types_if (error_string c)) of
     (subst (λ l. Contains l of) (sym (ap types_if e)) (Contains-push [] of))

@@ -1,10 +1,14 @@
 -- Tests of lists, and of the items that stand at places.
-use Rattle.std.proofs.Common.{◌≡◌, ℕ, ◌<◌, ◌≤◌, ◌++◌, zero, suc, Contains, Bool, true, false, List, [], ◌∷◌, length, sym, ap, ◌∙◌, refl, subst}
-use Rattle.std.specs.Prelude.{◌&&◌, slice_get, Option, Some, None, unwrap_or}
-use Rattle.std.specs.List.{flat_map, list_all}
-use Rattle.std.proofs.lemmas.List.Folds.{list_all-append}
-use Rattle.std.proofs.lemmas.List.Elements.{Contains-append_left, Contains-append_right}
-use Rattle.go_type.specs.Same.{both}
+use Rattle.std.proofs.Common.{◌≡◌, ℕ, ◌<◌, ◌≤◌, ◌++◌, zero, suc, Contains, Bool, true, false, List, [], ◌∷◌, length, get_or, take, ◌+◌, sym, ap, ◌∙◌, refl, subst}
+use Rattle.std.specs.Prelude.{◌&&◌, if◌then◌else◌, slice_get, Option, Some, unwrap_or}
+use Rattle.std.specs.List.{All, flat_map, list_all, list_any}
+use Rattle.std.proofs.lemmas.List.Folds.{list_all-append, list_all_at}
+use Rattle.std.proofs.lemmas.List.Elements.{All-more, Contains-append_left, Contains-append_right}
+use Rattle.std.proofs.lemmas.List.{take_all}
+use Rattle.indexmap.specs.IndexSet.{insert_key}
+use Rattle.indexmap.proofs.CallerLemmas.{Contains-insert_key}
+use Rattle.go_base.specs.declared.ids.TypeId.{TypeId}
+use Rattle.go_type.specs.Same.{both, same_id, same_id-Decides}
 use Rattle.ssa_ir.specs.declared.operands.Operand.{Operand}
 use Rattle.ssa_ir.specs.declared.ops.PhiEdge.{PhiEdge}
 use Rattle.ssa_ir.specs.declared.ops.SelectCase.{SelectCase}
@@ -58,3 +62,54 @@ flat_at g [] i x y e h = cc
 flat_at g (z ∷ xs) zero x y e h =
     Contains-append_left (g z) (flat_map g xs) y (subst (λ v. Contains (g v) y) (sym (some_same z x e)) h)
 flat_at g (z ∷ xs) (suc i) x y e h = Contains-append_right (g z) (flat_map g xs) y (flat_at g xs i x y e h)
+
+-- ---- loops over edges and cases
+
+module _ (test : Operand → Bool) where
+  pub edges_fail : (edges : List PhiEdge) (i : ℕ) (edge : PhiEdge) → i < length edges → edge ≡ get_or edges i edge
+      → test edge.value ≡ false → list_all test (operands_of_edges edges) ≡ false
+  edges_fail edges i edge l is h =
+      sym (edges_mean test edges)
+      ∙ list_all_at (λ (it : PhiEdge). test it.value) edges i edge l (ap (λ (it : PhiEdge). test it.value) (sym is) ∙ h)
+
+  pub edges_pass : (edges : List PhiEdge) (i : ℕ) → length edges ≤ i
+      → list_all (λ edge. test edge.value) (take i edges) ≡ true → list_all test (operands_of_edges edges) ≡ true
+  edges_pass edges i l h =
+      sym (edges_mean test edges)
+      ∙ ap (list_all (λ (it : PhiEdge). test it.value)) (sym (take_all i edges l)) ∙ h
+
+  abbrev case_means : SelectCase → Bool
+  case_means it = list_all test (operands_of_cases (it ∷ []))
+
+  pub cases_fail : (cases : List SelectCase) (i : ℕ) (it : SelectCase) → i < length cases → it ≡ get_or cases i it
+      → case_means it ≡ false → list_all test (operands_of_cases cases) ≡ false
+  cases_fail cases i it l is h =
+      sym (cases_mean test cases) ∙ list_all_at case_means cases i it l (ap case_means (sym is) ∙ h)
+
+  pub cases_pass : (cases : List SelectCase) (i : ℕ) → length cases ≤ i
+      → list_all case_means (take i cases) ≡ true → list_all test (operands_of_cases cases) ≡ true
+  cases_pass cases i l h = sym (cases_mean test cases) ∙ ap (list_all case_means) (sym (take_all i cases l)) ∙ h
+
+-- ---- sets
+
+still : (eq : TypeId → TypeId → Bool) (keys : List TypeId) (of other : TypeId) → Contains keys other
+    → Contains (insert_key eq keys of) other
+still eq keys of other h = by (list_any (eq of) keys)
+  where
+    by : (b : Bool) → Contains (if b then keys else keys ++ of ∷ []) other
+    by true = h
+    by false = Contains-append_left keys (of ∷ []) other h
+
+pub set_more : (types : List TypeId) (i : ℕ) (d : TypeId) (old now : List TypeId) → i < length types
+    → now ≡ insert_key same_id old (get_or types i d) → All (Contains old) (take i types)
+    → All (Contains now) (take (i + 1) types)
+set_more types i d old now l e all =
+    let of = get_or types i d in
+    subst (λ (keys : List TypeId). All (Contains keys) (take (i + 1) types)) (sym e)
+    (All-more (Contains (insert_key same_id old of)) types i d l
+    (λ k other w. still same_id old of (get_or (take i types) k other) (all k other w))
+    (Contains-insert_key same_id (λ x y h. (same_id-Decides x y).0 h) old of))
+
+pub set_whole : (types keys : List TypeId) (i : ℕ) → length types ≤ i → All (Contains keys) (take i types)
+    → All (Contains keys) types
+set_whole types keys i l all = subst (λ (xs : List TypeId). All (Contains keys) xs) (take_all i types l) all

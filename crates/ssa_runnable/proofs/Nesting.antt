@@ -1,6 +1,7 @@
 -- Zero values: which types have one, by the nesting of their parts.
 use Rattle.std.proofs.Common.{◌≡◌, ℕ, zero, suc, ◌+◌, ◌-◌, ◌<◌, ◌≤◌, Bool, true, false, List, [], ◌∷◌, ◌++◌, length, get_or, inl, inr, sym, ap, ◌∙◌, refl, subst, arith, add-one}
 use Rattle.std.specs.Prelude.{◌==◌, ◌&&◌, ◌||◌, Option, Some, None, is_some, slice_get, unwrap_or, option_map}
+use Rattle.std.specs.Cmp.{unsigned_Decides}
 use Rattle.std.specs.List.{list_all}
 use Rattle.std.proofs.lemmas.Bool.{cases_lt}
 use Rattle.std.proofs.lemmas.List.{get_or_append_left, length-append}
@@ -9,7 +10,7 @@ use Rattle.std.proofs.lemmas.Option.{slice_get_past, unwrap_or-slice_get}
 use Rattle.go_base.specs.declared.ids.NameId.{NameId}
 use Rattle.go_base.specs.declared.ids.TypeId.{TypeId}
 use Rattle.go_type.specs.Assignable.{underlying_term_of}
-use Rattle.go_type.specs.Table.{Table, is_name, no_definition, term_at, definition_at, underlying_of}
+use Rattle.go_type.specs.Table.{Table, is_name, no_definition, term_at}
 use Rattle.go_type.specs.declared.term.Basic.{Basic}
 use Rattle.go_type.specs.declared.term.Basic.TheVariants as basic
 use Rattle.go_type.specs.declared.term.TypeTerm.{TypeTerm}
@@ -66,6 +67,16 @@ basic_there basic.UntypedRune = refl
 basic_there basic.UntypedText = refl
 basic_there basic.UntypedNil = refl
 
+not_zero : (n : ℕ) → (suc n == 0) ≡ false
+not_zero n = by (suc n == 0) refl
+  where
+    none : suc n ≡ 0 → ⊥
+    none e = cc
+
+    by : (b : Bool) → (suc n == 0) ≡ b → b ≡ false
+    by true e = absurd (none ((unsigned_Decides (suc n) 0).0 e))
+    by false e = refl
+
 term_there : (value : TypeId → Option Val) (has : TypeId → Bool) (blank : Option NameId)
     → ((of : TypeId) → is_some (value of) ≡ has of) → (it : Option TypeTerm)
     → is_some (zero_of_term value blank it) ≡ has_zero_term has it
@@ -74,7 +85,8 @@ term_there value has blank h (Some (term.Declared name)) = refl
 term_there value has blank h (Some (term.Pointer elem)) = refl
 term_there value has blank h (Some (term.Slice elem)) = refl
 term_there value has blank h (Some (term.Array zero elem)) = refl
-term_there value has blank h (Some (term.Array (suc len) elem)) = mapped (array_of (suc len)) (value elem) ∙ h elem
+term_there value has blank h (Some (term.Array (suc len) elem)) =
+    mapped (array_of (suc len)) (value elem) ∙ h elem ∙ sym (ap (λ b. b || has elem) (not_zero len))
 term_there value has blank h (Some (term.Map key elem)) = refl
 term_there value has blank h (Some (term.Chan dir elem)) = refl
 term_there value has blank h (Some (term.Func signature)) = refl
@@ -118,11 +130,11 @@ row_at : (test : ℕ → Bool) (n k : ℕ) → k < n → get_or (row test n) k f
 row_at test zero k h = absurd (let no : k < 0 = h in omega (arith, no))
 row_at test (suc n) k h = elim (cases_lt k n) [
   | inl w ↦ get_or_append_left (row test n) (test n ∷ []) false k
-    (subst (λ m. k < m) (sym (row_length test n)) w) ∙ row_at test n k w
+      (subst (λ m. k < m) (sym (row_length test n)) w) ∙ row_at test n k w
   | inr w ↦ let last : k ≡ length (row test n) = (let m : k ≡ n = omega (arith, h, w) in m) ∙ sym (row_length test n) in
-    let same : n ≡ k = omega (arith, h, w) in
-    ap (λ m. get_or (row test n ++ test n ∷ []) m false) last ∙ get_or-append_seam (row test n) (test n) [] false
-    ∙ ap test same
+      let same : n ≡ k = omega (arith, h, w) in
+      ap (λ m. get_or (row test n ++ test n ∷ []) m false) last ∙ get_or-append_seam (row test n) (test n) [] false
+      ∙ ap test same
 ]
 
 -- ---- a step deeper
@@ -130,7 +142,7 @@ row_at test (suc n) k h = elim (cases_lt k n) [
 abbrev pub has_at : Table → List Bool → ℕ → Bool
 has_at types known n = has_zero_term (zero_at known) (underlying_term_of types (record { number = n }))
 
-no_term : (types : Table) (of : TypeId) → length types.terms ≤ of.number → length types.definitions ≡ length types.terms
+pub no_term : (types : Table) (of : TypeId) → length types.terms ≤ of.number → length types.definitions ≡ length types.terms
     → underlying_term_of types of ≡ None
 no_term types of h e =
     let long : length types.definitions ≤ of.number = subst (λ n. n ≤ of.number) (sym e) h in
@@ -162,11 +174,11 @@ deeper_at types known flags n h long e of =
 
 -- ---- steps
 
-abbrev IsDeeper : Table → List Bool → List Bool → Type 0
+abbrev pub IsDeeper : Table → List Bool → List Bool → Type 0
 IsDeeper types known deeper =
     (of : TypeId) → zero_at deeper of ≡ has_zero_term (zero_at known) (underlying_term_of types of)
 
-abbrev Knows : Table → ℕ → List Bool → Type 0
+abbrev pub Knows : Table → ℕ → List Bool → Type 0
 Knows types n known = (of : TypeId) → zero_at known of ≡ has_zero_to n types of
 
 pub none_known : (types : Table) (known : List Bool) → known ≡ [] → Knows types 0 known
@@ -194,7 +206,7 @@ up_add (suc k) n = let e = up_add k n in omega (arith, e)
 
 settled : (types : Table) (n : ℕ) (known deeper : List Bool) → Knows types n known → IsDeeper types known deeper
     → deeper ≡ known → (k : ℕ) → Knows types (up k n) known
-settled types n known deeper h more same zero = h
+settled types n known deeper h more same zero of = h of
 settled types n known deeper h more same (suc k) of =
     sym (ap (λ l. zero_at l of) same)
     ∙ step types (up k n) known deeper (settled types n known deeper h more same k) more of

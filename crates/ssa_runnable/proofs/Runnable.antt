@@ -1,14 +1,14 @@
 -- The tests of a whole code tell that it is runnable.
-use Rattle.std.proofs.Common.{◌≡◌, ℕ, Bool, true, false, List, [], ◌∷◌, Contains, length, sym, ap, ◌∙◌, refl, subst, true≢false}
-use Rattle.std.specs.Prelude.{Option, Some, None, slice_get, slice_index_or, not, ◌||◌, ◌==◌}
-use Rattle.std.specs.List.{All, list_all}
-use Rattle.std.specs.Option.{option_map_or}
+use Rattle.std.proofs.Common.{◌≡◌, ℕ, ◌<◌, ◌≤◌, inl, inr, arith, Bool, true, false, List, [], ◌∷◌, Contains, length, sym, ap, ◌∙◌, refl, subst, true≢false}
+use Rattle.std.specs.Prelude.{Option, Some, None, slice_get, not, ◌||◌, ◌==◌}
+use Rattle.std.specs.Cmp.{unsigned_Decides}
+use Rattle.std.proofs.lemmas.Bool.{cases_lt}
+use Rattle.std.specs.List.{All}
 use Rattle.go_base.specs.declared.ids.TypeId.{TypeId}
-use Rattle.go_type.specs.Assignable.{underlying_term_of, Implements}
+use Rattle.go_type.specs.Assignable.{underlying_term_of}
 use Rattle.go_type.specs.Table.{Table, definition_at}
 use Rattle.go_type.specs.declared.methods.MethodEntry.{MethodEntry}
 use Rattle.go_type.specs.declared.term.Basic.TheVariants as basic
-use Rattle.go_type.specs.declared.term.MethodType.{MethodType}
 use Rattle.go_type.specs.declared.term.TypeTerm.{TypeTerm}
 use Rattle.go_type.specs.declared.term.TypeTerm.TheVariants as term
 use Rattle.go_value.specs.Interfaces.{is_interface_type}
@@ -21,10 +21,11 @@ use Rattle.ssa_mean.specs.BuiltIns.{is_text_term}
 use Rattle.ssa_mean.specs.Faults.{error_string}
 use Rattle.ssa_runnable.specs.Boxed.{boxed_of}
 use Rattle.ssa_runnable.specs.Methods.{AllHave, HasAll}
-use Rattle.ssa_runnable.specs.Runnable.{HasMethods, IsBoxed, IsRunnable, has_method, runs, fits_external}
+use Rattle.ssa_runnable.specs.Runnable.{HasMethods, IsRunnable, runs, fits_external}
 use Rattle.ssa_runnable.specs.Tests.{all_run, blocks_run, functions_run, externals_fit, fits_error, fits_interface}
 use Rattle.ssa_runnable.proofs.Boxing.{boxed_there}
 use Rattle.ssa_runnable.proofs.Lists.{all_at}
+use Rattle.ssa_runnable.proofs.Nesting.{no_term}
 
 in_block : (c : Code) (f : Function) (block place : ℕ) (instr : Instr) (o : Option Block) → slice_get f.blocks block ≡ o
     → slice_get (instrs_in o) place ≡ Some instr → blocks_run c f f.blocks ≡ true → runs c f instr.op ≡ true
@@ -41,11 +42,15 @@ instr_runs c h number block place f instr at_f at_i =
     (all_at (λ (g : Function). blocks_run c g g.blocks) c.functions number f h at_f)
 
 text_is : (it : Option TypeTerm) → is_text_term it ≡ true → it ≡ Some (term.Basic basic.Text)
-text_is it h = ?
+text_is (Some (term.Basic basic.Text)) h = refl
+text_is other h = absurd (true≢false (sym h))
 
 none_is : (methods : List MethodEntry) → (length methods == 0) ≡ true → methods ≡ []
-none_is [] h = refl
-none_is (method ∷ methods) h = cc
+none_is methods h = empty methods ((unsigned_Decides (length methods) 0).0 h)
+  where
+    empty : (methods : List MethodEntry) → length methods ≡ 0 → methods ≡ []
+    empty [] e = refl
+    empty (method ∷ methods) e = cc
 
 no_methods : (is_one : Bool) (methods : List MethodEntry) → is_one ≡ true
     → not is_one || (length methods == 0) ≡ true → methods ≡ []
@@ -67,6 +72,22 @@ methods_stand c boxed keys e there all of interface methods is_boxed implements 
     let has : HasAll c interface methods of =
     subst (HasAll c interface methods) found.2 (all interface methods is found.0 of found.1) in
     has implements
+
+past_all : (c : Code) (types : List TypeId) (of : TypeId) → length c.types.terms ≤ of.number
+    → length c.types.definitions ≡ length c.types.terms → AllHave c types of
+past_all c types of l e methods is = absurd (none (sym (no_term c.types of l e) ∙ is))
+  where
+    none : ◌≡◌ {A = Option TypeTerm} None (Some (term.Interface methods)) → ⊥
+    none p = cc
+
+-- what holds of each type that is held holds of all
+pub everywhere : (c : Code) (types : List TypeId) (n : ℕ) → length c.types.terms ≤ n
+    → length c.types.definitions ≡ length c.types.terms
+    → ((k : ℕ) → k < n → AllHave c types (record { number = k })) → (of : TypeId) → AllHave c types of
+everywhere c types n l e before of = elim (cases_lt of.number n) [
+  | inl w ↦ before of.number w
+  | inr w ↦ past_all c types of (omega (arith, l, w)) e
+]
 
 pub is_whole : (c : Code) → externals_fit c.types c.functions ≡ true → fits_error c.types (error_string c) ≡ true
     → ((of : TypeId) → fits_interface c.types of ≡ true) → functions_run c c.functions ≡ true → HasMethods c

@@ -8,7 +8,6 @@ use Rattle.go_base.specs.declared.ids.TypeId.{TypeId}
 use Rattle.go_type.specs.Assignable.{underlying_term_of, Implements}
 use Rattle.go_type.specs.Same.{same_id}
 use Rattle.go_type.specs.declared.term.MethodType.{MethodType}
-use Rattle.go_type.specs.declared.term.TypeTerm.{TypeTerm}
 use Rattle.go_type.specs.declared.term.TypeTerm.TheVariants.{Interface}
 use Rattle.ssa_ir.specs.declared.code.Code.{Code}
 use Rattle.ssa_ir.specs.declared.code.MethodLine.{MethodLine}

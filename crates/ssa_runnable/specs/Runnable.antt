@@ -1,7 +1,7 @@
 -- What code needs besides being sane and typed, so that each of its instructions has a meaning: zero values where they
 -- are asked for, the methods of what is put into interfaces, and functions without bodies of the right form.
 use Rattle.std.specs.Prelude.{◌≡◌, ℕ, ◌==◌, Bool, true, false, not, ◌&&◌, ◌||◌, List, [], ◌∷◌, ◌++◌, length, codes}
-use Rattle.std.specs.Prelude.{Option, Some, None, is_some, if◌then◌else◌, slice_get}
+use Rattle.std.specs.Prelude.{Option, Some, None, is_some, slice_get}
 use Rattle.std.specs.List.{list_all}
 use Rattle.std.specs.Option.{option_map_or}
 use Rattle.std.specs.Str.{bytes_eq}
@@ -15,7 +15,6 @@ use Rattle.go_type.specs.declared.operators.Builtin.{Builtin}
 use Rattle.go_type.specs.declared.operators.Builtin.TheVariants as builtin
 use Rattle.go_type.specs.declared.term.Basic.TheVariants as basic
 use Rattle.go_type.specs.declared.term.MethodType.{MethodType}
-use Rattle.go_type.specs.declared.term.Signature.{Signature}
 use Rattle.go_type.specs.declared.term.TypeTerm.{TypeTerm}
 use Rattle.go_type.specs.declared.term.TypeTerm.TheVariants.{Basic as Plain, Slice, Map, Chan, Func, Interface}
 use Rattle.go_value.specs.Interfaces.{is_interface_type}
@@ -39,7 +38,7 @@ use Rattle.ssa_mean.specs.Calls.{method_of}
 use Rattle.ssa_mean.specs.Faults.{error_string}
 use Rattle.ssa_mean.specs.Operands.{function_at, constant_value, type_of, under, term_of, element_in, element_type}
 use Rattle.ssa_mean.specs.Ranges.{ranged}
-use Rattle.ssa_mean.specs.Zeros.{zero_of, zero_where}
+use Rattle.ssa_mean.specs.Zeros.{zero_where}
 
 -- ---- operands: constants have values
 

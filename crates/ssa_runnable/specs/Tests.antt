@@ -1,6 +1,5 @@
 -- The parts of what runnable code needs, as tests of a whole code.
-use Rattle.std.specs.Prelude.{ℕ, suc, Bool, true, false, not, ◌&&◌, ◌||◌, ◌==◌, List, [], ◌∷◌, ◌++◌, length, Option, Some, None}
-use Rattle.std.specs.Prelude.{slice_get}
+use Rattle.std.specs.Prelude.{Bool, true, not, ◌||◌, ◌==◌, List, length, Option}
 use Rattle.std.specs.List.{list_all}
 use Rattle.std.specs.Option.{option_map_or}
 use Rattle.go_base.specs.declared.ids.TypeId.{TypeId}
@@ -12,7 +11,6 @@ use Rattle.ssa_ir.specs.declared.code.Code.{Code}
 use Rattle.ssa_ir.specs.declared.code.Function.{Function}
 use Rattle.ssa_ir.specs.declared.ops.Instr.{Instr}
 use Rattle.ssa_mean.specs.BuiltIns.{is_text_term}
-use Rattle.ssa_mean.specs.Faults.{error_string}
 use Rattle.ssa_runnable.specs.Runnable.{runs, fits_external}
 
 abbrev pub all_run : Code → Function → List Instr → Bool

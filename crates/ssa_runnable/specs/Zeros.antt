@@ -1,5 +1,5 @@
 -- Which types have a zero value, whatever it is. Go specification, "The zero value".
-use Rattle.std.specs.Prelude.{◌≡◌, ℕ, zero, suc, ◌==◌, Bool, true, false, ◌||◌, List, Option, Some, None, is_some}
+use Rattle.std.specs.Prelude.{◌≡◌, ℕ, zero, suc, ◌==◌, Bool, true, false, ◌||◌, List, Option, Some, is_some}
 use Rattle.std.specs.Prelude.{slice_get, unwrap_or}
 use Rattle.std.specs.List.{list_all}
 use Rattle.go_base.specs.declared.ids.TypeId.{TypeId}

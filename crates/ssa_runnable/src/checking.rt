@@ -35,7 +35,8 @@ pub fn is_runnable(alloc: Global, code: &Code) -> Result<bool, NoMemory>
     if !functions_run(alloc, code, zeros.as_slice())? {
         return Ok(false);
     }
-    has_methods(alloc, code, zeros.as_slice())
+    let has = has_methods(alloc, code, zeros.as_slice())?;
+    Ok(has)
 }
 
 /// Whether no declared interface has methods but those of its term.

@@ -95,12 +95,7 @@ impl Site<'_> {
     }
 
     #[tactic(auto, using(crate::proofs::Lists::all_three))]
-    fn bounds(
-        &self,
-        low: &Option<Operand>,
-        high: &Option<Operand>,
-        max: &Option<Operand>,
-    ) -> bool
+    fn bounds(&self, low: &Option<Operand>, high: &Option<Operand>, max: &Option<Operand>) -> bool
         ensures { result ≡ list_all (has_meaning self.now.code.now) (operands_if low.now ++ (operands_if high.now ++ operands_if max.now)) }
     {
         self.where_there(low) && self.where_there(high) && self.where_there(max)

@@ -24,10 +24,7 @@ pub struct MethodOf {
 }
 
 /// The functions that methods are.
-pub(crate) fn methods(
-    alloc: Global,
-    code: &Code,
-) -> Result<IndexMap<MethodOf, FuncId>, NoMemory>
+pub(crate) fn methods(alloc: Global, code: &Code) -> Result<IndexMap<MethodOf, FuncId>, NoMemory>
     ensures { IfOk result (λ all. KnowsMethods code.now.methods all.entries) }
 {
     let mut all = IndexMap::new(alloc);
@@ -98,7 +95,10 @@ impl Lines<'_> {
         ensures { let c = self.now.code.now in result ≡ spec.is_method of (term_at c.types signature) (ir.function_at c id) }
     {
         let functions = self.code.functions.as_slice();
-        match (self.code.types.get(signature), functions.get(id.number as usize)) {
+        match (
+            self.code.types.get(signature),
+            functions.get(id.number as usize),
+        ) {
             (Some(TypeTerm::Func(signature)), Some(function)) => {
                 takes_receiver(of, signature, function)
             }

@@ -98,9 +98,9 @@ impl Site<'_> {
             first,
             Some(
                 TypeTerm::Basic(Basic::Text)
-                | TypeTerm::Slice(_)
-                | TypeTerm::Map { .. }
-                | TypeTerm::Chan { .. }
+                    | TypeTerm::Slice(_)
+                    | TypeTerm::Map { .. }
+                    | TypeTerm::Chan { .. }
             )
         ))
     }

@@ -4,27 +4,21 @@ ghost use Rattle.std.specs.Prelude.{◌≡◌, IfOk};
 ghost use Rattle.std.specs.List.{list_all};
 ghost use Rattle.go_base.specs.declared.ids.TypeId.{TypeId as Id};
 ghost use Rattle.go_type.specs.Assignable.{underlying_term_of};
-ghost use Rattle.ssa_runnable.specs.Zeros.{has_basic_zero, has_zero_term, has_zero_to, zero_at, KnowsZeros};
+ghost use Rattle.ssa_runnable.specs.Zeros.{has_basic_zero, has_zero_term, zero_at, KnowsZeros};
 
 use go_base::{NoMemory, TypeId};
 use go_type::{Basic, Field, MAX_NESTING, TypeTerm, Types};
 use ssa_ir::Code;
 use std::alloc::Global;
 
-/// Whether each type of a code has a zero value.
+/// Whether each type of a code has a zero value: of parts that are nested at most 1,000 deep. What changes nothing in one
+/// step changes nothing later.
 pub(crate) fn zeros(alloc: Global, code: &Code) -> Result<Vec<bool>, NoMemory>
     ensures { IfOk result (λ it. KnowsZeros code.now it.items) }
 {
-    nested(alloc, &code.types)
-}
-
-/// Whether each type has one, with a nesting of at most 1,000. What changes nothing in one step changes nothing later.
-fn nested(alloc: Global, types: &Types) -> Result<Vec<bool>, NoMemory>
-    ensures { IfOk result (λ it. (of : Id) → zero_at it.items of ≡ has_zero_to 1000 types.now of) }
-{
     let mut known = Vec::new(alloc);
     for depth in 0..MAX_NESTING {
-        let deeper = deeper(alloc, types, known.as_slice())?;
+        let deeper = deeper(alloc, &code.types, known.as_slice())?;
         if deeper.as_slice() == known.as_slice() {
             return Ok(known);
         }

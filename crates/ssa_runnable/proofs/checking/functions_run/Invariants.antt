@@ -1,5 +1,4 @@
 use Rattle.std.proofs.Common.{◌≡◌, true, take}
-use Rattle.std.specs.List.{list_all}
 use Rattle.ssa_runnable.specs.Tests.{functions_run}
 use Rattle.ssa_runnable.proofs.checking.functions_run.Given as goal
 

@@ -1,5 +1,4 @@
 use Rattle.std.proofs.Common.{◌≡◌, true, take}
-use Rattle.std.specs.List.{list_all}
 use Rattle.ssa_runnable.specs.Tests.{externals_fit}
 use Rattle.ssa_runnable.proofs.externals.externals_fit.Given as goal
 

@@ -4,4 +4,4 @@ use Rattle.ssa_runnable.specs.Methods.{HasAll}
 use Rattle.ssa_runnable.proofs.methods.Lines.stand_for.Given as goal
 
 abbrev pub invariant-loop-of : goal.invariant-loop-of
-invariant-loop-of l = All (HasAll l.self.code l.interface l.methods) (take l.of-index l.types)
+invariant-loop-of l = All (HasAll l.self.code.now l.interface l.methods) (take l.of-index l.types)

@@ -4,4 +4,4 @@ use Rattle.ssa_runnable.proofs.sites.Site.push_all.Given as goal
 
 abbrev pub invariant-loop-instr : goal.invariant-loop-instr
 invariant-loop-instr l =
-    l.boxed.items ≡ l.initial.boxed.items ++ boxed_all l.self.code l.self.function (take l.instr-index l.instrs)
+    l.boxed.items ≡ l.initial.boxed.items ++ boxed_all l.self.code.now l.self.function.now (take l.instr-index l.instrs)

@@ -4,4 +4,4 @@ use Rattle.ssa_runnable.proofs.sites.Site.push_blocks.Given as goal
 
 abbrev pub invariant-loop-block : goal.invariant-loop-block
 invariant-loop-block l =
-    l.boxed.items ≡ l.initial.boxed.items ++ boxed_blocks l.self.code l.self.function (take l.block-index l.blocks)
+    l.boxed.items ≡ l.initial.boxed.items ++ boxed_blocks l.self.code.now l.self.function.now (take l.block-index l.blocks)

@@ -4,4 +4,4 @@ use Rattle.ssa_runnable.specs.Runnable.{receives_zero}
 use Rattle.ssa_runnable.proofs.sites.Site.receive_zeros.Given as goal
 
 abbrev pub invariant-loop-case : goal.invariant-loop-case
-invariant-loop-case l = list_all (receives_zero l.self.code l.self.function) (take l.case-index l.cases) ≡ true
+invariant-loop-case l = list_all (receives_zero l.self.code.now l.self.function.now) (take l.case-index l.cases) ≡ true
