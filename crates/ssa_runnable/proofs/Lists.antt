@@ -1,10 +1,12 @@
 -- Tests of lists, and of the items that stand at places.
-use Rattle.std.proofs.Common.{◌≡◌, ℕ, ◌<◌, ◌≤◌, ◌++◌, zero, suc, Contains, Bool, true, false, List, [], ◌∷◌, length, get_or, take, ◌+◌, sym, ap, ◌∙◌, refl, subst}
+use Rattle.std.proofs.Common.{◌≡◌, ℕ, arith, inl, inr, ◌<◌, ◌≤◌, ◌++◌, zero, suc, Contains, Bool, true, false, List, [], ◌∷◌, length, get_or, take, ◌+◌, sym, ap, ◌∙◌, refl, subst}
 use Rattle.std.specs.Prelude.{◌&&◌, if◌then◌else◌, slice_get, Option, Some, unwrap_or}
 use Rattle.std.specs.List.{All, flat_map, list_all, list_any}
 use Rattle.std.proofs.lemmas.List.Folds.{list_all-append, list_all_at}
-use Rattle.std.proofs.lemmas.List.Elements.{All-more, Contains-append_left, Contains-append_right}
-use Rattle.std.proofs.lemmas.List.{take_all}
+use Rattle.std.proofs.lemmas.List.Elements.{All-more, Contains-append_cases, Contains-append_left, Contains-append_right}
+use Rattle.std.proofs.lemmas.Bool.{cases_lt}
+use Rattle.std.proofs.lemmas.List.{get_or_append_left, get_or_default, length-append, take_all}
+use Rattle.std.proofs.Math.Seq.{get_or-append_seam}
 use Rattle.indexmap.specs.IndexSet.{insert_key}
 use Rattle.indexmap.proofs.CallerLemmas.{Contains-insert_key}
 use Rattle.go_base.specs.declared.ids.TypeId.{TypeId}
@@ -63,6 +65,33 @@ flat_at g (z ∷ xs) zero x y e h =
     Contains-append_left (g z) (flat_map g xs) y (subst (λ v. Contains (g v) y) (sym (some_same z x e)) h)
 flat_at g (z ∷ xs) (suc i) x y e h = Contains-append_right (g z) (flat_map g xs) y (flat_at g xs i x y e h)
 
+-- all pass a test where each that stands in the list does
+pub all_from : {A : Type 0} (test : A → Bool) (xs : List A)
+    → ((i : ℕ) (x : A) → slice_get xs i ≡ Some x → test x ≡ true) → list_all test xs ≡ true
+all_from test [] h = refl
+all_from test (x ∷ xs) h =
+    ap (λ b. b && list_all test xs) (h 0 x refl) ∙ all_from test xs (λ i y e. h (suc i) y e)
+
+-- an item whose gift has something, of a list
+pub record IsGiven {A B : Type 0} (g : A → List B) (xs : List A) (y : B) : Type 0 where
+  pub place : ℕ
+  pub item : A
+  pub stands : slice_get xs place ≡ Some item
+  pub has : Contains (g item) y
+
+pub none_in : {A : Type 0} (y : A) → Contains [] y → ⊥
+none_in y h = let no : h.0 < 0 = h.1 in omega (arith, no)
+
+-- what is in the gifts of all is in that of one
+pub flat_from : {A B : Type 0} (g : A → List B) (xs : List A) (y : B) → Contains (flat_map g xs) y → IsGiven g xs y
+flat_from g [] y h = absurd (none_in y h)
+flat_from g (x ∷ xs) y h = elim (Contains-append_cases (g x) (flat_map g xs) y h) [
+  | inl first ↦ record { place = 0; item = x; stands = refl; has = first }
+  | inr later ↦
+      let rest = flat_from g xs y later in
+      record { place = suc rest.place; item = rest.item; stands = rest.stands; has = rest.has }
+]
+
 -- ---- loops over edges and cases
 
 module _ (test : Operand → Bool) where
@@ -109,6 +138,29 @@ set_more types i d old now l e all =
     (All-more (Contains (insert_key same_id old of)) types i d l
     (λ k other w. still same_id old of (get_or (take i types) k other) (all k other w))
     (Contains-insert_key same_id (λ x y h. (same_id-Decides x y).0 h) old of))
+
+-- and nothing else comes into it
+pub set_within : (types : List TypeId) (i : ℕ) (d : TypeId) (old now : List TypeId) → i < length types
+    → now ≡ insert_key same_id old (get_or types i d) → All (Contains types) old → All (Contains types) now
+set_within types i d old now l e all =
+    subst (λ (keys : List TypeId). All (Contains types) keys) (sym e) (by (list_any (same_id (get_or types i d)) old))
+  where
+    one : Contains types (get_or types i d)
+    one = (i, l, get_or_default types i (get_or types i d) d l)
+
+    more : All (Contains types) (old ++ get_or types i d ∷ [])
+    more k other w = elim (cases_lt k (length old)) [
+      | inl v ↦ subst (Contains types) (sym (get_or_append_left old (get_or types i d ∷ []) other k v)) (all k other v)
+      | inr v ↦
+          let last : k ≡ length old = (let size = length-append old (get_or types i d ∷ []) in omega (arith, size, w, v)) in
+          subst (Contains types)
+          (sym (ap (λ n. get_or (old ++ get_or types i d ∷ []) n other) last
+          ∙ get_or-append_seam old (get_or types i d) [] other)) one
+    ]
+
+    by : (b : Bool) → All (Contains types) (if b then old else old ++ get_or types i d ∷ [])
+    by true = all
+    by false = more
 
 pub set_whole : (types keys : List TypeId) (i : ℕ) → length types ≤ i → All (Contains keys) (take i types)
     → All (Contains keys) types

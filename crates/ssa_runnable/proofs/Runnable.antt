@@ -1,5 +1,5 @@
 -- The tests of a whole code tell that it is runnable.
-use Rattle.std.proofs.Common.{◌≡◌, ℕ, ◌<◌, ◌≤◌, inl, inr, arith, Bool, true, false, List, [], ◌∷◌, Contains, length, sym, ap, ◌∙◌, refl, subst, true≢false}
+use Rattle.std.proofs.Common.{◌≡◌, ℕ, get_or, IsTrue, ◌↔◌, ◌<◌, ◌≤◌, inl, inr, arith, Bool, true, false, List, [], ◌∷◌, Contains, length, sym, ap, ◌∙◌, refl, subst, true≢false}
 use Rattle.std.specs.Prelude.{Option, Some, None, slice_get, not, ◌||◌, ◌==◌}
 use Rattle.std.specs.Cmp.{unsigned_Decides}
 use Rattle.std.proofs.lemmas.Bool.{cases_lt}
@@ -23,8 +23,8 @@ use Rattle.ssa_runnable.specs.Boxed.{boxed_of}
 use Rattle.ssa_runnable.specs.Methods.{AllHave, HasAll}
 use Rattle.ssa_runnable.specs.Runnable.{HasMethods, IsRunnable, runs, fits_external}
 use Rattle.ssa_runnable.specs.Tests.{all_run, blocks_run, functions_run, externals_fit, fits_error, fits_interface}
-use Rattle.ssa_runnable.proofs.Boxing.{boxed_there}
-use Rattle.ssa_runnable.proofs.Lists.{all_at}
+use Rattle.ssa_runnable.proofs.Boxing.{boxed_only, boxed_there}
+use Rattle.ssa_runnable.proofs.Lists.{all_at, all_from}
 use Rattle.ssa_runnable.proofs.Nesting.{no_term}
 
 in_block : (c : Code) (f : Function) (block place : ℕ) (instr : Instr) (o : Option Block) → slice_get f.blocks block ≡ o
@@ -99,3 +99,43 @@ is_whole c externals error interfaces run methods = record {
   interfaces = λ of e. no_methods (is_interface_type c.types of) (definition_at c.types of).methods e (interfaces of);
   methods = methods;
 }
+
+-- ---- and runnable code passes them
+
+-- what runnable code passes, and this code does not, tells that it is not
+pub never : (c : Code) (b : Bool) → b ≡ false → (IsRunnable c → b ≡ true) → IsTrue false ↔ IsRunnable c
+never c b fails passes = (λ f. absurd (true≢false (sym f)), λ it. sym fails ∙ passes it)
+
+pub externals_back : (c : Code) → IsRunnable c → externals_fit c.types c.functions ≡ true
+externals_back c it = all_from (λ (g : Function). fits_external c.types g g.kind) c.functions it.externals
+
+error_of : (types : Table) (o : Option TypeId)
+    → ((of : TypeId) → o ≡ Some of → underlying_term_of types of ≡ Some (term.Basic basic.Text))
+    → fits_error types o ≡ true
+error_of types None h = refl
+error_of types (Some of) h = ap is_text_term (h of refl)
+
+pub error_back : (c : Code) → IsRunnable c → fits_error c.types (error_string c) ≡ true
+error_back c it = error_of c.types (error_string c) it.errors
+
+none_own : (is_one : Bool) (methods : List MethodEntry) → (is_one ≡ true → methods ≡ [])
+    → not is_one || (length methods == 0) ≡ true
+none_own true methods h = ap (λ (l : List MethodEntry). length l == 0) (h refl)
+none_own false methods h = refl
+
+pub interfaces_back : (c : Code) → IsRunnable c → (of : TypeId) → fits_interface c.types of ≡ true
+interfaces_back c it of =
+    none_own (is_interface_type c.types of) (definition_at c.types of).methods (it.interfaces of)
+
+pub run_back : (c : Code) → IsRunnable c → functions_run c c.functions ≡ true
+run_back c it =
+    all_from (λ (g : Function). blocks_run c g g.blocks) c.functions (λ number f at_f.
+    all_from (λ (b : Block). all_run c f b.instrs) f.blocks (λ block b at_b.
+    all_from (λ (i : Instr). runs c f i.op) b.instrs (λ place instr at_i.
+    it.instrs number block place f instr at_f (ap (λ o. slice_get (instrs_in o) place) at_b ∙ at_i))))
+
+pub methods_back : (c : Code) (boxed keys : List TypeId) → boxed ≡ boxed_of c → All (Contains boxed) keys
+    → HasMethods c → (of : TypeId) → AllHave c keys of
+methods_back c boxed keys e within has interface methods is k d w implements =
+    has (get_or keys k d) interface methods
+    (boxed_only c (get_or keys k d) (subst (λ l. Contains l (get_or keys k d)) e (within k d w))) implements is

@@ -1,6 +1,6 @@
 //! Which code is runnable.
 
-ghost use Rattle.std.specs.Prelude.{◌≡◌, ◌++◌, IfOk, OnOk, true};
+ghost use Rattle.std.specs.Prelude.{◌≡◌, ◌++◌, ◌↔◌, IsTrue, IfOk, OnOk, true};
 ghost use Rattle.go_base.specs.declared.ids.TypeId.{TypeId as Id};
 ghost use Rattle.ssa_runnable.specs.Boxed.{boxed_functions, boxed_of};
 ghost use Rattle.ssa_runnable.specs.Runnable.{HasMethods, IsRunnable};
@@ -23,12 +23,15 @@ use std::alloc::Global;
 /// they are asked for, what is put into interfaces has the methods of those that it implements, and functions without
 /// bodies have the form that the machine gives them.
 pub fn is_runnable(alloc: Global, code: &Code) -> Result<bool, NoMemory>
-    ensures { IfOk result (λ answer. answer ≡ true → IsRunnable code.now) }
+    ensures { IfOk result (λ answer. IsTrue answer ↔ IsRunnable code.now) }
 {
-    if !externals_fit(&code.types, code.functions.as_slice())
-        || !fits_error(&code.types, error_string(code))
-        || !interfaces_fit(&code.types)
-    {
+    if !externals_fit(&code.types, code.functions.as_slice()) {
+        return Ok(false);
+    }
+    if !fits_error(&code.types, error_string(code)) {
+        return Ok(false);
+    }
+    if !interfaces_fit(&code.types) {
         return Ok(false);
     }
     let zeros = zeros(alloc, code)?;
@@ -41,7 +44,7 @@ pub fn is_runnable(alloc: Global, code: &Code) -> Result<bool, NoMemory>
 
 /// Whether no declared interface has methods but those of its term.
 fn interfaces_fit(types: &Types) -> bool
-    ensures { result ≡ true → (of : Id) → fits_interface types.now of ≡ true }
+    ensures { IsTrue result ↔ ((of : Id) → fits_interface types.now of ≡ true) }
 {
     for number in 0..types.len() {
         let of = TypeId {
@@ -105,7 +108,7 @@ impl Site<'_> {
 /// Whether what is put into interfaces has every method of each that it implements.
 fn has_methods(alloc: Global, code: &Code, zeros: &[bool]) -> Result<bool, NoMemory>
     requires { KnowsZeros code.now zeros.now }
-    ensures { IfOk result (λ r. r ≡ true → HasMethods code.now) }
+    ensures { IfOk result (λ r. IsTrue r ↔ HasMethods code.now) }
 {
     let boxed = boxed_types(alloc, code, zeros)?;
     let types = distinct(alloc, boxed.as_slice())?;

@@ -13,7 +13,8 @@ use std::alloc::Global;
 
 /// The types of a list, each once.
 pub(crate) fn distinct(alloc: Global, types: &[TypeId]) -> Result<IndexSet<TypeId>, NoMemory>
-    ensures { IfOk result (λ set. All (Contains set.keys) types.now) }
+    ensures all { IfOk result (λ set. All (Contains set.keys) types.now) }
+    ensures only { IfOk result (λ set. All (Contains types.now) set.keys) }
 {
     let mut set = IndexSet::new(alloc);
     for of in types {
