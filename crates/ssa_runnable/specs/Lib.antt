@@ -1,0 +1,5 @@
+pub mod Boxed
+pub mod Methods
+pub mod Runnable
+pub mod Tests
+pub mod Zeros
