@@ -5,7 +5,7 @@ use Rattle.std.specs.Bool.{beq}
 use Rattle.std.specs.Cmp.{unsigned_Decides}
 use Rattle.std.specs.List.{list_all, prefix_len}
 use Rattle.std.specs.Option.{option_map_or}
-use Rattle.code_safety.specs.Runnable.{runs, has_edges, has_meaning, operands_of, operands_of_call, operands_of_cases, operands_if}
+use Rattle.ssa_runnable.specs.Runnable.{runs, has_edges, has_meaning, operands_of, operands_of_call, operands_of_cases, operands_if}
 use Rattle.code_safety.specs.Safety.{IsSafe}
 use Rattle.code_safety.proofs.Lists.{below_get, get_below, some_same}
 use Rattle.code_safety.proofs.Machines.{Stands, IsBegun, IsFresh, IsWritten}

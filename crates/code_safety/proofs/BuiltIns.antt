@@ -17,7 +17,7 @@ use Rattle.code_safety.proofs.Sites.{HasValue, Among, KnownFits}
 use Rattle.code_safety.proofs.Terms.{never, either, there, same_is, any_term, pointer_term, basic_term}
 use Rattle.code_safety.proofs.Values.{Typing, Grows, Fits, IsOf, AllOf, Slices, IsStore, MapFits, under_of}
 use Rattle.code_safety.proofs.Zeros.{zero_fits}
-use Rattle.code_safety.specs.Runnable.{runs_builtin, has_length}
+use Rattle.ssa_runnable.specs.Runnable.{runs_builtin, has_length}
 use Rattle.code_safety.specs.Safety.{IsSafe}
 use Rattle.go_base.specs.declared.ids.FuncId.{FuncId}
 use Rattle.go_base.specs.declared.ids.MapId.{MapId}

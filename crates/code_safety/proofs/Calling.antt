@@ -3,7 +3,7 @@ use Rattle.std.proofs.Common.{◌≡◌, arith, ℕ, zero, suc, Bool, true, fals
 use Rattle.std.proofs.lemmas.Option.{none-some}
 use Rattle.std.specs.Cmp.{unsigned_Decides}
 use Rattle.std.specs.Cmp.Lexicographic.{pointwise}
-use Rattle.code_safety.specs.Runnable.{fits_external}
+use Rattle.ssa_runnable.specs.Runnable.{fits_external}
 use Rattle.code_safety.specs.Safety.{IsSafe}
 use Rattle.code_safety.proofs.Available.{typed_of, pending_stands, given_stands, state_stands, begun_at, begun_with}
 use Rattle.code_safety.proofs.Entering.{enters_safe}

@@ -18,7 +18,7 @@ use Rattle.code_safety.proofs.Terms.{never, either, same_is, same_list, alike_li
 use Rattle.code_safety.proofs.Values.{Typing, Home, many, Fits, IsOf, AreOf, Points, PointsAs, IsStore, HasMethod, HasAll, HasSignature, BoxFits, BinderFits, under_of}
 use Rattle.code_safety.proofs.Zeros.{zero_fits}
 use Rattle.code_safety.specs.Safety.{IsSafe}
-use Rattle.code_safety.specs.Runnable.{IsBoxed, by_instr, has_method, is_method, captures}
+use Rattle.ssa_runnable.specs.Runnable.{IsBoxed, by_instr, has_method, is_method, captures}
 use Rattle.go_base.specs.declared.ids.FuncId.{FuncId}
 use Rattle.go_base.specs.declared.ids.TypeId.{TypeId}
 use Rattle.go_store.specs.Arrays.{array_of}

@@ -3,7 +3,7 @@ use Rattle.std.proofs.Common.{◌≡◌, ◌==◌, ◌++◌, ◌||◌, ℕ, zero
 use Rattle.std.proofs.lemmas.Bool.{and_from}
 use Rattle.std.proofs.lemmas.Option.{none-some}
 use Rattle.std.specs.Cmp.{unsigned_Decides}
-use Rattle.code_safety.specs.Runnable.{fits_external, takes_status}
+use Rattle.ssa_runnable.specs.Runnable.{fits_external, takes_status}
 use Rattle.code_safety.specs.Safety.{IsSafe}
 use Rattle.code_safety.proofs.Available.{has_body, entry_stands, state_stands}
 use Rattle.code_safety.proofs.Forms.{number_in}

@@ -3,7 +3,7 @@ use Rattle.std.proofs.Common.{◌≡◌, ℕ, ℤ, Bool, true, List, Option, Som
 use Rattle.std.proofs.lemmas.Option.{none-some}
 use Rattle.code_safety.proofs.Lists.{some_same}
 use Rattle.code_safety.proofs.Values.{Typing, Fits, PartsFit, IsOf, Points, Slices, MapFits, ChanFits, HasAll, IsClosure, BindsFor, MapNumberFits, is_numbers, item_types, under_of}
-use Rattle.code_safety.specs.Runnable.{IsBoxed}
+use Rattle.ssa_runnable.specs.Runnable.{IsBoxed}
 use Rattle.go_base.specs.declared.ids.ChanId.{ChanId}
 use Rattle.go_base.specs.declared.ids.FuncId.{FuncId}
 use Rattle.go_base.specs.declared.ids.MapId.{MapId}

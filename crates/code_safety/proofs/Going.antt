@@ -4,7 +4,7 @@ use Rattle.std.proofs.lemmas.Option.{none-some}
 use Rattle.std.specs.Cmp.{unsigned_Decides}
 use Rattle.std.specs.List.{list_all}
 use Rattle.std.specs.Option.{option_flatten}
-use Rattle.code_safety.specs.Runnable.{runs_op, operands_of, has_meaning}
+use Rattle.ssa_runnable.specs.Runnable.{runs_op, operands_of, has_meaning}
 use Rattle.code_safety.proofs.Available.{operand_written, no_phi, next_stands, begun_at, fresh_next, begun_with}
 use Rattle.code_safety.proofs.Growing.{grows_self, frame_grows, below_grow, later_where_grows, goroutine_grows, cells_grow, maps_grow, channel_grows}
 use Rattle.code_safety.proofs.Lists.{zip_right, some_same, get_below, below_get, get_set, get_set_other, length_set, get_front, get_within, get_either}

@@ -3,7 +3,7 @@ use Rattle.std.proofs.Common.{◌≡◌, inl, inr, ℕ, zero, suc, Bool, true, f
 use Rattle.std.proofs.lemmas.Option.{none-some}
 use Rattle.std.specs.List.{list_all, find}
 use Rattle.std.specs.Option.{option_and_then}
-use Rattle.code_safety.specs.Runnable.{has_meaning, runs, runs_op, operands_of_edges}
+use Rattle.ssa_runnable.specs.Runnable.{has_meaning, runs, runs_op, operands_of_edges}
 use Rattle.code_safety.proofs.Available.{sane_of, typed_of, jump_stands, edge_written, written_with, begun_at}
 use Rattle.code_safety.proofs.Going.{operand_reads, result_fits, result_written, result_same}
 use Rattle.code_safety.proofs.Lists.{some_same}

@@ -4,7 +4,7 @@ use Rattle.std.proofs.lemmas.Bool.{or_parts}
 use Rattle.std.proofs.lemmas.Int.{ints}
 use Rattle.std.proofs.lemmas.Option.{none-some}
 use Rattle.std.specs.Option.{option_and_then}
-use Rattle.code_safety.specs.Runnable.{has_zero}
+use Rattle.ssa_runnable.specs.Runnable.{has_zero}
 use Rattle.code_safety.proofs.Growing.{cells_grow, maps_grow}
 use Rattle.code_safety.proofs.Lists as lists
 use Rattle.code_safety.proofs.Machines.{StoresCome, StoresFit}

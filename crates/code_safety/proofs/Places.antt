@@ -2,7 +2,7 @@
 use Rattle.std.proofs.Common.{◌≡◌, inl, inr, ◌<◌, ℕ, ℤ, pos, zero, suc, true, true≢false, not, List, [], ◌∷◌, ◌++◌, length, map, replicate, Option, Some, None, Result, Ok, Err, is_none, is_some, refl, sym, subst, ap, ◌∙◌, slice_get, unwrap_or, IsTrue, if◌then◌else◌, arith}
 use Rattle.std.proofs.lemmas.Option.{none-some}
 use Rattle.std.specs.List.{AllZip}
-use Rattle.code_safety.specs.Runnable.{operands_if}
+use Rattle.ssa_runnable.specs.Runnable.{operands_if}
 use Rattle.code_safety.proofs.Forms.{text_in, number_fits, slice_in, parts_in}
 use Rattle.code_safety.proofs.Lists as lists
 use Rattle.code_safety.proofs.Lists.{some_same}

@@ -14,7 +14,7 @@ use Rattle.code_safety.proofs.Sites.{Reads}
 use Rattle.code_safety.proofs.Terms.{never, there, same_is, each_passes, basic_term, truth_fits, tuple_term}
 use Rattle.code_safety.proofs.Values.{Typing, Fits, IsOf, MapFits, TextFits, TextRangeFits, MapRangeFits, MapNumberFits, IsStore, under_of}
 use Rattle.code_safety.proofs.Zeros.{zero_fits}
-use Rattle.code_safety.specs.Runnable.{has_turns}
+use Rattle.ssa_runnable.specs.Runnable.{has_turns}
 use Rattle.go_base.specs.declared.ids.FuncId.{FuncId}
 use Rattle.go_base.specs.declared.ids.MapId.{MapId}
 use Rattle.go_base.specs.declared.ids.TypeId.{TypeId}

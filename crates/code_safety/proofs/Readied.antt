@@ -5,7 +5,7 @@ use Rattle.std.specs.Cmp.{unsigned_Decides}
 use Rattle.std.specs.Cmp.Lexicographic.{pointwise}
 use Rattle.std.specs.List.{AllZip, list_all}
 use Rattle.std.specs.Option.{option_and_then}
-use Rattle.code_safety.specs.Runnable.{operands_of, operands_of_call, runs_op, runs_call, has_meaning}
+use Rattle.ssa_runnable.specs.Runnable.{operands_of, operands_of_call, runs_op, runs_call, has_meaning}
 use Rattle.code_safety.proofs.BuiltIns.{BuiltInReadied, built_in_fits, deferred_fits}
 use Rattle.code_safety.proofs.Forms.{IsFunctionValue, nil_value, is_nil, is_closure, is_bound, IsInterfaceValue, is_dynamic, function_in, interface_in}
 use Rattle.code_safety.proofs.Lists.{some_same}

@@ -1,6 +1,6 @@
 -- Where an instruction is done: what its operands are known to be, and what they are.
 use Rattle.std.proofs.Common.{◌≡◌, ◌⊎◌, ℕ, true, List, [], ◌∷◌, Option, Some, None, slice_get}
-use Rattle.code_safety.specs.Runnable.{operands_of, runs}
+use Rattle.ssa_runnable.specs.Runnable.{operands_of, runs}
 use Rattle.code_safety.specs.Safety.{IsSafe}
 use Rattle.code_safety.proofs.Values.{Typing, IsOf, Points, IsStore}
 use Rattle.code_safety.proofs.Machines.{OpenFits, FrameFits, Stands, IsBegun, IsFresh, Takes, AreBelow, LaterFitsWhere}

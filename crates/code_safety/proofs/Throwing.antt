@@ -2,7 +2,7 @@
 use Rattle.std.proofs.Common.{◌≡◌, inl, inr, ⊎_elim, ◌<◌, ◌-◌, ◌&&◌, ◌==◌, arith, ℕ, zero, suc, Bool, true, false, not, cond, if◌then◌else◌, nat_le, nat_lt, List, [], ◌∷◌, ◌++◌, length, filter, Option, Some, None, is_some, refl, sym, subst, ap, ◌∙◌, slice_get, slice_index, true≢false, mod-lt}
 use Rattle.std.proofs.lemmas.Option.{none-some}
 use Rattle.std.specs.Option.{option_map_or}
-use Rattle.code_safety.specs.Runnable.{by_fault}
+use Rattle.ssa_runnable.specs.Runnable.{by_fault}
 use Rattle.code_safety.specs.Safety.{IsSafe}
 use Rattle.code_safety.proofs.Available.{recovery_stands, state_stands}
 use Rattle.code_safety.proofs.Forms.{IsInterfaceValue, is_nil, is_dynamic as is_dynamic_of, interface_in}

@@ -2,7 +2,7 @@
 use Rattle.std.proofs.Common.{◌≡◌, ◌≤◌, ◌+◌, ℕ, Bool, true, false, List, [], ◌∷◌, ◌++◌, length, map, replicate, Option, Some, None, slice_get}
 use Rattle.std.specs.List.{AllZip}
 use Rattle.std.specs.Option.{option_and_then}
-use Rattle.code_safety.specs.Runnable.{IsBoxed}
+use Rattle.ssa_runnable.specs.Runnable.{IsBoxed}
 use Rattle.code_safety.proofs.Shapes.{Alike}
 use Rattle.go_base.specs.declared.ids.CellId.{CellId}
 use Rattle.go_base.specs.declared.ids.ChanId.{ChanId}

@@ -2,7 +2,7 @@
 use Rattle.std.proofs.Common.{if◌then◌else◌, ◌≡◌, ◌⊎◌, inl, inr, ⊎_elim, ◌+◌, ℕ, zero, suc, Bool, true, false, true≢false, not, List, [], ◌∷◌, Option, Some, None, Ok, Err, Result, refl, sym, subst, ap, ◌∙◌, slice_get, slice_set, option_map, arith}
 use Rattle.std.proofs.lemmas.Option.{none-some}
 use Rattle.std.specs.Option.{option_and_then}
-use Rattle.code_safety.specs.Runnable.{runs, runs_op, operands_of_cases}
+use Rattle.ssa_runnable.specs.Runnable.{runs, runs_op, operands_of_cases}
 use Rattle.code_safety.specs.Safety.{IsSafe}
 use Rattle.code_safety.proofs.Forms.{chan_in}
 use Rattle.code_safety.proofs.Going.{site_reads, site_throws, no_type, behind_fit}

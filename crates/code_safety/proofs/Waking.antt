@@ -4,7 +4,7 @@ use Rattle.std.proofs.lemmas.Option.{none-some, cond_some}
 use Rattle.std.specs.Cmp.{unsigned_Decides}
 use Rattle.std.specs.List.{list_all}
 use Rattle.std.specs.Option.{option_and_then}
-use Rattle.code_safety.specs.Runnable.{runs_op, has_zero, receives_zero}
+use Rattle.ssa_runnable.specs.Runnable.{runs_op, has_zero, receives_zero}
 use Rattle.code_safety.specs.Safety.{IsSafe}
 use Rattle.code_safety.proofs.Available.{sane_of, typed_of, begun_at}
 use Rattle.code_safety.proofs.Forms.{number_fits}

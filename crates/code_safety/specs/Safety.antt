@@ -1,6 +1,6 @@
 -- Code that is sane, typed and runnable is never stuck.
 use Rattle.std.specs.Prelude.{ℕ, List, All}
-use Rattle.code_safety.specs.Runnable.{IsRunnable}
+use Rattle.ssa_runnable.specs.Runnable.{IsRunnable}
 use Rattle.go_type.specs.Held.{IsHeld}
 use Rattle.ssa_mean.specs.Runs.{IsStuck}
 use Rattle.ssa_ir.specs.declared.code.Code.{Code}

@@ -4,7 +4,6 @@ use Rattle.std.proofs.lemmas.List.{append-nil, append_cancel_left}
 use Rattle.std.specs.Io.KnownBytes.{Appends}
 use Rattle.cg_sets.specs.declared.edges.Edge.{Edge}
 use Rattle.code_safety.proofs.Stepping.{never_stuck}
-use Rattle.code_safety.specs.Runnable.{IsRunnable}
 use Rattle.code_safety.specs.Safety.{IsSafe}
 use Rattle.command_line.specs.declared.command.Letters.{Letters}
 use Rattle.command_line.specs.declared.command.LoadCommand.{LoadCommand}
@@ -49,17 +48,17 @@ untrue h = cc
 one_text : (xs ys : List ℕ) (a b : List ℕ) → ys ≡ xs ++ a → ys ≡ xs ++ b → a ≡ b
 one_text xs ys a b p q = append_cancel_left xs a b (sym p ∙ q)
 
--- sound and runnable code is not stuck
-is_safe : (code : Code) → IsSound code → IsRunnable code → IsSafe code
+-- sound code is not stuck
+is_safe : (code : Code) → IsSound code → IsSafe code
 unfolding AreSane
-is_safe code sound runs = record { held = sound.held; sane = sound.sane; typed = sound.typed; runnable = runs }
+is_safe code sound = record { held = sound.held; sane = sound.sane; typed = sound.typed; runnable = sound.runnable }
 
 told_run : (code : Code) (command : LoadCommand) (ending : Ending) (xs ys output : List ℕ) → IsSound code → TellsRun code command.choices command.bound ending (Some xs) (Some ys) → ys ≡ xs ++ output → IsRun code command ending output
 told_run code command ending xs ys output sound told appends answers are =
     let t = told answers are in
     let same : t.0 ≡ output = one_text xs ys t.0 output t.1.1 appends in
-    ⊎_elim (λ is. inl (subst (λ (o : List ℕ). IsRunOf code command.choices command.bound o ending) same is))
-    (λ halts. inr (halts, λ runs. never_stuck code command.choices command.bound answers (is_safe code sound runs) are halts)) t.1.0
+    let run : IsRunOf code command.choices command.bound t.0 ending = ⊎_elim (λ is. is) (λ halts. absurd (never_stuck code command.choices command.bound answers (is_safe code sound) are halts)) t.1.0 in
+    subst (λ (o : List ℕ). IsRunOf code command.choices command.bound o ending) same run
 
 pub has_run : (code : Code) (command : LoadCommand) (ending : Ending) (old new : Option (List ℕ)) → IsSound code → TellsRun code command.choices command.bound ending old new → interp.HasWritten old new → HasRun code command ending old new
 has_run code command ending None new sound told w = record { output = w.output; appends = w.appends; is_run = λ h. untrue h }

@@ -8,7 +8,7 @@ use Rattle.command_line.specs.declared.command.Letters.{Letters}
 use Rattle.command_line.specs.declared.command.LoadCommand.{LoadCommand}
 use Rattle.cg_listing.specs.Listing as listed
 use Rattle.cg_sets.specs.declared.edges.Edge.{Edge}
-use Rattle.code_safety.specs.Runnable.{IsRunnable}
+use Rattle.ssa_runnable.specs.Runnable.{IsRunnable}
 use Rattle.go_base.specs.Devices.{AppendsFront}
 use Rattle.go_base.specs.declared.ending.Ending.{Ending}
 use Rattle.go_base.specs.declared.place.Place.{Place}
@@ -19,7 +19,7 @@ use Rattle.go_type.specs.Held.{IsHeld}
 use Rattle.ssa_ir.specs.declared.code.Code.{Code}
 use Rattle.ssa_ir.specs.declared.code.Function.{Function}
 use Rattle.ssa_mean.specs.Answers.{Answers, AreAnswers}
-use Rattle.ssa_mean.specs.Runs.{IsRunOf, IsStuck}
+use Rattle.ssa_mean.specs.Runs.{IsRunOf}
 use Rattle.ssa_print.specs.Codes as shown
 use Rattle.ssa_print.specs.Operands.{setting_of}
 use Rattle.ssa_sane.specs.Sane.{IsSane}
@@ -43,11 +43,12 @@ start_of path = record { path = path; offset = 0; line = 1; column = 1 }
 unfoldable pub AreSane : List Function → Type 0
 AreSane functions = All IsSane functions
 
--- a code that is typed, of functions that are sane and of types that are held
+-- a code that is typed and runnable, of functions that are sane and of types that are held
 pub record IsSound (code : Code) : Type 0 where
   pub held : IsHeld code.types
   pub sane : AreSane code.functions
   pub typed : IsTyped code
+  pub runnable : IsRunnable code
 
 -- the text of a code, with what letters show of it
 abbrev pub IsTextOf : Option Code → Letters → List ℕ → Type 0
@@ -70,13 +71,11 @@ abbrev pub IsListing : List SourceFile → Program → Option Graph → List ℕ
 IsListing files program None text = text ≡ []
 IsListing files program (Some graph) text = IsGraphText files program graph text
 
--- a run of a code with the choices and the bound of a command writes this output, and ends so, but where the code is
--- stuck, as runnable code never is
+-- a run of a code with the choices and the bound of a command writes this output, and ends so
 abbrev pub IsRun : Code → LoadCommand → Ending → List ℕ → Type 0
 IsRun code command ending output =
     (answers : Answers) → AreAnswers code.types answers
     → IsRunOf code command.choices command.bound output ending
-    ⊎ (IsStuck code command.choices command.bound answers × (IsRunnable code → ⊥))
 
 abbrev pub IsRunBy : Option Code → LoadCommand → Ending → List ℕ → Type 0
 IsRunBy None command ending output = ⊥

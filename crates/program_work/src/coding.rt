@@ -8,12 +8,13 @@ use crate::stop::Stop;
 use go_tree::Program;
 use ssa_flow::build;
 use ssa_ir::{Code, Form, Function};
+use ssa_runnable::is_runnable;
 use ssa_sane::sanity;
 use ssa_typed::type_code;
 use std::alloc::Global;
 
-/// The code of a program. It is judged before it is printed or run: each function is sane, and the code is typed. Its
-/// types are held.
+/// The code of a program. It is judged before it is printed or run: each function is sane, and the code is typed and
+/// runnable. Its types are held.
 pub fn sound_code(alloc: Global, program: &Program) -> Result<Code, Stop>
     ensures sound { IfOk result IsSound }
     ensures fault { IsErrOf result WriteFault → ⊥ }
@@ -21,6 +22,10 @@ pub fn sound_code(alloc: Global, program: &Program) -> Result<Code, Stop>
     let code = build(alloc, program, Form::Naive)?;
     judge(alloc, code.functions.as_slice())?;
     type_code(alloc, &code)?;
+    let runs = is_runnable(alloc, &code)?;
+    if !runs {
+        return Err(Stop::Internal);
+    }
     code.types.laws();
     Ok(code)
 }

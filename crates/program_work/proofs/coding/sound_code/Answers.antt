@@ -7,4 +7,5 @@ returns-clause-sound c = record {
   held = c.laws.ensures;
   sane = subst AreSane c.as_slice.ensures c.in_ok-judge.ensures.sane;
   typed = c.in_ok-type_code.ensures.typed refl;
+  runnable = c.in_ok-runs.ensures.0 c.if-not-runs.false;
 }
