@@ -1,7 +1,7 @@
 -- What becomes of lists of values that go to targets.
 use Rattle.std.proofs.Common.{◌≡◌, ℕ, ◌==◌, refl, sym, ap, ◌∙◌, subst, Bool, true, false, true≢false, List, [], ◌∷◌, ◌++◌, map, append-nil, append_assoc}
 use Rattle.std.proofs.Common.{Option, Some, None, Result, Ok, Err, length}
-use Rattle.std.specs.Prelude.{IfOk, OnOk, ◌&&◌}
+use Rattle.std.specs.Prelude.{IfOk}
 use Rattle.std.specs.Global.{Box, Vec}
 use Rattle.std.proofs.Common.{◌+◌, ◌<◌, ◌≤◌, arith, length-append, suc, take}
 use Rattle.std.proofs.lemmas.Bool.{eqb-true}
@@ -34,15 +34,15 @@ use Rattle.typed_parts.specs.Meanings.{single}
 use Rattle.typed_parts.specs.Adapting.{ok_part}
 use Rattle.typed_parts.specs.Nodes.{node}
 use Rattle.typed_parts.specs.Several.{place_of, several}
-use Rattle.typed_parts.specs.Turning.{Asks, IsEach, IsFollowed, Soundly, Turned, Turns}
+use Rattle.typed_parts.specs.Turning.{Asks, IsEach, Turned, Turns}
 use Rattle.typed_parts.proofs.Reports.{reported_after}
 use Rattle.typed_parts.proofs.Turns.{asks, came, nothing_came, each_more, first_came, followed, second_stays, then_soundly, weaker}
 use Rattle.typed_primaries.specs.declared.listing.Into.{Into}
 use Rattle.typed_primaries.specs.declared.listing.Into.TheVariants as into
 use Rattle.typed_primaries.specs.declared.listing.Listed.{Listed}
-use Rattle.typed_primaries.specs.Asserting.{IsWithOk, has_second}
+use Rattle.typed_primaries.specs.Asserting.{IsWithOk}
 use Rattle.typed_primaries.specs.Listing.{AreEachInto, AreGivenBy, AreGivenInto, AreOfFormBy, AreOfOne, AreOfParts, AreOfSole, AreValuesInto}
-use Rattle.typed_primaries.specs.Listing.{IsEachOutline, IsGoing, IsInto, IsOkBeside, IsOkGoing, IsOkOutline, IsOkPair, IsOkTuple, IsOneInto}
+use Rattle.typed_primaries.specs.Listing.{IsEachOutline, IsGoing, IsInto, IsOkBeside, IsOkGoing, IsOkOutline, IsOkPair, IsOkTuple}
 use Rattle.typed_primaries.specs.Listing.{IsOrNone, IsPairOf, IsPartGoing, IsPartInto, IsSpreadOutline, IsValueInto, Outline, all_of}
 use Rattle.typed_primaries.specs.Listing.{Told, each_given, each_outline, given_broken, given_of, no_outline, no_type, as_many, number_broken, outline, outlined, parts_for}
 use Rattle.typed_primaries.specs.Listing.{single_broken, spread_outline, takes_ok, target_at, told, told_items, told_layer, type_in, unlike, wrong_number}

@@ -1,4 +1,4 @@
-use Rattle.std.proofs.Common.{◌≡◌, refl, sym, ap, ◌∙◌, List, [], ◌∷◌, ◌++◌, length, append_assoc, arith, Option, map}
+use Rattle.std.proofs.Common.{◌≡◌, sym, ap, ◌∙◌, List, [], ◌∷◌, ◌++◌, length, append_assoc, arith, Option, map}
 use Rattle.std.specs.Vec.Iter.{into_iter_items}
 use Rattle.go_base.specs.declared.ids.TypeId.{TypeId}
 use Rattle.go_tree.specs.declared.exprs.TypedExpr.{TypedExpr}
