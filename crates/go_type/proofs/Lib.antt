@@ -2,6 +2,7 @@ pub mod Shifts
 pub mod SameTerm
 pub mod Places
 pub mod Distinct
+pub mod Done
 pub mod Predeclared
 pub mod Leading
 pub mod Kept

@@ -1,9 +1,13 @@
 -- What is made of items and their numbers.
-use Rattle.std.proofs.Common.{◌≡◌, ℕ, ◌+◌, ◌<◌, List, [], ◌∷◌, ◌++◌, length, take, sym, ap, ◌∙◌, append_assoc, arith}
+use Rattle.std.proofs.Common.{◌≡◌, ℕ, ◌+◌, ◌<◌, List, [], ◌∷◌, ◌++◌, length, map, take, sym, ap, ◌∙◌, append_assoc, arith}
 use Rattle.std.proofs.Math.ListN.{get_or}
-use Rattle.std.proofs.lemmas.List.{length-take, append-nil}
+use Rattle.std.proofs.lemmas.List.{length-take, append-nil, map-append}
 use Rattle.std.proofs.lemmas.Grind.{take_at_read}
 use Rattle.go_type.specs.Selector.{flat_map_from}
+
+-- what is made of each item, one item more
+pub map-take_more : {X Y : Type 0} (f : X → Y) (xs : List X) (i : ℕ) (d : X) → i < length xs → map f (take (i + 1) xs) ≡ map f (take i xs) ++ f (get_or xs i d) ∷ []
+map-take_more f xs i d h = ap (map f) (take_at_read xs i d h).1 ∙ map-append f (take i xs) (get_or xs i d ∷ [])
 
 module _ {X Y : Type 0} (f : ℕ → X → List Y) where
   one_more : (n m : ℕ) (xs : List X) (x : X) → n + length xs ≡ m → flat_map_from f n (xs ++ x ∷ []) ≡ flat_map_from f n xs ++ f m x

@@ -172,17 +172,19 @@ basics_in_order = refl
 terms_in_order : (error method : NameId) → with_term (with_term (with_term (map Plain all_basic) text_function) (error_interface method)) (error_term error) ≡ first_terms error method
 terms_in_order error method = refl
 
-pub predeclared_is : (error method : NameId) (s0 s1 s2 s3 terms : List TypeTerm) (function interface declared : TypeTerm) (definitions : List Definition)
+pub predeclared_terms : (error method : NameId) (s0 s1 s2 s3 : List TypeTerm) (function interface declared : TypeTerm)
     → s0 ≡ fold with_basic [] all_basic → function ≡ text_function → s1 ≡ with_term s0 function
-    → interface ≡ error_interface method → s2 ≡ with_term s1 interface → declared ≡ error_term error → s3 ≡ with_term s2 declared → terms ≡ s3 → definitions ≡ first_definitions
-    → record { terms = terms; definitions = definitions; error = record { number = 19 }; blank = None } ≡ predeclared error method
-unfolding predeclared
-predeclared_is error method s0 s1 s2 s3 terms function interface declared definitions is0 f is1 i is2 d is3 is4 def =
+    → interface ≡ error_interface method → s2 ≡ with_term s1 interface → declared ≡ error_term error → s3 ≡ with_term s2 declared → s3 ≡ first_terms error method
+predeclared_terms error method s0 s1 s2 s3 function interface declared is0 f is1 i is2 d is3 =
     let first : s1 ≡ with_term (map Plain all_basic) text_function = is1 ∙ (λ j. with_term ((is0 ∙ basics_in_order) j) (f j)) in
     let second : s2 ≡ with_term (with_term (map Plain all_basic) text_function) (error_interface method) = is2 ∙ (λ j. with_term (first j) (i j)) in
     let third : s3 ≡ with_term (with_term (with_term (map Plain all_basic) text_function) (error_interface method)) (error_term error) = is3 ∙ (λ j. with_term (second j) (d j)) in
-    let all : terms ≡ first_terms error method = is4 ∙ third ∙ terms_in_order error method in
-    λ j. record { terms = all j; definitions = def j; error = record { number = 19 }; blank = None }
+    third ∙ terms_in_order error method
+
+pub predeclared_is : (error method : NameId) (terms : List TypeTerm) (definitions : List Definition) → terms ≡ first_terms error method → definitions ≡ first_definitions
+    → record { terms = terms; definitions = definitions; error = record { number = 19 }; blank = None } ≡ predeclared error method
+unfolding predeclared
+predeclared_is error method terms definitions all def = λ j. record { terms = all j; definitions = def j; error = record { number = 19 }; blank = None }
 
 pub repeat_more : {X : Type 0} (x : X) (n : ℕ) → repeat n (x ∷ []) ++ x ∷ [] ≡ repeat (n + 1) (x ∷ [])
 repeat_more x zero = refl

@@ -292,3 +292,12 @@ module _ (types : Table) (wanted : Wanted) (a : TypeId) (n : ℕ) where
       by : (m < n) ⊎ (n ≤ m) → selected_at m types wanted a ≡ []
       by (inl less) = none m less
       by (inr more) = let is : m ≡ n + (m - n) = omega arith in ap (λ k. selected_at k types wanted a) is ∙ at (m - n) (up (m - n))
+
+-- of no places none are kept
+pub none_thinned : (types : Table) (seen : List TypeId) (paths : ℕ → List ℕ) (thinning : Thinning) → thinning.kept.items ≡ [] → thinning.once.keys ≡ [] → thinning.twice.keys ≡ []
+    → ThinFor types seen paths [] thinning
+none_thinned types seen paths thinning kept once twice = record {
+  thins = λ wanted d barren. ap (λ (l : List Spot). front (members_from d types wanted (map (place_by paths) l))) kept;
+  once = λ id at. absurd (true≢false (sym at ∙ ap (λ l. is_seen l id) once));
+  twice = λ id at. absurd (true≢false (sym at ∙ ap (λ l. is_seen l id) twice));
+}

@@ -15,7 +15,11 @@ pub fn comparable(types: &Types, a: TypeId) -> bool
     ensures { IsTrue result ↔ Comparable types.now a }
 {
     match inline_types(types, a) {
-        Ok(reached) => !any_incomparable(types, reached.as_slice()),
+        Ok(reached) => {
+            let incomparable = any_incomparable(types, reached.as_slice());
+            drop(reached);
+            !incomparable
+        }
         // a type is looked at again for each way to it
         Err(_) => !is_incomparable(types, a, types.len()),
     }

@@ -117,7 +117,11 @@ impl Types {
             return false;
         }
         match inline_types(self, underlying) {
-            Ok(reached) => !reached.contains(&id),
+            Ok(reached) => {
+                let reaches = reached.contains(&id);
+                drop(reached);
+                !reaches
+            }
             // a type is looked at again for each way to it
             Err(_) => !reaches(self, id, underlying, self.len()),
         }

@@ -1,6 +1,6 @@
 //! The types that elements of arrays and fields lead to, each looked at once.
 
-ghost use Rattle.std.specs.Prelude.{◌≡◌, length, map, OnOk, IfOk};
+ghost use Rattle.std.specs.Prelude.{◌≡◌, [], length, map, OnOk, IfOk};
 ghost use Rattle.go_type.specs.Inline.{Reached, Adds, parts_of};
 
 use crate::term::{Field, TypeTerm};
@@ -14,17 +14,26 @@ pub fn inline_types(types: &Types, a: TypeId) -> Result<IndexSet<TypeId>, NoMemo
     ensures counts { OnOk result (length types.now.definitions ≡ length types.now.terms) }
 {
     let mut reached = IndexSet::new(types.allocator());
+    add_reached(types, a, &mut reached).and(Ok(reached))
+}
+
+/// Adds a type, and those that it leads to, to none.
+fn add_reached(types: &Types, a: TypeId, reached: &mut IndexSet<TypeId>) -> Result<(), NoMemory>
+    requires { reached.old.keys ≡ [] }
+    ensures reached { OnOk result (Reached types.now a reached.new.keys) }
+    ensures counts { OnOk result (length types.now.definitions ≡ length types.now.terms) }
+{
     reached.insert(a)?;
     'places: for place in 0..types.len() {
         let Some(id) = reached.get_index(place).copied() else {
-            return Ok(reached);
+            return Ok(());
         };
-        add_parts(types, id, &mut reached)?;
+        add_parts(types, id, reached)?;
     }
-    if reached.len() <= types.len() {
-        return Ok(reached);
+    if reached.len() > types.len() {
+        return Err(NoMemory);
     }
-    Err(NoMemory)
+    Ok(())
 }
 
 fn add_parts(types: &Types, id: TypeId, reached: &mut IndexSet<TypeId>) -> Result<(), NoMemory>

@@ -254,18 +254,22 @@ fn thinned(alloc: Global, level: Vec<Spot>, seen: &IndexSet<TypeId>) -> Result<V
         once: IndexSet::new(alloc),
         twice: IndexSet::new(alloc),
     };
-    for spot in level {
-        thinning.add(spot, seen)?;
-    }
-    let Thinning {
-        kept,
-        once: _,
-        twice: _,
-    } = thinning;
-    Ok(kept)
+    let done = thinning.add_all(level.as_slice(), seen);
+    let Thinning { kept, once, twice } = thinning;
+    drop((level, once, twice));
+    done.and(Ok(kept))
 }
 
 impl Thinning {
+    fn add_all(&mut self, spots: &[Spot], seen: &IndexSet<TypeId>) -> Result<(), NoMemory>
+        ensures { (types : Table) (paths : ℕ → List ℕ) → OnOk result (ThinFor types seen.now.keys paths [] self.old → ThinFor types seen.now.keys paths (map (place_by paths) spots.now) self.new) }
+    {
+        for spot in spots {
+            self.add(*spot, seen)?;
+        }
+        Ok(())
+    }
+
     fn add(&mut self, spot: Spot, seen: &IndexSet<TypeId>) -> Result<(), NoMemory>
         ensures { (types : Table) (paths : ℕ → List ℕ) (all : List Place) → OnOk result (ThinFor types seen.now.keys paths all self.old → ThinFor types seen.now.keys paths (all ++ place_by paths spot ∷ []) self.new) }
     {

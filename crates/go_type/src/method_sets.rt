@@ -4,6 +4,8 @@ ghost use Rattle.std.specs.Prelude.{◌≡◌, ◌||◌, IsTrue, IfOk, OnOk, map
 ghost use Rattle.std.specs.List.{All, list_any};
 ghost use Rattle.std.specs.List.Sorted.{IsStrictlySortedBy};
 ghost use Rattle.std.specs.BTreeSet.{contains};
+ghost use Rattle.go_base.specs.declared.ids.TypeId.{TypeId};
+ghost use Rattle.go_type.specs.Levels.{StandFor, places_of};
 ghost use Rattle.go_type.specs.Selector.{is_wanted};
 ghost use Rattle.go_type.specs.declared.members.Wanted.{Wanted};
 ghost use Rattle.go_type.specs.MethodSets.{IsMethod, HasEach, name_of, by_name, offers, NamesEach, IsEntryOf};
@@ -81,16 +83,30 @@ fn method_of(
 fn method_names(alloc: Global, types: &Types, a: TypeId) -> Result<BTreeSet<Wanted>, NoMemory>
     ensures { IfOk result (NamesEach types.now a) }
 {
-    let mut names = BTreeSet::new(alloc);
     let mut levels = Levels::new(alloc, types, a)?;
+    let mut names = BTreeSet::new(alloc);
+    let done = add_names_below(alloc, types, &mut levels, &mut names);
+    drop(levels);
+    done.and(Ok(names))
+}
+
+/// Adds the names from the place of a type itself on.
+fn add_names_below(
+    alloc: Global,
+    types: &Types,
+    levels: &mut Levels,
+    names: &mut BTreeSet<Wanted>,
+) -> Result<(), NoMemory>
+    ensures { (a : TypeId) → OnOk result (StandFor types.now a 0 (places_of levels.old) levels.old.seen.keys → NamesEach types.now a names.new) }
+{
     'depths: for depth in 0..types.len() {
-        add_names(types, levels.spots.as_slice(), &mut names)?;
+        add_names(types, levels.spots.as_slice(), names)?;
         levels.descend(alloc, types)?;
         if levels.spots.is_empty() {
-            return Ok(names);
+            return Ok(());
         }
     }
-    Ok(names)
+    Ok(())
 }
 
 fn add_names(types: &Types, spots: &[Spot], names: &mut BTreeSet<Wanted>) -> Result<(), NoMemory>

@@ -1,9 +1,11 @@
 //! What a selector selects. Go specification, "Selectors" and "Struct types".
 
-ghost use Rattle.std.specs.Prelude.{◌≡◌, ◌<◌, zero, length, map, IfOk, true, false};
+ghost use Rattle.std.specs.Prelude.{◌≡◌, ◌<◌, zero, length, map, IfOk, MatchOption, true, false, []};
+ghost use Rattle.std.specs.List.{flat_map};
+ghost use Rattle.go_base.specs.declared.ids.TypeId.{TypeId};
 ghost use Rattle.go_type.specs.Table.{is_blank};
-ghost use Rattle.go_type.specs.Selector.{SelectsFrom, Finds, IsFirst, is_declared_pointer};
-ghost use Rattle.go_type.specs.Levels.{found_of};
+ghost use Rattle.go_type.specs.Selector.{SelectsFrom, Finds, IsFirst, is_declared_pointer, selected_in};
+ghost use Rattle.go_type.specs.Levels.{StandFor, found_of, places_of};
 
 use crate::levels::Levels;
 use crate::members::{Found, Member, Wanted, members_in};
@@ -72,12 +74,23 @@ pub fn find_member(
     let Ok(mut levels) = Levels::new(alloc, types, a) else {
         return Err(SelectError::OutOfMemory);
     };
+    let member = find_below(alloc, types, wanted, &mut levels);
+    drop(levels);
+    member
+}
+
+/// The same, from the place of a type itself on.
+fn find_below(
+    alloc: Global,
+    types: &Types,
+    wanted: Wanted,
+    levels: &mut Levels,
+) -> Result<Member, SelectError>
+    ensures { (a : TypeId) → StandFor types.now a 0 (places_of levels.old) levels.old.seen.keys → Finds types.now wanted a result }
+{
     'depths: for depth in 0..types.len() {
-        let Ok(found) = members_in(alloc, types, wanted, levels.spots.as_slice()) else {
-            return Err(SelectError::OutOfMemory);
-        };
-        if !found.is_empty() {
-            return first_of(alloc, &levels, found.as_slice());
+        if let Some(first) = first_at(alloc, types, wanted, levels) {
+            return first;
         }
         let Ok(()) = levels.descend(alloc, types) else {
             return Err(SelectError::OutOfMemory);
@@ -87,6 +100,24 @@ pub fn find_member(
         }
     }
     Err(SelectError::Absent)
+}
+
+/// What a level selects, and None where that is nothing.
+fn first_at(
+    alloc: Global,
+    types: &Types,
+    wanted: Wanted,
+    levels: &Levels,
+) -> Option<Result<Member, SelectError>>
+    ensures { MatchOption result (flat_map (selected_in types.now wanted) (places_of levels.now) ≡ []) (IsFirst (flat_map (selected_in types.now wanted) (places_of levels.now))) }
+{
+    let Ok(found) = members_in(alloc, types, wanted, levels.spots.as_slice()) else {
+        return Some(Err(SelectError::OutOfMemory));
+    };
+    if found.is_empty() {
+        return None;
+    }
+    Some(first_of(alloc, levels, found.as_slice()))
 }
 
 /// The one that is found, or the paths of the first two.

@@ -1,11 +1,11 @@
 //! The types of a program, each held once. Go specification, "Types", "Type identity" and "Underlying types".
 
-ghost use Rattle.std.specs.Prelude.{◌≡◌, ◌==◌, ◌<◌, ◌↔◌, IsTrue, length, IfOk, OnOk, OnErr, Some, None, false, true, [], ◌∷◌, slice_get, option_copied, IfSome, is_some};
+ghost use Rattle.std.specs.Prelude.{if◌then◌else◌, ◌≡◌, ◌++◌, ◌==◌, ◌<◌, ◌↔◌, IsTrue, length, IfOk, OnOk, OnErr, Some, None, false, true, [], ◌∷◌, slice_get, option_copied, IfSome, is_some};
 ghost use Rattle.std.specs.List.{list_any, IsDistinct, fold};
 ghost use Rattle.go_type.specs.Conditions.{is_holdable, CanDefine, takes_method};
 ghost use Rattle.go_type.specs.Held.{IsHeld, names_below, is_ordered};
 ghost use Rattle.go_type.specs.Identity.{Identical};
-ghost use Rattle.go_type.specs.Table.{FieldsFit, predeclared, with_basic, basic_id, text_function, first_definitions, exported_method, is_blank, with_blank, place_of, id_of, with_term, with_next, same_term, underlying_of, with_underlying, with_method, term_at, definition_at};
+ghost use Rattle.go_type.specs.Table.{FieldsFit, predeclared, all_basic, first_terms, with_basic, basic_id, text_function, first_definitions, exported_method, is_blank, with_blank, place_of, id_of, with_term, with_next, same_term, underlying_of, with_underlying, with_method, term_at, definition_at};
 ghost use Rattle.go_type.specs.declared.term.TypeTerm.TheVariants.{Basic as Plain, Declared, Func};
 
 use crate::kinds::basic;
@@ -75,18 +75,11 @@ impl Types {
     pub fn new(alloc: Global, error: NameId, method: NameId) -> Result<Types, NoMemory>
         ensures { IfOk result (λ types. types ≡ predeclared error method) }
     {
-        let mut terms = basic_terms(alloc, &ALL_BASIC)?;
-        terms.insert(TypeTerm::Func(text_of_nothing(alloc)?))?;
-        terms.insert(TypeTerm::Interface(one_method(alloc, method)?))?;
-        terms.insert(TypeTerm::Declared(TypeName {
-            name: error,
-            package: EXPORTED,
-            number: 0,
-        }))?;
+        let definitions = first_definitions(alloc)?;
         Ok(Types {
             alloc,
-            terms,
-            definitions: first_definitions(alloc)?,
+            terms: predeclared_terms(alloc, error, method)?,
+            definitions,
             error: ERROR,
             blank: None,
         })
@@ -303,10 +296,11 @@ impl Types {
     pub fn copy(&self, alloc: Global) -> Result<Types, NoMemory>
         ensures { IfOk result (λ copy. copy ≡ self.now) }
     {
+        let definitions = copy_definitions(alloc, self.definitions.as_slice())?;
         Ok(Types {
             alloc,
             terms: copy_terms(alloc, self.terms.as_slice())?,
-            definitions: copy_definitions(alloc, self.definitions.as_slice())?,
+            definitions,
             error: self.error,
             blank: self.blank,
         })
@@ -322,15 +316,57 @@ pub fn identical(types: &Types, a: TypeId, b: TypeId) -> bool
     a == b
 }
 
-/// The terms of basic types.
-fn basic_terms(alloc: Global, basics: &[Basic]) -> Result<IndexSet<TypeTerm>, NoMemory>
-    ensures { IfOk result (λ terms. terms.keys ≡ fold with_basic [] basics.now) }
+/// The terms of the predeclared types.
+fn predeclared_terms(
+    alloc: Global,
+    error: NameId,
+    method: NameId,
+) -> Result<IndexSet<TypeTerm>, NoMemory>
+    ensures { IfOk result (λ terms. terms.keys ≡ first_terms error method) }
 {
     let mut terms = IndexSet::new(alloc);
+    add_predeclared(alloc, &mut terms, error, method).and(Ok(terms))
+}
+
+fn add_predeclared(
+    alloc: Global,
+    terms: &mut IndexSet<TypeTerm>,
+    error: NameId,
+    method: NameId,
+) -> Result<(), NoMemory>
+    requires { terms.old.keys ≡ [] }
+    ensures { OnOk result (terms.new.keys ≡ first_terms error method) }
+{
+    add_basic(terms, &ALL_BASIC)?;
+    add_term(terms, TypeTerm::Func(text_of_nothing(alloc)?))?;
+    add_term(terms, TypeTerm::Interface(one_method(alloc, method)?))?;
+    add_term(
+        terms,
+        TypeTerm::Declared(TypeName {
+            name: error,
+            package: EXPORTED,
+            number: 0,
+        }),
+    )
+}
+
+/// Adds the terms of basic types.
+fn add_basic(terms: &mut IndexSet<TypeTerm>, basics: &[Basic]) -> Result<(), NoMemory>
+    ensures { OnOk result (terms.new.keys ≡ fold with_basic terms.old.keys basics.now) }
+{
     for basic in basics {
-        terms.insert(TypeTerm::Basic(*basic))?;
+        add_term(terms, TypeTerm::Basic(*basic))?;
     }
-    Ok(terms)
+    Ok(())
+}
+
+fn add_term(terms: &mut IndexSet<TypeTerm>, term: TypeTerm) -> Result<(), NoMemory>
+    ensures { OnOk result (terms.new.keys ≡ (if list_any (same_term term) terms.old.keys then terms.old.keys else terms.old.keys ++ term ∷ [])) }
+{
+    match terms.insert(term) {
+        Ok(_) => Ok(()),
+        Err(_) => Err(NoMemory),
+    }
 }
 
 /// The definitions of the predeclared types, of which `error` alone has one.
@@ -382,10 +418,22 @@ fn copy_terms(alloc: Global, terms: &[TypeTerm]) -> Result<IndexSet<TypeTerm>, N
     ensures { IfOk result (λ copy. copy.keys ≡ terms.now) }
 {
     let mut copy = IndexSet::new(alloc);
+    add_copies(alloc, terms, &mut copy).and(Ok(copy))
+}
+
+fn add_copies(
+    alloc: Global,
+    terms: &[TypeTerm],
+    copy: &mut IndexSet<TypeTerm>,
+) -> Result<(), NoMemory>
+    requires distinct { IsDistinct same_term terms.now }
+    requires empty { copy.old.keys ≡ [] }
+    ensures { OnOk result (copy.new.keys ≡ terms.now) }
+{
     for term in terms {
-        copy.insert(term.copy(alloc)?)?;
+        add_term(copy, term.copy(alloc)?)?;
     }
-    Ok(copy)
+    Ok(())
 }
 
 fn copy_definitions(alloc: Global, definitions: &[Definition]) -> Result<Vec<Definition>, NoMemory>

@@ -7,8 +7,8 @@ use Rattle.go_type.proofs.comparing.comparable.Goals as goal
 
 pub returns-in-Ok : goal.returns-in-Ok
 returns-in-Ok c =
-    comparable_reached c.args.types.now c.in-Ok.ensures.counts c.args.a c.in-Ok.reached.keys c.in-Ok.ensures.reached c.any_incomparable.result _
-    (c.any_incomparable.ensures ∙ ap (list_any (incomparable_to 1 c.args.types.now)) c.as_slice.ensures.keys) refl
+    comparable_reached c.args.types.now c.in-Ok.ensures.counts c.args.a c.in-Ok.reached.keys c.in-Ok.ensures.reached c.any_incomparable-incomparable.result _
+    (c.any_incomparable-incomparable.ensures ∙ ap (list_any (incomparable_to 1 c.args.types.now)) c.as_slice.ensures.keys) refl
 
 pub returns-in-Err : goal.returns-in-Err
 returns-in-Err c =

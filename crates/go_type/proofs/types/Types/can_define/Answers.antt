@@ -6,8 +6,8 @@ use Rattle.go_type.proofs.types.Types.can_define.Goals as goal
 
 pub returns-in-Ok : goal.returns-in-Ok
 returns-in-Ok c =
-    definable_reached c.args.self.now c.in-Ok.ensures.counts c.args.id c.args.underlying c.in-Ok.reached.keys c.in-Ok.ensures.reached c.is_definable.result c.contains.result _ c.is_definable.ensures
-    c.if-not-is_definable.false c.contains.ensures refl
+    definable_reached c.args.self.now c.in-Ok.ensures.counts c.args.id c.args.underlying c.in-Ok.reached.keys c.in-Ok.ensures.reached c.is_definable.result c.contains-reaches.result _ c.is_definable.ensures
+    c.if-not-is_definable.false c.contains-reaches.ensures refl
 
 pub returns-in-Err : goal.returns-in-Err
 returns-in-Err c =

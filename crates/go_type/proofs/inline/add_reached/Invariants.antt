@@ -1,5 +1,5 @@
 use Rattle.go_type.specs.Inline.{ReachedTo}
-use Rattle.go_type.proofs.inline.inline_types.Given as goal
+use Rattle.go_type.proofs.inline.add_reached.Given as goal
 
 abbrev pub invariant-places : goal.invariant-places
 invariant-places l = ReachedTo l.types l.fn.a l.place l.reached.keys

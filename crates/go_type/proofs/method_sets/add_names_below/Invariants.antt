@@ -1,0 +1,12 @@
+use Rattle.std.specs.BTreeSet.{contains}
+use Rattle.go_base.specs.declared.ids.TypeId.{TypeId}
+use Rattle.go_type.specs.Levels.{StandFor, places_of}
+use Rattle.go_type.specs.MethodSets.{by_name}
+use Rattle.go_type.proofs.MethodsFound.{NamesAbove}
+use Rattle.go_type.proofs.method_sets.add_names_below.Given as goal
+
+abbrev pub invariant-depths : goal.invariant-depths
+invariant-depths l = (a : TypeId) → StandFor l.types a 0 (places_of l.fn.levels) l.fn.levels.seen.keys → record {
+  stand : StandFor l.types a l.depth (places_of l.levels) l.levels.seen.keys;
+  above : NamesAbove l.types a l.depth (contains by_name l.names);
+}
