@@ -1,6 +1,6 @@
 //! Whether a type has a nesting. It has none where its parts, or parts of these, have themselves as parts.
 
-ghost use Rattle.std.specs.Prelude.{◌≡◌, ◌++◌, [], map, IfOk, OnOk, IsTrue, ◌↔◌};
+ghost use Rattle.std.specs.Prelude.{◌≡◌, ◌++◌, ◌∷◌, [], ℕ, List, map, IfOk, OnOk, IsTrue, ◌↔◌};
 ghost use Rattle.std.specs.List.{flat_map};
 ghost use Rattle.go_type.specs.Table.{term_at};
 ghost use Rattle.type_sizes.specs.Nesting.{HasNesting, IsPartGraph, IsRow, whole, whole_parts};
@@ -29,16 +29,45 @@ fn graph_of(types: &Types, id: TypeId) -> Result<Vec<Vec<usize>>, NoMemory>
 {
     let mut reached = IndexSet::new(types.allocator());
     let mut graph = Vec::new(types.allocator());
+    let done = add_rows(types, id, &mut reached, &mut graph);
+    drop(reached);
+    done.and(Ok(graph))
+}
+
+/// Adds a row for a type and for each that it leads to, where there is none.
+fn add_rows(
+    types: &Types,
+    id: TypeId,
+    reached: &mut IndexSet<TypeId>,
+    graph: &mut Vec<Vec<usize>>,
+) -> Result<(), NoMemory>
+    requires reached { reached.old.keys ≡ [] }
+    requires graph { graph.old.items ≡ [] }
+    ensures { OnOk result (IsPartGraph types.now id (map (λ r. r.items) graph.new.items)) }
+{
     reached.insert(id)?;
     'places: for place in 0..usize::MAX {
         let Some(part) = reached.get_index(place).copied() else {
-            return Ok(graph);
+            return Ok(());
         };
-        let parts = whole_parts(types, part)?;
-        let row = row_of(types.allocator(), parts.as_slice(), &mut reached)?;
-        graph.push(row)?;
+        add_row(types, part, reached, graph)?;
     }
     Err(NoMemory)
+}
+
+/// Adds the row of a type.
+fn add_row(
+    types: &Types,
+    id: TypeId,
+    reached: &mut IndexSet<TypeId>,
+    graph: &mut Vec<Vec<usize>>,
+) -> Result<(), NoMemory>
+    ensures { OnOk result ((row : List ℕ) × (IsRow (whole_parts types.now id) reached.old.keys reached.new.keys row × (map (λ r. r.items) graph.new.items ≡ map (λ r. r.items) graph.old.items ++ row ∷ []))) }
+{
+    let parts = whole_parts(types, id)?;
+    let row = row_of(types.allocator(), parts.as_slice(), reached)?;
+    graph.push(row)?;
+    Ok(())
 }
 
 /// The places of types in a set, to which those that were not in it are added.

@@ -109,27 +109,25 @@ impl Sizes {
         }
         let below = limit - 1;
         match types.underlying_term(id) {
-            Some(TypeTerm::Array { elem, .. }) => Ok(self.nests(types, *elem, below)?),
-            Some(TypeTerm::Struct(fields)) => {
-                Ok(self.fields_nest(types, fields.as_slice(), below)?)
-            }
+            Some(TypeTerm::Array { elem, .. }) => self.nests(types, *elem, below),
+            Some(TypeTerm::Struct(fields)) => self.fields_nest(types, fields.as_slice(), below),
             Some(
                 TypeTerm::Pointer(elem)
                 | TypeTerm::Slice(elem)
                 | TypeTerm::Chan { elem, .. }
                 | TypeTerm::Iter(elem),
             ) => Ok(self.part_nests(types, *elem, below)?),
-            Some(TypeTerm::Map { key, elem }) => Ok(self.pair_nests(types, *key, *elem, below)?),
+            Some(TypeTerm::Map { key, elem }) => self.pair_nests(types, *key, *elem, below),
             Some(TypeTerm::Func(signature)) => {
-                Ok(
-                    self.parts_nest(types, signature.params.as_slice(), below)?
-                        && self.parts_nest(types, signature.results.as_slice(), below)?,
-                )
+                if !self.parts_nest(types, signature.params.as_slice(), below)? {
+                    return Ok(false);
+                }
+                self.parts_nest(types, signature.results.as_slice(), below)
             }
             Some(TypeTerm::Interface(methods)) => {
-                Ok(self.methods_nest(types, methods.as_slice(), below)?)
+                self.methods_nest(types, methods.as_slice(), below)
             }
-            Some(TypeTerm::Tuple(parts)) => Ok(self.parts_nest(types, parts.as_slice(), below)?),
+            Some(TypeTerm::Tuple(parts)) => self.parts_nest(types, parts.as_slice(), below),
             Some(TypeTerm::Basic(_) | TypeTerm::Declared(_)) | None => Ok(true),
         }
     }
@@ -164,7 +162,7 @@ impl Sizes {
         if !self.part_nests(types, key, limit)? {
             return Ok(false);
         }
-        Ok(self.part_nests(types, elem, limit)?)
+        self.part_nests(types, elem, limit)
     }
 
     #[cycle(nests)]
