@@ -113,16 +113,8 @@ fn copy_texts(alloc: Global, texts: &[String]) -> Result<IndexSet<String>, NoMem
     ensures { IfOk result (λ copy. map string_bytes copy.keys ≡ map string_bytes texts.now) }
 {
     let mut copy = IndexSet::new(alloc);
-    add_copies(alloc, texts, &mut copy).and(Ok(copy))
-}
-
-fn add_copies(alloc: Global, texts: &[String], copy: &mut IndexSet<String>) -> Result<(), NoMemory>
-    requires distinct { AreDistinct (map string_bytes texts.now) }
-    requires empty { copy.old.keys ≡ [] }
-    ensures { OnOk result (map string_bytes copy.new.keys ≡ map string_bytes texts.now) }
-{
     for text in texts {
         copy.insert(String::from_str(alloc, text.as_str())?)?;
     }
-    Ok(())
+    Ok(copy)
 }
