@@ -1,5 +1,5 @@
 -- Entries one after the other, as the definitions of their groups have them from the right.
-use Rattle.std.proofs.Common.{◌≡◌, ℕ, ◌≤◌, length, arith, subst, Result, refl, sym, ap, ◌∙◌, List, [], ◌∷◌, ◌++◌, Option, Some, None, Bool, true, false, ◌&&◌, if◌then◌else◌}
+use Rattle.std.proofs.Common.{◌≡◌, ℕ, ◌≤◌, length, arith, refl, sym, ap, ◌∙◌, List, [], ◌∷◌, ◌++◌, Option, Some, None, Bool, true, false, ◌&&◌, if◌then◌else◌}
 use Rattle.go_ast.specs.declared.token.Token.{Token}
 use Rattle.go_grammar.specs.Forests as forms
 use Rattle.go_grammar.specs.Forests.{Forest, empty, leaf, node, append}
@@ -13,7 +13,7 @@ use Rattle.go_grammar.specs.View.{view_listed_name, view_param, view_type_expr, 
 use Rattle.go_fragments.proofs.Loops.{each_push}
 use Rattle.go_fragments.specs.declared.stop.Stop.{Stop}
 use Rattle.go_fragments.specs.declared.stop.Stop.TheVariants as reasons
-use Rattle.go_fragments.specs.Giving.{Fails, Gives}
+use Rattle.go_fragments.specs.Giving.{Fails}
 use Rattle.go_fragments.specs.Entries.{so_far, view_entry, entries, group_turn, closed_groups, groups_from, local_name, listed_name, type_turn, types_from, are_dots_allowed}
 
 some_same : {A : Type 0} (x y : A) → Some x ≡ Some y → x ≡ y
@@ -320,15 +320,12 @@ pub groups_start : (variadic : Bool) (ps : List Param) (ns : List ListedName) (w
 groups_start variadic ps ns whole front before last p n w b = rw (p, n, w, b) (unchanged (groups_of variadic empty (entries (front ++ last ∷ []))))
 
 -- groups with the last entry, where no name is left
-pub groups_end : {X : Type 0} (view : X → Forest) (result : Result X Stop) (variadic : Bool) (params names params' names' : Forest) (before : List Read) (last : Read) (n : ℕ) (total : Option Forest)
+pub groups_end : (variadic : Bool) (params names params' names' : Forest) (before : List Read) (last : Read) (n : ℕ) (total : Option Forest)
     → n ≡ length before → n ≡ 0 → group_turn variadic params names (view_entry last) ≡ Some (params', names')
-    → Gives view result (closed_groups params' names')
-    → groups_from variadic params names (entries (before ++ last ∷ [])) ≡ total → Gives view result total
-groups_end view result variadic params names params' names' before last n total h e turn given so_far =
-    let whole : total ≡ closed_groups params' names' =
+    → groups_from variadic params names (entries (before ++ last ∷ [])) ≡ total → total ≡ closed_groups params' names'
+groups_end variadic params names params' names' before last n total h e turn so_far =
     sym so_far ∙ ap (λ (list : List Read). groups_from variadic params names (entries (list ++ last ∷ []))) (nothing_left before n h e)
-    ∙ group_last variadic params names params' names' (view_entry last) turn in
-    subst (λ (read : Option Forest). Gives view result read) (sym whole) given
+    ∙ group_last variadic params names params' names' (view_entry last) turn
 
 pub groups_end_fails : (stop : Stop) (variadic : Bool) (params names : Forest) (before : List Read) (last : Read) (n : ℕ) (total : Option Forest)
     → n ≡ length before → n ≡ 0 → Fails stop (group_turn variadic params names (view_entry last))
@@ -358,3 +355,9 @@ types_end_fails reasons.Memory variadic params before last n total h e turn so_f
 types_end_fails reasons.Unexpected variadic params before last n total h e turn so_far =
     sym so_far ∙ ap (λ (list : List Read). types_from variadic params (entries (list ++ last ∷ []))) (nothing_left before n h e)
     ∙ type_last_stops variadic params (view_entry last) turn
+
+pub types_end_none : (variadic : Bool) (params : Forest) (before : List Read) (last : Read) (n : ℕ) (total : Option Forest)
+    → n ≡ length before → n ≡ 0 → type_turn variadic (view_entry last) ≡ None
+    → types_from variadic params (entries (before ++ last ∷ [])) ≡ total → total ≡ None
+types_end_none variadic params before last n total h e turn so_far =
+    types_end_fails reasons.Unexpected variadic params before last n total h e turn so_far

@@ -13,7 +13,7 @@ abbrev pub Gives : {X Y : Type 0} → (X → Y) → Result X Stop → Option Y �
 Gives view (Ok x) read = read ≡ Some (view x)
 Gives view (Err stop) read = Fails stop read
 
--- what was returned, seen by view, is what is read, and nothing where nothing is read
-abbrev pub GivesOption : {X Y : Type 0} → (X → Y) → Option X → Option Y → Type 0
-GivesOption view (Some x) read = read ≡ Some (view x)
-GivesOption view None read = read ≡ None
+-- what a reader gave that needs no memory, seen by view, is what is read, and nothing where nothing is read
+abbrev pub Reads : {X Y : Type 0} → (X → Y) → Option X → Option Y → Type 0
+Reads view (Some x) read = read ≡ Some (view x)
+Reads view None read = read ≡ None

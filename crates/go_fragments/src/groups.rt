@@ -5,7 +5,7 @@ ghost use Rattle.go_grammar.specs.Forests.{empty};
 ghost use Rattle.go_grammar.specs.TypeReading.{begins_embedded, embedded_behind, begins_named_param, param_name_in, has_names, param_of, is_none, name_of_type, groups_of, types_of, params_of};
 ghost use Rattle.go_grammar.specs.View.{view_field_line, view_param, view_listed_name, view_type_expr, view_named, each};
 ghost use Rattle.go_grammar.specs.FileReading.{parsers};
-ghost use Rattle.go_fragments.specs.Giving.{Gives};
+ghost use Rattle.go_fragments.specs.Giving.{Gives, Reads};
 ghost use Rattle.go_fragments.specs.Entries.{view_entry, entries, are_dots_allowed, closed_groups, group_turn, local_name, type_turn};
 ghost use Rattle.go_fragments.specs.Lines.{embedded_line_in};
 
@@ -51,8 +51,8 @@ fn ends_embedded_field(tokens: &[Token]) -> bool
 
 /// `T` or `*T` as a field, and the semicolon behind it.
 #[tactic(auto, using(go_grammar::proofs::Views::view_field_line_embedded, crate::proofs::Lines::braces_end))]
-pub fn embedded_field(tokens: &[Token]) -> Result<(FieldLine, &[Token]), Stop>
-    ensures { Gives (λ x. (view_field_line x.0, x.1.now)) result (embedded_line_in (parsers 0) tokens.now) }
+pub fn embedded_field(tokens: &[Token]) -> Option<(FieldLine, &[Token])>
+    ensures { Reads (λ x. (view_field_line x.0, x.1.now)) result (embedded_line_in (parsers 0) tokens.now) }
 {
     let (star, rest) = optional(tokens, Kind::Star);
     let (name, rest) = type_name(rest)?;
@@ -64,7 +64,7 @@ pub fn embedded_field(tokens: &[Token]) -> Result<(FieldLine, &[Token]), Stop>
         tag,
         semicolon,
     };
-    Ok((line, rest))
+    Some((line, rest))
 }
 
 /// Whether a name stands here before its type.
@@ -167,15 +167,15 @@ fn name_of_this_package(name: NamedType) -> Option<Token>
 
 /// A name that was read as a type, and the comma behind it.
 #[tactic(auto, using(crate::proofs::Grouping::name_by_parts))]
-fn name_read_as_type(entry: &Entry) -> Result<ListedName, Stop>
-    ensures { Gives view_listed_name result (name_of_type entry.now.ellipsis (view_type_expr entry.now.form.value) entry.now.comma) }
+fn name_read_as_type(entry: &Entry) -> Option<ListedName>
+    ensures { Reads view_listed_name result (name_of_type entry.now.ellipsis (view_type_expr entry.now.form.value) entry.now.comma) }
 {
     match (entry.ellipsis, local_name(&entry.form), entry.comma) {
-        (None, Some(name), Some(comma)) => Ok(ListedName {
+        (None, Some(name), Some(comma)) => Some(ListedName {
             name,
             comma: Some(comma),
         }),
-        _ => Err(Stop::Unexpected),
+        _ => None,
     }
 }
 
@@ -195,7 +195,9 @@ fn with_name(groups: Groups, allowed: bool, entry: &Entry) -> Result<Groups, Sto
     requires { entry.now.name ≡ None }
     ensures { Gives (λ x. (each view_param x.params.items, each view_listed_name x.names.items)) result (group_turn allowed (each view_param groups.params.items) (each view_listed_name groups.names.items) (view_entry entry.now)) }
 {
-    let name = name_read_as_type(entry)?;
+    let Some(name) = name_read_as_type(entry) else {
+        return Err(Stop::Unexpected);
+    };
     let params = groups.params;
     let mut names = groups.names;
     names.push(name)?;
@@ -228,13 +230,13 @@ fn with_param(
 }
 
 /// The parameters, where no name is left.
-fn closed(groups: Groups) -> Result<Vec<Param>, Stop>
-    ensures { Gives (λ x. each view_param x.items) result (closed_groups (each view_param groups.params.items) (each view_listed_name groups.names.items)) }
+fn closed(groups: Groups) -> Option<Vec<Param>>
+    ensures { Reads (λ x. each view_param x.items) result (closed_groups (each view_param groups.params.items) (each view_listed_name groups.names.items)) }
 {
     if has_no_name(&groups.names) {
-        return Ok(groups.params);
+        return Some(groups.params);
     }
-    Err(Stop::Unexpected)
+    None
 }
 
 /// Parameters that have names: those read as types are names of the next parameter.
@@ -253,21 +255,24 @@ fn with_names(alloc: Global, variadic: bool, list: Vec<Entry>) -> Result<Vec<Par
         groups = with_entry(alloc, groups, false, entry)?;
     }
     let whole = with_entry(alloc, groups, variadic, last)?;
-    closed(whole)
+    let Some(params) = closed(whole) else {
+        return Err(Stop::Unexpected);
+    };
+    Ok(params)
 }
 
 /// A parameter without a name.
-fn without_name(alloc: Global, allowed: bool, entry: Entry) -> Result<Param, Stop>
-    ensures { Gives view_param result (type_turn allowed (view_entry entry)) }
+fn without_name(alloc: Global, allowed: bool, entry: Entry) -> Option<Param>
+    ensures { Reads view_param result (type_turn allowed (view_entry entry)) }
 {
     if is_ellipsis_allowed(entry.ellipsis, allowed) {
-        return Ok(param_of(Vec::new(alloc), entry));
+        return Some(param_of(Vec::new(alloc), entry));
     }
-    Err(Stop::Unexpected)
+    None
 }
 
 /// Parameters without names.
-#[tactic(auto, using(crate::proofs::Grouping::types_start, crate::proofs::Grouping::types_go_on, crate::proofs::Grouping::types_fail, crate::proofs::Grouping::types_end, crate::proofs::Grouping::types_end_fails))]
+#[tactic(auto, using(crate::proofs::Grouping::types_start, crate::proofs::Grouping::types_go_on, crate::proofs::Grouping::types_fail, crate::proofs::Grouping::types_end, crate::proofs::Grouping::types_end_none))]
 fn without_names(alloc: Global, variadic: bool, list: Vec<Entry>) -> Result<Vec<Param>, Stop>
     ensures { Gives (λ x. each view_param x.items) result (types_of variadic (entries list.items)) }
 {
@@ -277,10 +282,14 @@ fn without_names(alloc: Global, variadic: bool, list: Vec<Entry>) -> Result<Vec<
         return Ok(params);
     };
     for entry in front {
-        let param = without_name(alloc, false, entry)?;
+        let Some(param) = without_name(alloc, false, entry) else {
+            return Err(Stop::Unexpected);
+        };
         params.push(param)?;
     }
-    let final_param = without_name(alloc, variadic, last)?;
+    let Some(final_param) = without_name(alloc, variadic, last) else {
+        return Err(Stop::Unexpected);
+    };
     params.push(final_param)?;
     Ok(params)
 }

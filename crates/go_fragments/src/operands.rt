@@ -8,7 +8,7 @@ ghost use Rattle.go_grammar.specs.StmtReading as stmts;
 ghost use Rattle.go_grammar.specs.Tests.{begins, begins_both, word_in};
 ghost use Rattle.go_grammar.specs.View.{each, one, view_expr, view_listed_expr, view_named, view_type_expr};
 ghost use Rattle.go_fragments.specs.Expressions.{name_token, single_of, type_named, view_context};
-ghost use Rattle.go_fragments.specs.Giving.{Gives, GivesOption};
+ghost use Rattle.go_fragments.specs.Giving.{Gives, Reads};
 ghost use Rattle.go_fragments.specs.Words.{begins_operand_type};
 ghost use Rattle.go_fragments.specs.Operands.{star_at, sign_at};
 ghost use Rattle.go_ast.specs.declared.token.Kind.TheVariants as kinds;
@@ -137,7 +137,9 @@ pub fn literal_type(alloc: Global, left: Box<Expr>) -> Result<Box<TypeExpr>, Sto
     match Box::into_inner(left).into_type() {
         Ok(form) => Ok(form),
         Err(other) => {
-            let name = type_name_of(&other)?;
+            let Some(name) = type_name_of(&other) else {
+                return Err(Stop::Unexpected);
+            };
             Ok(boxed(alloc, TypeExpr::Name(name))?)
         }
     }
@@ -145,20 +147,20 @@ pub fn literal_type(alloc: Global, left: Box<Expr>) -> Result<Box<TypeExpr>, Sto
 
 /// The name of a type, of what was read as an expression.
 #[tactic(auto, using(go_grammar::proofs::Views::view_expr_name, go_grammar::proofs::Views::view_expr_selector, crate::proofs::Variants::imported_none, crate::proofs::Variants::imported_some))]
-fn type_name_of(expr: &Expr) -> Result<NamedType, Stop>
-    ensures { Gives view_named result (type_named (view_expr expr.now)) }
+fn type_name_of(expr: &Expr) -> Option<NamedType>
+    ensures { Reads view_named result (type_named (view_expr expr.now)) }
 {
     match expr {
-        Expr::Name(name) => Ok(NamedType::Local(*name)),
+        Expr::Name(name) => Some(NamedType::Local(*name)),
         Expr::Selector { operand, dot, name } => {
             let package = token_of_name(operand)?;
-            Ok(NamedType::Imported {
+            Some(NamedType::Imported {
                 package,
                 dot: *dot,
                 name: *name,
             })
         }
-        _ => Err(Stop::Unexpected),
+        _ => None,
     }
 }
 
@@ -188,49 +190,47 @@ fn with_sign(alloc: Global, operator: Token, operand: Box<Expr>) -> Result<Box<E
 }
 
 /// The expression of a list of one, which no comma follows.
-pub fn single(list: Vec<ListedExpr>) -> Result<Box<Expr>, Stop>
-    ensures { Gives (λ x. view_expr x.value) result (single_of (each view_listed_expr list.items)) }
+pub fn single(list: Vec<ListedExpr>) -> Option<Box<Expr>>
+    ensures { Reads (λ x. view_expr x.value) result (single_of (each view_listed_expr list.items)) }
 {
     let mut list = list;
-    let Some(last) = list.pop() else {
-        return Err(Stop::Unexpected);
-    };
+    let last = list.pop()?;
     if !list.is_empty() {
-        return Err(Stop::Unexpected);
+        return None;
     }
     let (expr, comma) = last.into_parts();
     if comma.is_some() {
-        return Err(Stop::Unexpected);
+        return None;
     }
-    Ok(expr)
+    Some(expr)
 }
 
 /// The token of a name.
-pub fn name_of(expr: Box<Expr>) -> Result<Token, Stop>
-    ensures { Gives one result (name_token (view_expr expr.value)) }
+pub fn name_of(expr: Box<Expr>) -> Option<Token>
+    ensures { Reads one result (name_token (view_expr expr.value)) }
 {
     token_of_name(&expr)
 }
 
 /// The token of a name.
 #[tactic(auto, using(go_grammar::proofs::Views::view_expr_name))]
-fn token_of_name(expr: &Expr) -> Result<Token, Stop>
-    ensures { Gives one result (name_token (view_expr expr.now)) }
+fn token_of_name(expr: &Expr) -> Option<Token>
+    ensures { Reads one result (name_token (view_expr expr.now)) }
 {
     match expr {
-        Expr::Name(name) => Ok(*name),
-        _ => Err(Stop::Unexpected),
+        Expr::Name(name) => Some(*name),
+        _ => None,
     }
 }
 
 /// An operand and what follows it, as against one with operators.
-pub fn primary_of(expr: Box<Expr>) -> Result<Box<Expr>, Stop>
-    ensures { Gives (λ x. view_expr x.value) result (stmts.primary_of (view_expr expr.value)) }
+pub fn primary_of(expr: Box<Expr>) -> Option<Box<Expr>>
+    ensures { Reads (λ x. view_expr x.value) result (stmts.primary_of (view_expr expr.value)) }
 {
     if is_primary(&expr) {
-        return Ok(expr);
+        return Some(expr);
     }
-    Err(Stop::Unexpected)
+    None
 }
 
 /// Whether this is no operator with its operands.
@@ -263,7 +263,9 @@ pub fn begins_with_braces(tokens: &[Token]) -> bool
 pub fn int_literal(alloc: Global, tokens: &[Token]) -> Result<(Box<Expr>, &[Token]), Stop>
     ensures { Gives (λ x. (view_expr x.0.value, x.1.now)) result (node_in forms.IntForm (word_in kinds.Int) tokens.now) }
 {
-    let (token, rest) = skip(tokens, Kind::Int)?;
+    let Some((token, rest)) = skip(tokens, Kind::Int) else {
+        return Err(Stop::Unexpected);
+    };
     Ok((boxed(alloc, Expr::Int(token))?, rest))
 }
 
@@ -272,7 +274,9 @@ pub fn int_literal(alloc: Global, tokens: &[Token]) -> Result<(Box<Expr>, &[Toke
 pub fn rune_literal(alloc: Global, tokens: &[Token]) -> Result<(Box<Expr>, &[Token]), Stop>
     ensures { Gives (λ x. (view_expr x.0.value, x.1.now)) result (node_in forms.RuneForm (word_in kinds.Rune) tokens.now) }
 {
-    let (token, rest) = skip(tokens, Kind::Rune)?;
+    let Some((token, rest)) = skip(tokens, Kind::Rune) else {
+        return Err(Stop::Unexpected);
+    };
     Ok((boxed(alloc, Expr::Rune(token))?, rest))
 }
 
@@ -281,7 +285,9 @@ pub fn rune_literal(alloc: Global, tokens: &[Token]) -> Result<(Box<Expr>, &[Tok
 pub fn text_literal(alloc: Global, tokens: &[Token]) -> Result<(Box<Expr>, &[Token]), Stop>
     ensures { Gives (λ x. (view_expr x.0.value, x.1.now)) result (node_in forms.TextForm (word_in kinds.Text) tokens.now) }
 {
-    let (token, rest) = skip(tokens, Kind::Text)?;
+    let Some((token, rest)) = skip(tokens, Kind::Text) else {
+        return Err(Stop::Unexpected);
+    };
     Ok((boxed(alloc, Expr::Text(token))?, rest))
 }
 
@@ -290,13 +296,15 @@ pub fn text_literal(alloc: Global, tokens: &[Token]) -> Result<(Box<Expr>, &[Tok
 pub fn name(alloc: Global, tokens: &[Token]) -> Result<(Box<Expr>, &[Token]), Stop>
     ensures { Gives (λ x. (view_expr x.0.value, x.1.now)) result (node_in forms.NameForm (word_in kinds.Name) tokens.now) }
 {
-    let (token, rest) = skip(tokens, Kind::Name)?;
+    let Some((token, rest)) = skip(tokens, Kind::Name) else {
+        return Err(Stop::Unexpected);
+    };
     Ok((boxed(alloc, Expr::Name(token))?, rest))
 }
 
 /// A star, and the tokens behind it.
 pub fn star(tokens: &[Token]) -> Option<(Token, &[Token])>
-    ensures { GivesOption (λ x. (x.0, x.1.now)) result (star_at tokens.now) }
+    ensures { Reads (λ x. (x.0, x.1.now)) result (star_at tokens.now) }
 {
     match tokens {
         [first, rest @ ..] if first.kind == Kind::Star => Some((*first, rest)),
@@ -306,7 +314,7 @@ pub fn star(tokens: &[Token]) -> Option<(Token, &[Token])>
 
 /// A sign, and the tokens behind it. Before `chan`, `<-` is none.
 pub fn sign(tokens: &[Token]) -> Option<(Token, &[Token])>
-    ensures { GivesOption (λ x. (x.0, x.1.now)) result (sign_at tokens.now) }
+    ensures { Reads (λ x. (x.0, x.1.now)) result (sign_at tokens.now) }
 {
     match tokens {
         [first, rest @ ..] if begins_with_sign(tokens) => Some((*first, rest)),

@@ -130,7 +130,9 @@ pub fn type_spec_of(spec: NamedForm, semicolon: Option<Token>) -> TypeSpec
 pub fn named_type(alloc: Global, tokens: &[Token]) -> Result<(Box<TypeExpr>, &[Token]), Stop>
     ensures { Gives (λ x. (view_type_expr x.0.value, x.1.now)) result (type_name_in tokens.now) }
 {
-    let (name, rest) = type_name(tokens)?;
+    let Some((name, rest)) = type_name(tokens) else {
+        return Err(Stop::Unexpected);
+    };
     Ok((boxed(alloc, TypeExpr::Name(name))?, rest))
 }
 

@@ -5,13 +5,13 @@ ghost use Rattle.go_grammar.specs.Forests.{node, empty};
 ghost use Rattle.go_grammar.specs.Forests.{IfForm, SwitchForm, TypeSwitchForm};
 ghost use Rattle.go_grammar.specs.StmtReading as readings;
 ghost use Rattle.go_grammar.specs.View.{view_block, view_if_arm, view_label, view_listed_expr, ◌⊕◌, one, each, if_some};
-ghost use Rattle.go_fragments.specs.Giving.{Gives};
+ghost use Rattle.go_fragments.specs.Giving.{Gives, Reads};
 ghost use Rattle.go_fragments.specs.Statements.{boxed_expr, boxed_stmt, view_simple, view_init, view_guard, view_suffix, view_body, label_in, labels_in, suffix_in, branch_in, begins_branch, begins_decl_at, IsSplit};
 
 use crate::boxes::boxed;
 use crate::operands::{name_of, primary_of, single};
 use crate::stop::Stop;
-use crate::tokens::{begins_with, begins_with_both, optional, skip};
+use crate::tokens::{begins_with, begins_with_both, next_if, optional, skip};
 use go_ast::{Kind, Token};
 use go_syntax::{
     Binding, Block, CaseClause, Expr, IfArm, Label, ListedExpr, Stmt, SwitchStmt, TypeSwitchStmt,
@@ -92,12 +92,12 @@ pub fn ends_statements(tokens: &[Token]) -> bool
 }
 
 /// One label. Go specification, "Labeled statements".
-fn label(tokens: &[Token]) -> Result<(Label, &[Token]), Stop>
-    ensures { Gives (λ x. (view_label x.0, x.1.now)) result (label_in tokens.now) }
+fn label(tokens: &[Token]) -> Option<(Label, &[Token])>
+    ensures { Reads (λ x. (view_label x.0, x.1.now)) result (label_in tokens.now) }
 {
     let (name, rest) = skip(tokens, Kind::Name)?;
     let (colon, rest) = skip(rest, Kind::Colon)?;
-    Ok((Label { name, colon }, rest))
+    Some((Label { name, colon }, rest))
 }
 
 /// One label or more.
@@ -106,13 +106,17 @@ pub fn labels(alloc: Global, tokens: &[Token]) -> Result<(Vec<Label>, &[Token]),
     ensures { Gives (λ x. (each view_label x.0.items, x.1.now)) result (labels_in tokens.now) }
 {
     let mut labels = Vec::new(alloc);
-    let (first, mut rest) = label(tokens)?;
+    let Some((first, mut rest)) = label(tokens) else {
+        return Err(Stop::Unexpected);
+    };
     labels.push(first)?;
     for _ in 0..rest.len() {
         if !begins_with_both(rest, Kind::Name, Kind::Colon) {
             return Ok((labels, rest));
         }
-        let (next, after) = label(rest)?;
+        let Some((next, after)) = label(rest) else {
+            return Err(Stop::Unexpected);
+        };
         labels.push(next)?;
         rest = after;
     }
@@ -142,17 +146,17 @@ pub fn begins_with_branch(tokens: &[Token]) -> bool
 pub fn branch(alloc: Global, tokens: &[Token]) -> Result<(Box<Stmt>, &[Token]), Stop>
     ensures { Gives (λ x. (boxed_stmt x.0, x.1.now)) result (branch_in tokens.now) }
 {
-    if begins_with(tokens, Kind::BreakWord) {
-        let (word, rest) = skip(tokens, Kind::BreakWord)?;
+    if let Some((word, rest)) = next_if(tokens, Kind::BreakWord) {
         let (label, rest) = optional(rest, Kind::Name);
         return Ok((boxed(alloc, Stmt::Break { word, label })?, rest));
     }
-    if begins_with(tokens, Kind::ContinueWord) {
-        let (word, rest) = skip(tokens, Kind::ContinueWord)?;
+    if let Some((word, rest)) = next_if(tokens, Kind::ContinueWord) {
         let (label, rest) = optional(rest, Kind::Name);
         return Ok((boxed(alloc, Stmt::Continue { word, label })?, rest));
     }
-    let (word, rest) = skip(tokens, Kind::FallthroughWord)?;
+    let Some((word, rest)) = skip(tokens, Kind::FallthroughWord) else {
+        return Err(Stop::Unexpected);
+    };
     Ok((boxed(alloc, Stmt::Fallthrough(word))?, rest))
 }
 
@@ -209,29 +213,29 @@ pub fn optional_stmt_of(alloc: Global, simple: Option<Simple>) -> Result<Option<
 }
 
 /// A condition that was read as a statement.
-pub fn condition_of(simple: Option<Simple>) -> Result<Box<Expr>, Stop>
-    ensures { Gives boxed_expr result (readings.expr_of (if_some view_simple simple)) }
+pub fn condition_of(simple: Option<Simple>) -> Option<Box<Expr>>
+    ensures { Reads boxed_expr result (readings.expr_of (if_some view_simple simple)) }
 {
     match simple {
-        Some(Simple::Expr(expr)) => Ok(expr),
-        _ => Err(Stop::Unexpected),
+        Some(Simple::Expr(expr)) => Some(expr),
+        _ => None,
     }
 }
 
 /// A tag that was read as a statement, where there is one.
-pub fn tag_of(simple: Option<Simple>) -> Result<Option<Box<Expr>>, Stop>
-    ensures { Gives (λ x. if_some boxed_expr x) result (readings.tag_of (if_some view_simple simple)) }
+pub fn tag_of(simple: Option<Simple>) -> Option<Option<Box<Expr>>>
+    ensures { Reads (λ x. if_some boxed_expr x) result (readings.tag_of (if_some view_simple simple)) }
 {
     match simple {
-        Some(Simple::Expr(expr)) => Ok(Some(expr)),
-        Some(_) => Err(Stop::Unexpected),
-        None => Ok(None),
+        Some(Simple::Expr(expr)) => Some(Some(expr)),
+        Some(_) => None,
+        None => Some(None),
     }
 }
 
 /// `.(type)`
-pub fn guard_suffix(tokens: &[Token]) -> Result<(GuardSuffix, &[Token]), Stop>
-    ensures { Gives (λ x. (view_suffix x.0, x.1.now)) result (suffix_in tokens.now) }
+pub fn guard_suffix(tokens: &[Token]) -> Option<(GuardSuffix, &[Token])>
+    ensures { Reads (λ x. (view_suffix x.0, x.1.now)) result (suffix_in tokens.now) }
 {
     let (dot, rest) = skip(tokens, Kind::Dot)?;
     let (open_paren, rest) = skip(rest, Kind::OpenParen)?;
@@ -243,18 +247,18 @@ pub fn guard_suffix(tokens: &[Token]) -> Result<(GuardSuffix, &[Token]), Stop>
         type_word,
         close_paren,
     };
-    Ok((suffix, rest))
+    Some((suffix, rest))
 }
 
 /// The front of a guard that was read as a statement.
-pub fn guard_of(simple: Option<Simple>) -> Result<Guard, Stop>
-    ensures { Gives view_guard result (readings.guard_of (if_some view_simple simple)) }
+pub fn guard_of(simple: Option<Simple>) -> Option<Guard>
+    ensures { Reads view_guard result (readings.guard_of (if_some view_simple simple)) }
 {
     match simple {
         Some(Simple::Expr(expr)) => {
             let operand = primary_of(expr)?;
             let binding = None;
-            Ok(Guard { binding, operand })
+            Some(Guard { binding, operand })
         }
         Some(
             Simple::Define {
@@ -263,19 +267,19 @@ pub fn guard_of(simple: Option<Simple>) -> Result<Guard, Stop>
                 values,
             },
         ) => bound_of(targets, operator, values),
-        _ => Err(Stop::Unexpected),
+        _ => None,
     }
 }
 
 /// The front of a guard with a name that is bound.
 #[tactic(auto, using(crate::proofs::Guards::bounds))]
-fn bound_of(targets: Vec<ListedExpr>, define: Token, values: Vec<ListedExpr>) -> Result<Guard, Stop>
-    ensures { Gives view_guard result (readings.bound_of (each view_listed_expr targets.items ⊕ one define ⊕ each view_listed_expr values.items)) }
+fn bound_of(targets: Vec<ListedExpr>, define: Token, values: Vec<ListedExpr>) -> Option<Guard>
+    ensures { Reads view_guard result (readings.bound_of (each view_listed_expr targets.items ⊕ one define ⊕ each view_listed_expr values.items)) }
 {
     let name = name_of(single(targets)?)?;
     let operand = primary_of(single(values)?)?;
     let binding = Some(Binding { name, define });
-    Ok(Guard { binding, operand })
+    Some(Guard { binding, operand })
 }
 
 /// An `if` without a last `else`.

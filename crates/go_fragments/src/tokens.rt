@@ -12,7 +12,7 @@ ghost use Rattle.go_grammar.specs.TypeReading.{begins_bare, optional_in, separat
 ghost use Rattle.go_grammar.specs.ExprReading.{operator_at};
 ghost use Rattle.go_grammar.specs.StmtReading.{begins_range, is_range_assign};
 ghost use Rattle.go_grammar.specs.View.{one, token_if, each, view_listed_name, view_named};
-ghost use Rattle.go_fragments.specs.Giving.{Gives, GivesOption};
+ghost use Rattle.go_fragments.specs.Giving.{Gives, Reads};
 ghost use Rattle.go_fragments.specs.Words.{maybe_in, line_end_in, comma_in, names_in, begins_sign};
 
 use crate::stop::Stop;
@@ -41,12 +41,31 @@ pub fn begins_with_both(tokens: &[Token], kind: Kind, second_kind: Kind) -> bool
 }
 
 /// A token of this kind.
-pub fn skip(tokens: &[Token], kind: Kind) -> Result<(Token, &[Token]), Stop>
-    ensures { Gives (λ x. (one x.0, x.1.now)) result (word_in kind tokens.now) }
+pub fn skip(tokens: &[Token], kind: Kind) -> Option<(Token, &[Token])>
+    ensures { Reads (λ x. (one x.0, x.1.now)) result (word_in kind tokens.now) }
+{
+    next_if(tokens, kind)
+}
+
+/// A token of this kind, where one stands here.
+pub fn next_if(tokens: &[Token], kind: Kind) -> Option<(Token, &[Token])>
+    ensures read { Reads (λ x. (one x.0, x.1.now)) result (word_in kind tokens.now) }
+    ensures found { begins kind tokens.now ≡ is_some result }
 {
     match tokens {
-        [first, rest @ ..] if first.kind == kind => Ok((*first, rest)),
-        _ => Err(Stop::Unexpected),
+        [first, rest @ ..] if first.kind == kind => Some((*first, rest)),
+        _ => None,
+    }
+}
+
+/// A semicolon, where one stands here, written or put in at the end of a line.
+pub fn semicolon_if(tokens: &[Token]) -> Option<(Token, &[Token])>
+    ensures read { Reads (λ x. (one x.0, x.1.now)) result (sign_in is_semicolon tokens.now) }
+    ensures found { begins_semicolon tokens.now ≡ is_some result }
+{
+    match tokens {
+        [first, rest @ ..] if is_semicolon(first.kind) => Some((*first, rest)),
+        _ => None,
     }
 }
 
@@ -89,13 +108,10 @@ pub fn begins_with_semicolon(tokens: &[Token]) -> bool
 }
 
 /// A semicolon, written or put in at the end of a line.
-pub fn semicolon(tokens: &[Token]) -> Result<(Token, &[Token]), Stop>
-    ensures { Gives (λ x. (one x.0, x.1.now)) result (sign_in is_semicolon tokens.now) }
+pub fn semicolon(tokens: &[Token]) -> Option<(Token, &[Token])>
+    ensures { Reads (λ x. (one x.0, x.1.now)) result (sign_in is_semicolon tokens.now) }
 {
-    match tokens {
-        [first, rest @ ..] if is_semicolon(first.kind) => Ok((*first, rest)),
-        _ => Err(Stop::Unexpected),
-    }
+    semicolon_if(tokens)
 }
 
 /// Whether a statement ends here: before a semicolon or a closing brace.
@@ -106,37 +122,37 @@ pub fn ends_statement(tokens: &[Token]) -> bool
 }
 
 /// The semicolon behind a line, which may be left out before the end.
-pub fn line_end(tokens: &[Token], end: Kind) -> Result<(Option<Token>, &[Token]), Stop>
-    ensures { Gives (λ x. (token_if x.0, x.1.now)) result (line_end_in end tokens.now) }
+pub fn line_end(tokens: &[Token], end: Kind) -> Option<(Option<Token>, &[Token])>
+    ensures { Reads (λ x. (token_if x.0, x.1.now)) result (line_end_in end tokens.now) }
 {
     match tokens {
-        [] => Ok((None, tokens)),
+        [] => Some((None, tokens)),
         [first, rest @ ..] => {
             if is_semicolon(first.kind) {
-                Ok((Some(*first), rest))
+                Some((Some(*first), rest))
             } else if first.kind == end {
-                Ok((None, tokens))
+                Some((None, tokens))
             } else {
-                Err(Stop::Unexpected)
+                None
             }
         }
     }
 }
 
 /// The comma behind an item, which may be left out before the end.
-pub fn separator(tokens: &[Token], end: Kind) -> Result<(Option<Token>, &[Token]), Stop>
-    ensures same { Gives (λ x. (x.0, x.1.now)) result (separator_in end tokens.now) }
-    ensures read { Gives (λ x. (token_if x.0, x.1.now)) result (comma_in end tokens.now) }
+pub fn separator(tokens: &[Token], end: Kind) -> Option<(Option<Token>, &[Token])>
+    ensures same { Reads (λ x. (x.0, x.1.now)) result (separator_in end tokens.now) }
+    ensures read { Reads (λ x. (token_if x.0, x.1.now)) result (comma_in end tokens.now) }
 {
     match tokens {
-        [] => Err(Stop::Unexpected),
+        [] => None,
         [first, rest @ ..] => {
             if first.kind == end {
-                Ok((None, tokens))
+                Some((None, tokens))
             } else if first.kind == Kind::Comma {
-                Ok((Some(*first), rest))
+                Some((Some(*first), rest))
             } else {
-                Err(Stop::Unexpected)
+                None
             }
         }
     }
@@ -155,13 +171,17 @@ pub fn names(alloc: Global, tokens: &[Token]) -> Result<(Vec<ListedName>, &[Toke
     ensures { Gives (λ x. (each view_listed_name x.0.items, x.1.now)) result (names_in tokens.now) }
 {
     let mut names = Vec::with_capacity(alloc, 1)?;
-    let (mut name, mut rest) = skip(tokens, Kind::Name)?;
+    let Some((mut name, mut rest)) = skip(tokens, Kind::Name) else {
+        return Err(Stop::Unexpected);
+    };
     for _ in 0..rest.len() {
         if !begins_with(rest, Kind::Comma) {
             names.push(ListedName { name, comma: None })?;
             return Ok((names, rest));
         }
-        let (comma, next, after) = next_name(rest)?;
+        let Some((comma, next, after)) = next_name(rest) else {
+            return Err(Stop::Unexpected);
+        };
         let comma = Some(comma);
         names.push(ListedName { name, comma })?;
         name = next;
@@ -172,25 +192,25 @@ pub fn names(alloc: Global, tokens: &[Token]) -> Result<(Vec<ListedName>, &[Toke
 }
 
 /// A comma, and a name behind it.
-fn next_name(tokens: &[Token]) -> Result<(Token, Token, &[Token]), Stop>
-    ensures { Gives (λ x. (append (one x.0) (one x.1), x.2.now)) result (then_in (word_in Comma) (word_in Name) tokens.now) }
+fn next_name(tokens: &[Token]) -> Option<(Token, Token, &[Token])>
+    ensures { Reads (λ x. (append (one x.0) (one x.1), x.2.now)) result (then_in (word_in Comma) (word_in Name) tokens.now) }
 {
     let (comma, rest) = skip(tokens, Kind::Comma)?;
     let (name, rest) = skip(rest, Kind::Name)?;
-    Ok((comma, name, rest))
+    Some((comma, name, rest))
 }
 
 /// The name of a type. Go specification, "Qualified identifiers".
-pub fn type_name(tokens: &[Token]) -> Result<(NamedType, &[Token]), Stop>
-    ensures { Gives (λ x. (view_named x.0, x.1.now)) result (type_name_in tokens.now) }
+pub fn type_name(tokens: &[Token]) -> Option<(NamedType, &[Token])>
+    ensures { Reads (λ x. (view_named x.0, x.1.now)) result (type_name_in tokens.now) }
 {
     let (package, rest) = skip(tokens, Kind::Name)?;
     if !begins_with(rest, Kind::Dot) {
-        return Ok((NamedType::Local(package), rest));
+        return Some((NamedType::Local(package), rest));
     }
     let (dot, rest) = skip(rest, Kind::Dot)?;
     let (name, rest) = skip(rest, Kind::Name)?;
-    Ok((NamedType::Imported { package, dot, name }, rest))
+    Some((NamedType::Imported { package, dot, name }, rest))
 }
 
 /// Whether a type begins with a token of this kind.
@@ -270,7 +290,7 @@ pub fn tighter_than(operator: Token) -> u8
 
 /// A binary operator that binds at least so tightly.
 pub fn operator(min: u8, tokens: &[Token]) -> Option<(Token, &[Token])>
-    ensures { GivesOption (λ x. (x.0, x.1.now)) result (operator_at min tokens.now) }
+    ensures { Reads (λ x. (x.0, x.1.now)) result (operator_at min tokens.now) }
 {
     match tokens {
         [first, rest @ ..] if 0 < precedence(first.kind) && min <= precedence(first.kind) => {
@@ -332,7 +352,7 @@ fn is_assign(kind: Kind) -> bool
 
 /// The operator of an assignment.
 pub fn assignment(tokens: &[Token]) -> Option<(Token, &[Token])>
-    ensures read { GivesOption (λ x. (one x.0, x.1.now)) result (sign_in sorts.is_assign tokens.now) }
+    ensures read { Reads (λ x. (one x.0, x.1.now)) result (sign_in sorts.is_assign tokens.now) }
     ensures found { is_next sorts.is_assign tokens.now ≡ is_some result }
 {
     match tokens {
@@ -356,7 +376,7 @@ pub fn range_assignment(tokens: &[Token]) -> Option<(Token, &[Token])>
 
 /// `++` or `--`.
 pub fn step(tokens: &[Token]) -> Option<(Token, &[Token])>
-    ensures read { GivesOption (λ x. (one x.0, x.1.now)) result (sign_in is_step tokens.now) }
+    ensures read { Reads (λ x. (one x.0, x.1.now)) result (sign_in is_step tokens.now) }
     ensures found { is_next is_step tokens.now ≡ is_some result }
 {
     match tokens {

@@ -4,7 +4,7 @@ ghost use Rattle.std.specs.Prelude.{◌≡◌, ◌-◌, length, true, IfOk, Ok, 
 ghost use Rattle.go_grammar.specs.FileReading.{parsers};
 ghost use Rattle.go_grammar.specs.PartReading.{file_by_parts};
 ghost use Rattle.go_grammar.specs.View.{view_file, view_import, view_import_spec, view_line, one, token_if, each, ◌⊕◌};
-ghost use Rattle.go_fragments.specs.Giving.{Gives};
+ghost use Rattle.go_fragments.specs.Giving.{Gives, Reads};
 ghost use Rattle.go_syntax.specs.Reach.{reach_index};
 ghost use Rattle.tree_roles.specs.Roles.{roles_of_file};
 ghost use Rattle.go_parse.specs.FileParts.{GivesParts, view_clause, clause_in, path_in, import_line_in, import_lines_in, import_alone_in, import_in, imports_in, decl_line_in, decls_in};
@@ -14,7 +14,7 @@ ghost use Rattle.parse_answer.specs.Refusal.{DecidesReach, IsParsed, IsWithin};
 use crate::reach::too_deep;
 use go_ast::{Kind, Token, Tokens};
 use go_fragments::stop::Stop;
-use go_fragments::tokens::{begins_with, line_end, optional, semicolon, skip};
+use go_fragments::tokens::{begins_with, line_end, next_if, optional, semicolon, skip};
 use go_readers::{decl, func_decl};
 use go_syntax::{Decl, DeclLine, FileTree, ImportDecl, ImportSpec};
 use parse_answer::ParseError;
@@ -30,8 +30,8 @@ struct PackageClause {
 }
 
 /// Go specification, "Package clause".
-fn package_clause(tokens: &[Token]) -> Result<(PackageClause, &[Token]), Stop>
-    ensures { Gives (λ x. (view_clause x.0, x.1.now)) result (clause_in tokens.now) }
+fn package_clause(tokens: &[Token]) -> Option<(PackageClause, &[Token])>
+    ensures { Reads (λ x. (view_clause x.0, x.1.now)) result (clause_in tokens.now) }
 {
     let (word, rest) = skip(tokens, Kind::PackageWord)?;
     let (name, rest) = skip(rest, Kind::Name)?;
@@ -41,21 +41,21 @@ fn package_clause(tokens: &[Token]) -> Result<(PackageClause, &[Token]), Stop>
         name,
         semicolon,
     };
-    Ok((clause, rest))
+    Some((clause, rest))
 }
 
 /// The path of an import, with a name where it has one.
-fn import_path(tokens: &[Token]) -> Result<(Option<Token>, Token, &[Token]), Stop>
-    ensures { Gives (λ x. (token_if x.0 ⊕ one x.1, x.2.now)) result (path_in tokens.now) }
+fn import_path(tokens: &[Token]) -> Option<(Option<Token>, Token, &[Token])>
+    ensures { Reads (λ x. (token_if x.0 ⊕ one x.1, x.2.now)) result (path_in tokens.now) }
 {
     let (name, rest) = optional(tokens, Kind::Name);
     let (path, rest) = skip(rest, Kind::Text)?;
-    Ok((name, path, rest))
+    Some((name, path, rest))
 }
 
 /// An import in parentheses, and the semicolon behind it.
-fn import_line(tokens: &[Token]) -> Result<(ImportSpec, &[Token]), Stop>
-    ensures { Gives (λ x. (view_import_spec x.0, x.1.now)) result (import_line_in tokens.now) }
+fn import_line(tokens: &[Token]) -> Option<(ImportSpec, &[Token])>
+    ensures { Reads (λ x. (view_import_spec x.0, x.1.now)) result (import_line_in tokens.now) }
 {
     let (name, path, rest) = import_path(tokens)?;
     let (semicolon, rest) = line_end(rest, Kind::CloseParen)?;
@@ -64,7 +64,7 @@ fn import_line(tokens: &[Token]) -> Result<(ImportSpec, &[Token]), Stop>
         path,
         semicolon,
     };
-    Ok((spec, rest))
+    Some((spec, rest))
 }
 
 /// Imports up to a closing parenthesis.
@@ -77,7 +77,9 @@ fn import_lines(alloc: Global, tokens: &[Token]) -> Result<(Vec<ImportSpec>, &[T
         if begins_with(rest, Kind::CloseParen) {
             return Ok((specs, rest));
         }
-        let (spec, after) = import_line(rest)?;
+        let Some((spec, after)) = import_line(rest) else {
+            return Err(Stop::Unexpected);
+        };
         specs.push(spec)?;
         rest = after;
     }
@@ -88,7 +90,9 @@ fn import_lines(alloc: Global, tokens: &[Token]) -> Result<(Vec<ImportSpec>, &[T
 fn import_alone(alloc: Global, tokens: &[Token]) -> Result<(Vec<ImportSpec>, &[Token]), Stop>
     ensures { Gives (λ x. (each view_import_spec x.0.items, x.1.now)) result (import_alone_in tokens.now) }
 {
-    let (name, path, rest) = import_path(tokens)?;
+    let Some((name, path, rest)) = import_path(tokens) else {
+        return Err(Stop::Unexpected);
+    };
     let mut specs = Vec::new(alloc);
     specs.push(ImportSpec {
         name,
@@ -102,12 +106,17 @@ fn import_alone(alloc: Global, tokens: &[Token]) -> Result<(Vec<ImportSpec>, &[T
 fn import_decl(alloc: Global, tokens: &[Token]) -> Result<(ImportDecl, &[Token]), Stop>
     ensures { Gives (λ x. (view_import x.0, x.1.now)) result (import_in tokens.now) }
 {
-    let (word, rest) = skip(tokens, Kind::ImportWord)?;
-    if begins_with(rest, Kind::OpenParen) {
-        let (open, rest) = skip(rest, Kind::OpenParen)?;
+    let Some((word, rest)) = skip(tokens, Kind::ImportWord) else {
+        return Err(Stop::Unexpected);
+    };
+    if let Some((open, rest)) = next_if(rest, Kind::OpenParen) {
         let (specs, rest) = import_lines(alloc, rest)?;
-        let (close, rest) = skip(rest, Kind::CloseParen)?;
-        let (semicolon, rest) = semicolon(rest)?;
+        let Some((close, rest)) = skip(rest, Kind::CloseParen) else {
+            return Err(Stop::Unexpected);
+        };
+        let Some((semicolon, rest)) = semicolon(rest) else {
+            return Err(Stop::Unexpected);
+        };
         let import = ImportDecl {
             word,
             open: Some(open),
@@ -118,7 +127,9 @@ fn import_decl(alloc: Global, tokens: &[Token]) -> Result<(ImportDecl, &[Token])
         return Ok((import, rest));
     }
     let (specs, rest) = import_alone(alloc, rest)?;
-    let (semicolon, rest) = semicolon(rest)?;
+    let Some((semicolon, rest)) = semicolon(rest) else {
+        return Err(Stop::Unexpected);
+    };
     let import = ImportDecl {
         word,
         open: None,
@@ -135,12 +146,16 @@ fn decl_line(alloc: Global, depth: usize, tokens: &[Token]) -> Result<(DeclLine,
 {
     if begins_with(tokens, Kind::FuncWord) {
         let (func, rest) = func_decl(alloc, depth, tokens)?;
-        let (semicolon, rest) = semicolon(rest)?;
+        let Some((semicolon, rest)) = semicolon(rest) else {
+            return Err(Stop::Unexpected);
+        };
         let decl = Decl::Func(Box::new(alloc, func)?);
         return Ok((DeclLine { decl, semicolon }, rest));
     }
     let (decl, rest) = decl(alloc, depth, tokens)?;
-    let (semicolon, rest) = semicolon(rest)?;
+    let Some((semicolon, rest)) = semicolon(rest) else {
+        return Err(Stop::Unexpected);
+    };
     Ok((DeclLine { decl, semicolon }, rest))
 }
 
@@ -212,7 +227,7 @@ fn file(alloc: Global, tokens: &[Token]) -> Result<FileTree, ParseError>
     ensures { GivesParts (length tokens.now) (λ x. view_file x) result (file_by_parts (parsers (length tokens.now)) tokens.now) }
 {
     match package_clause(tokens) {
-        Ok((clause, rest)) => {
+        Some((clause, rest)) => {
             let (imports, rest) = imports(alloc, tokens, rest)?;
             let decls = decls(alloc, tokens, rest)?;
             Ok(FileTree {
@@ -223,7 +238,7 @@ fn file(alloc: Global, tokens: &[Token]) -> Result<FileTree, ParseError>
                 decls,
             })
         }
-        Err(stop) => Err(refusal(stop, 0)),
+        None => Err(ParseError::Unexpected { index: 0 }),
     }
 }
 

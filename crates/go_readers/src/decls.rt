@@ -23,7 +23,9 @@ use go_fragments::parts::{
     type_spec_of, value_spec_of,
 };
 use go_fragments::stop::Stop;
-use go_fragments::tokens::{begins_with, begins_with_type, line_end, names, optional, skip};
+use go_fragments::tokens::{
+    begins_with, begins_with_type, line_end, names, next_if, optional, skip,
+};
 use go_syntax::{Block, Decl, FuncDecl, ListedExpr, Params, TypeSpec, ValueSpec};
 use std::alloc::Global;
 
@@ -49,7 +51,9 @@ pub fn decl(alloc: Global, depth: usize, tokens: &[Token]) -> Result<(Decl, &[To
 fn const_decl(alloc: Global, depth: usize, tokens: &[Token]) -> Result<(Decl, &[Token]), Stop>
     ensures { Gives (λ x. (view_decl x.0, x.1.now)) result (declaration_in (parsers depth) forms.ConstForm kinds.ConstWord sorts.ConstSpec tokens.now) }
 {
-    let (word, rest) = skip(tokens, Kind::ConstWord)?;
+    let Some((word, rest)) = skip(tokens, Kind::ConstWord) else {
+        return Err(Stop::Unexpected);
+    };
     let (group, rest) = value_specs(alloc, depth, true, rest)?;
     let decl = Decl::Const {
         word,
@@ -66,7 +70,9 @@ fn const_decl(alloc: Global, depth: usize, tokens: &[Token]) -> Result<(Decl, &[
 fn type_decl(alloc: Global, depth: usize, tokens: &[Token]) -> Result<(Decl, &[Token]), Stop>
     ensures { Gives (λ x. (view_decl x.0, x.1.now)) result (declaration_in (parsers depth) forms.TypeDeclForm kinds.TypeWord sorts.TypeSpec tokens.now) }
 {
-    let (word, rest) = skip(tokens, Kind::TypeWord)?;
+    let Some((word, rest)) = skip(tokens, Kind::TypeWord) else {
+        return Err(Stop::Unexpected);
+    };
     let (group, rest) = type_specs(alloc, depth, rest)?;
     let decl = Decl::TypeDecl {
         word,
@@ -83,7 +89,9 @@ fn type_decl(alloc: Global, depth: usize, tokens: &[Token]) -> Result<(Decl, &[T
 fn var_decl(alloc: Global, depth: usize, tokens: &[Token]) -> Result<(Decl, &[Token]), Stop>
     ensures { Gives (λ x. (view_decl x.0, x.1.now)) result (declaration_in (parsers depth) forms.VarForm kinds.VarWord sorts.VarSpec tokens.now) }
 {
-    let (word, rest) = skip(tokens, Kind::VarWord)?;
+    let Some((word, rest)) = skip(tokens, Kind::VarWord) else {
+        return Err(Stop::Unexpected);
+    };
     let (group, rest) = value_specs(alloc, depth, false, rest)?;
     let decl = Decl::Var {
         word,
@@ -129,9 +137,13 @@ fn value_group(
 ) -> Result<(Group<ValueSpec>, &[Token]), Stop>
     ensures { Gives (λ x. (view_group view_value_spec x.0.opening x.0.specs.items x.0.closing, x.1.now)) result (parens_in (parsers depth) (value_sort constant) tokens.now) }
 {
-    let (opening, rest) = skip(tokens, Kind::OpenParen)?;
+    let Some((opening, rest)) = skip(tokens, Kind::OpenParen) else {
+        return Err(Stop::Unexpected);
+    };
     let (specs, rest) = value_lines(alloc, depth, constant, rest)?;
-    let (closing, rest) = skip(rest, Kind::CloseParen)?;
+    let Some((closing, rest)) = skip(rest, Kind::CloseParen) else {
+        return Err(Stop::Unexpected);
+    };
     let group = Group {
         opening: Some(opening),
         specs,
@@ -186,9 +198,13 @@ fn type_group(
 ) -> Result<(Group<TypeSpec>, &[Token]), Stop>
     ensures { Gives (λ x. (view_group view_type_spec x.0.opening x.0.specs.items x.0.closing, x.1.now)) result (parens_in (parsers depth) sorts.TypeSpec tokens.now) }
 {
-    let (opening, rest) = skip(tokens, Kind::OpenParen)?;
+    let Some((opening, rest)) = skip(tokens, Kind::OpenParen) else {
+        return Err(Stop::Unexpected);
+    };
     let (specs, rest) = type_lines(alloc, depth, rest)?;
-    let (closing, rest) = skip(rest, Kind::CloseParen)?;
+    let Some((closing, rest)) = skip(rest, Kind::CloseParen) else {
+        return Err(Stop::Unexpected);
+    };
     let group = Group {
         opening: Some(opening),
         specs,
@@ -225,9 +241,13 @@ pub fn func_decl(
 ) -> Result<(FuncDecl, &[Token]), Stop>
     ensures { Gives (λ x. (view_func_decl x.0, x.1.now)) result (func_in (parsers depth) tokens.now) }
 {
-    let (word, rest) = skip(tokens, Kind::FuncWord)?;
+    let Some((word, rest)) = skip(tokens, Kind::FuncWord) else {
+        return Err(Stop::Unexpected);
+    };
     let (receiver, rest) = optional_receiver(alloc, depth, rest)?;
-    let (name, rest) = skip(rest, Kind::Name)?;
+    let Some((name, rest)) = skip(rest, Kind::Name) else {
+        return Err(Stop::Unexpected);
+    };
     let (signature, rest) = signature(alloc, depth, rest)?;
     let (body, rest) = optional_block(alloc, depth, rest)?;
     let func = func_of(word, receiver, name, signature, body);
@@ -269,11 +289,15 @@ fn optional_receiver(
 fn receiver(alloc: Global, depth: usize, tokens: &[Token]) -> Result<(Params, &[Token]), Stop>
     ensures { Gives (λ x. (view_params x.0, x.1.now)) result (receiver_in (parsers depth) tokens.now) }
 {
-    let (open, rest) = skip(tokens, Kind::OpenParen)?;
+    let Some((open, rest)) = skip(tokens, Kind::OpenParen) else {
+        return Err(Stop::Unexpected);
+    };
     let (name, rest) = receiver_name(rest);
     let (form, rest) = type_expr(alloc, depth, rest)?;
     let (comma, rest) = optional(rest, Kind::Comma);
-    let (close, rest) = skip(rest, Kind::CloseParen)?;
+    let Some((close, rest)) = skip(rest, Kind::CloseParen) else {
+        return Err(Stop::Unexpected);
+    };
     let names = listed_names(alloc, name)?;
     let params = alone(alloc, receiver_param(names, form, comma))?;
     Ok((params_of(open, params, close), rest))
@@ -317,7 +341,9 @@ fn const_values(
         return Ok((spec, rest));
     }
     let (form, rest) = optional_type(alloc, depth, rest)?;
-    let (assign, rest) = skip(rest, Kind::Assign)?;
+    let Some((assign, rest)) = skip(rest, Kind::Assign) else {
+        return Err(Stop::Unexpected);
+    };
     let (values, rest) = expr_list(alloc, depth, Context::Plain, rest)?;
     let spec = ValueParts {
         names,
@@ -335,7 +361,9 @@ fn var_values(alloc: Global, depth: usize, tokens: &[Token]) -> Result<(ValuePar
 {
     let (names, rest) = names(alloc, tokens)?;
     if !begins_with_type(rest) {
-        let (assign, rest) = skip(rest, Kind::Assign)?;
+        let Some((assign, rest)) = skip(rest, Kind::Assign) else {
+            return Err(Stop::Unexpected);
+        };
         let (values, rest) = expr_list(alloc, depth, Context::Plain, rest)?;
         let spec = ValueParts {
             names,
@@ -365,10 +393,9 @@ fn optional_values(
 ) -> Result<(Option<Token>, Vec<ListedExpr>, &[Token]), Stop>
     ensures { Gives (λ x. (append (token_if x.0) (each view_listed_expr x.1.items), x.2.now)) result (optional_values_in (parsers depth) tokens.now) }
 {
-    if !begins_with(tokens, Kind::Assign) {
+    let Some((assign, rest)) = next_if(tokens, Kind::Assign) else {
         return Ok((None, Vec::new(alloc), tokens));
-    }
-    let (assign, rest) = skip(tokens, Kind::Assign)?;
+    };
     let (values, rest) = expr_list(alloc, depth, Context::Plain, rest)?;
     Ok((Some(assign), values, rest))
 }
@@ -378,7 +405,9 @@ fn optional_values(
 fn named_form(alloc: Global, depth: usize, tokens: &[Token]) -> Result<(NamedForm, &[Token]), Stop>
     ensures { Gives (λ x. (view_named_form x.0, x.1.now)) result (at_spec (parsers depth) sorts.TypeSpec tokens.now) }
 {
-    let (name, rest) = skip(tokens, Kind::Name)?;
+    let Some((name, rest)) = skip(tokens, Kind::Name) else {
+        return Err(Stop::Unexpected);
+    };
     let (assign, rest) = optional(rest, Kind::Assign);
     let (form, rest) = type_expr(alloc, depth, rest)?;
     let spec = NamedForm { name, assign, form };
@@ -397,7 +426,9 @@ fn value_line(
     ensures { Gives (λ x. (view_value_spec x.0, x.1.now)) result (spec_line_in (parsers depth) (value_sort constant) tokens.now) }
 {
     let (spec, rest) = values(alloc, depth, constant, tokens)?;
-    let (semicolon, rest) = line_end(rest, Kind::CloseParen)?;
+    let Some((semicolon, rest)) = line_end(rest, Kind::CloseParen) else {
+        return Err(Stop::Unexpected);
+    };
     Ok((value_spec_of(spec, semicolon), rest))
 }
 
@@ -431,7 +462,9 @@ fn type_line(alloc: Global, depth: usize, tokens: &[Token]) -> Result<(TypeSpec,
     ensures { Gives (λ x. (view_type_spec x.0, x.1.now)) result (spec_line_in (parsers depth) sorts.TypeSpec tokens.now) }
 {
     let (spec, rest) = named_form(alloc, depth, tokens)?;
-    let (semicolon, rest) = line_end(rest, Kind::CloseParen)?;
+    let Some((semicolon, rest)) = line_end(rest, Kind::CloseParen) else {
+        return Err(Stop::Unexpected);
+    };
     Ok((type_spec_of(spec, semicolon), rest))
 }
 

@@ -24,7 +24,7 @@ use go_fragments::operands::{
 };
 use go_fragments::stop::Stop;
 use go_fragments::tokens::{
-    begins_with, list_goes_on, operator, optional, separator, skip, tighter_than,
+    begins_with, list_goes_on, next_if, operator, optional, separator, skip, tighter_than,
 };
 use go_syntax::{Element, Expr, ListedExpr, TypeExpr};
 use std::alloc::Global;
@@ -191,9 +191,13 @@ fn operand(
 fn paren(alloc: Global, depth: usize, tokens: &[Token]) -> Result<(Box<Expr>, &[Token]), Stop>
     ensures { Gives (λ x. (view_expr x.0.value, x.1.now)) result (paren_in (parsers depth) tokens.now) }
 {
-    let (open, rest) = skip(tokens, Kind::OpenParen)?;
+    let Some((open, rest)) = skip(tokens, Kind::OpenParen) else {
+        return Err(Stop::Unexpected);
+    };
     let (inner, rest) = expr(alloc, depth, Context::Item, LOOSE, rest)?;
-    let (close, rest) = skip(rest, Kind::CloseParen)?;
+    let Some((close, rest)) = skip(rest, Kind::CloseParen) else {
+        return Err(Stop::Unexpected);
+    };
     let paren = Expr::Paren { open, inner, close };
     Ok((boxed(alloc, paren)?, rest))
 }
@@ -230,9 +234,15 @@ fn open_array(
 ) -> Result<(Box<TypeExpr>, &[Token]), Stop>
     ensures { Gives (λ x. (view_type_expr x.0.value, x.1.now)) result (open_array_in (parsers depth) tokens.now) }
 {
-    let (open, rest) = skip(tokens, Kind::OpenBracket)?;
-    let (ellipsis, rest) = skip(rest, Kind::Ellipsis)?;
-    let (close, rest) = skip(rest, Kind::CloseBracket)?;
+    let Some((open, rest)) = skip(tokens, Kind::OpenBracket) else {
+        return Err(Stop::Unexpected);
+    };
+    let Some((ellipsis, rest)) = skip(rest, Kind::Ellipsis) else {
+        return Err(Stop::Unexpected);
+    };
+    let Some((close, rest)) = skip(rest, Kind::CloseBracket) else {
+        return Err(Stop::Unexpected);
+    };
     let (element, rest) = type_expr(alloc, depth, rest)?;
     if !begins_with_braces(rest) {
         return Err(Stop::Unexpected);
@@ -257,7 +267,9 @@ fn function(
 ) -> Result<(Box<Expr>, &[Token]), Stop>
     ensures { Gives (λ x. (view_expr x.0.value, x.1.now)) result (function_in (parsers depth) (view_context context) tokens.now) }
 {
-    let (word, rest) = skip(tokens, Kind::FuncWord)?;
+    let Some((word, rest)) = skip(tokens, Kind::FuncWord) else {
+        return Err(Stop::Unexpected);
+    };
     let (signature, rest) = signature(alloc, depth, rest)?;
     let signature = boxed(alloc, signature)?;
     if begins_with_braces(rest) {
@@ -313,11 +325,14 @@ fn selector(
 ) -> Result<(Box<Expr>, &[Token]), Stop>
     ensures { Gives (λ x. (view_expr x.0.value, x.1.now)) result (selector_in (parsers depth) (view_expr operand.value) tokens.now) }
 {
-    let (dot, rest) = skip(tokens, Kind::Dot)?;
-    if begins_with(rest, Kind::OpenParen) {
-        let (open, rest) = skip(rest, Kind::OpenParen)?;
+    let Some((dot, rest)) = skip(tokens, Kind::Dot) else {
+        return Err(Stop::Unexpected);
+    };
+    if let Some((open, rest)) = next_if(rest, Kind::OpenParen) {
         let (form, rest) = type_expr(alloc, depth, rest)?;
-        let (close, rest) = skip(rest, Kind::CloseParen)?;
+        let Some((close, rest)) = skip(rest, Kind::CloseParen) else {
+            return Err(Stop::Unexpected);
+        };
         let assertion = Expr::Assertion {
             operand,
             dot,
@@ -327,7 +342,9 @@ fn selector(
         };
         return Ok((boxed(alloc, assertion)?, rest));
     }
-    let (name, rest) = skip(rest, Kind::Name)?;
+    let Some((name, rest)) = skip(rest, Kind::Name) else {
+        return Err(Stop::Unexpected);
+    };
     Ok((boxed(alloc, Expr::Selector { operand, dot, name })?, rest))
 }
 
@@ -342,7 +359,9 @@ fn index(
 ) -> Result<(Box<Expr>, &[Token]), Stop>
     ensures { Gives (λ x. (view_expr x.0.value, x.1.now)) result (index_in (parsers depth) (view_expr operand.value) tokens.now) }
 {
-    let (open, rest) = skip(tokens, Kind::OpenBracket)?;
+    let Some((open, rest)) = skip(tokens, Kind::OpenBracket) else {
+        return Err(Stop::Unexpected);
+    };
     if begins_with(rest, Kind::Colon) {
         return slice(alloc, depth, operand, open, None, rest);
     }
@@ -350,7 +369,9 @@ fn index(
     if begins_with(rest, Kind::Colon) {
         return slice(alloc, depth, operand, open, Some(index), rest);
     }
-    let (close, rest) = skip(rest, Kind::CloseBracket)?;
+    let Some((close, rest)) = skip(rest, Kind::CloseBracket) else {
+        return Err(Stop::Unexpected);
+    };
     let indexed = Expr::Index {
         operand,
         open,
@@ -373,9 +394,10 @@ fn slice(
 ) -> Result<(Box<Expr>, &[Token]), Stop>
     ensures { Gives (λ x. (view_expr x.0.value, x.1.now)) result (slice_in (parsers depth) (view_expr operand.value) (one bracket) (if_some (λ x. view_expr x.value) low) tokens.now) }
 {
-    let (colon, rest) = skip(tokens, Kind::Colon)?;
-    if begins_with(rest, Kind::CloseBracket) {
-        let (close, rest) = skip(rest, Kind::CloseBracket)?;
+    let Some((colon, rest)) = skip(tokens, Kind::Colon) else {
+        return Err(Stop::Unexpected);
+    };
+    if let Some((close, rest)) = next_if(rest, Kind::CloseBracket) {
         let high = None;
         let sliced = Expr::Slice {
             operand,
@@ -388,8 +410,7 @@ fn slice(
         return Ok((boxed(alloc, sliced)?, rest));
     }
     let (high, rest) = expr(alloc, depth, Context::Plain, LOOSE, rest)?;
-    if begins_with(rest, Kind::CloseBracket) {
-        let (close, rest) = skip(rest, Kind::CloseBracket)?;
+    if let Some((close, rest)) = next_if(rest, Kind::CloseBracket) {
         let high = Some(high);
         let sliced = Expr::Slice {
             operand,
@@ -401,9 +422,13 @@ fn slice(
         };
         return Ok((boxed(alloc, sliced)?, rest));
     }
-    let (second_colon, rest) = skip(rest, Kind::Colon)?;
+    let Some((second_colon, rest)) = skip(rest, Kind::Colon) else {
+        return Err(Stop::Unexpected);
+    };
     let (max, rest) = expr(alloc, depth, Context::Plain, LOOSE, rest)?;
-    let (close, rest) = skip(rest, Kind::CloseBracket)?;
+    let Some((close, rest)) = skip(rest, Kind::CloseBracket) else {
+        return Err(Stop::Unexpected);
+    };
     let sliced = Expr::FullSlice {
         operand,
         open: bracket,
@@ -428,9 +453,10 @@ fn call(
 ) -> Result<(Box<Expr>, &[Token]), Stop>
     ensures { Gives (λ x. (view_expr x.0.value, x.1.now)) result (call_in (parsers depth) (view_expr callee.value) tokens.now) }
 {
-    let (open, rest) = skip(tokens, Kind::OpenParen)?;
-    if begins_with(rest, Kind::CloseParen) {
-        let (close, rest) = skip(rest, Kind::CloseParen)?;
+    let Some((open, rest)) = skip(tokens, Kind::OpenParen) else {
+        return Err(Stop::Unexpected);
+    };
+    if let Some((close, rest)) = next_if(rest, Kind::CloseParen) {
         let call = Expr::Call {
             callee,
             open,
@@ -444,7 +470,9 @@ fn call(
     let (arguments, rest) = expr_list(alloc, depth, Context::Item, rest)?;
     let (ellipsis, rest) = optional(rest, Kind::Ellipsis);
     let (comma, rest) = optional(rest, Kind::Comma);
-    let (close, rest) = skip(rest, Kind::CloseParen)?;
+    let Some((close, rest)) = skip(rest, Kind::CloseParen) else {
+        return Err(Stop::Unexpected);
+    };
     let call = Expr::Call {
         callee,
         open,
@@ -467,9 +495,13 @@ fn literal(
 ) -> Result<(Box<Expr>, &[Token]), Stop>
     ensures { Gives (λ x. (view_expr x.0.value, x.1.now)) result (literal_in (parsers depth) (if_some (λ x. view_type_expr x.value) form) tokens.now) }
 {
-    let (open, rest) = skip(tokens, Kind::OpenBrace)?;
+    let Some((open, rest)) = skip(tokens, Kind::OpenBrace) else {
+        return Err(Stop::Unexpected);
+    };
     let (elements, rest) = elements(alloc, depth, rest)?;
-    let (close, rest) = skip(rest, Kind::CloseBrace)?;
+    let Some((close, rest)) = skip(rest, Kind::CloseBrace) else {
+        return Err(Stop::Unexpected);
+    };
     let literal = Expr::Composite {
         form,
         open,
@@ -504,10 +536,11 @@ fn element(alloc: Global, depth: usize, tokens: &[Token]) -> Result<(Element, &[
     ensures { Gives (λ x. (view_element x.0, x.1.now)) result (separated_in (element_in (parsers depth)) tokens.now) }
 {
     let (first, rest) = value(alloc, depth, tokens)?;
-    if begins_with(rest, Kind::Colon) {
-        let (colon, rest) = skip(rest, Kind::Colon)?;
+    if let Some((colon, rest)) = next_if(rest, Kind::Colon) {
         let (value, rest) = value(alloc, depth, rest)?;
-        let (comma, rest) = separator(rest, Kind::CloseBrace)?;
+        let Some((comma, rest)) = separator(rest, Kind::CloseBrace) else {
+            return Err(Stop::Unexpected);
+        };
         let element = Element {
             key: Some(first),
             colon: Some(colon),
@@ -516,7 +549,9 @@ fn element(alloc: Global, depth: usize, tokens: &[Token]) -> Result<(Element, &[
         };
         return Ok((element, rest));
     }
-    let (comma, rest) = separator(rest, Kind::CloseBrace)?;
+    let Some((comma, rest)) = separator(rest, Kind::CloseBrace) else {
+        return Err(Stop::Unexpected);
+    };
     let element = Element {
         key: None,
         colon: None,
@@ -579,7 +614,9 @@ fn next_expr(
 ) -> Result<(Token, Box<Expr>, &[Token]), Stop>
     ensures { Gives (λ x. (append (one x.0) (view_expr x.1.value), x.2.now)) result (then_in (word_in Comma) ((parsers depth).expr (view_context context) 1) tokens.now) }
 {
-    let (comma, rest) = skip(tokens, Kind::Comma)?;
+    let Some((comma, rest)) = skip(tokens, Kind::Comma) else {
+        return Err(Stop::Unexpected);
+    };
     let (next, rest) = expr(alloc, depth, context, LOOSE, rest)?;
     Ok((comma, next, rest))
 }

@@ -8,6 +8,7 @@
 
 mod decls;
 mod exprs;
+mod loops;
 mod stmts;
 mod types;
 

@@ -4,32 +4,31 @@ ghost use Rattle.std.specs.Prelude.{◌≡◌, false, IfOk};
 ghost use Rattle.go_grammar.specs.ExprReading.{block_in, context_of, is_item};
 ghost use Rattle.go_grammar.specs.FileReading.{parsers};
 ghost use Rattle.go_grammar.specs.Grammar.{Plain};
-ghost use Rattle.go_grammar.specs.StmtReading.{simple_rest_in, simple_in, optional_simple_in, header_in, switch_in, for_in, for_clauses_in, range_in, while_in, unlabeled_in, lines_in, decl_in, for_rest_in};
-ghost use Rattle.go_grammar.specs.View.{view_block, view_stmt_line, view_listed_expr, view_if_arm, view_case_clause, view_comm_clause, ◌⊕◌, one, each, if_some, token_if};
+ghost use Rattle.go_grammar.specs.StmtReading.{simple_rest_in, simple_in, optional_simple_in, header_in, switch_in, unlabeled_in, lines_in, decl_in};
+ghost use Rattle.go_grammar.specs.View.{view_block, view_stmt_line, view_listed_expr, view_if_arm, view_case_clause, view_comm_clause, each, if_some, token_if};
 ghost use Rattle.go_fragments.specs.Expressions.{view_context};
 ghost use Rattle.go_fragments.specs.Giving.{Gives};
-ghost use Rattle.go_fragments.specs.Statements.{boxed_stmt, boxed_expr, view_simple, view_header, view_body, IsSplit};
-ghost use Rattle.go_readers.specs.Statements.{statement_in, line_in, return_in, if_in, arm_in, clause_in, clauses_in, clause_list_in, comm_list_in, arms_in, else_arm_in, go_in, defer_in, compound_in, for_condition_in, comm_clause_in, select_in, IsList};
+ghost use Rattle.go_fragments.specs.Statements.{boxed_stmt, view_simple, view_header, view_body, IsSplit};
+ghost use Rattle.go_readers.specs.Statements.{statement_in, line_in, return_in, if_in, arm_in, clause_in, clauses_in, clause_list_in, comm_list_in, arms_in, else_arm_in, go_in, defer_in, compound_in, comm_clause_in, select_in, IsList};
 
 use crate::decls::decl;
 use crate::exprs::{LOOSE, expr, expr_list};
+use crate::loops::for_stmt;
 use go_ast::{Kind, Token};
 use go_fragments::boxes::boxed;
 use go_fragments::operands::{Context, begins_with_braces, single};
 use go_fragments::parts::alone;
 use go_fragments::simples::{
     HeaderParts, Init, Simple, SwitchBody, begins_with_branch, begins_with_decl, branch,
-    condition_of, ends_statements, guard_of, guard_suffix, is_comm, is_post, labels,
-    optional_stmt_of, stmt_of, tag_of, type_switch, value_switch, with_else, without_else,
+    condition_of, ends_statements, guard_of, guard_suffix, is_comm, labels, optional_stmt_of,
+    stmt_of, tag_of, type_switch, value_switch, with_else, without_else,
 };
 use go_fragments::stop::Stop;
 use go_fragments::tokens::{
     assignment, begins_with, begins_with_both, begins_with_semicolon, ends_statement, line_end,
-    range_assignment, semicolon, skip, step,
+    next_if, semicolon_if, skip, step,
 };
-use go_syntax::{
-    Block, CaseClause, CommClause, Expr, ForStmt, IfArm, ListedExpr, RangeStmt, Stmt, StmtLine,
-};
+use go_syntax::{Block, CaseClause, CommClause, IfArm, ListedExpr, Stmt, StmtLine};
 use std::alloc::Global;
 
 /// Statements in braces. Go specification, "Blocks".
@@ -42,9 +41,13 @@ pub(crate) fn block(
 ) -> Result<(Block, &[Token]), Stop>
     ensures { Gives (λ x. (view_block x.0, x.1.now)) result (block_in (parsers depth) tokens.now) }
 {
-    let (open, rest) = skip(tokens, Kind::OpenBrace)?;
+    let Some((open, rest)) = skip(tokens, Kind::OpenBrace) else {
+        return Err(Stop::Unexpected);
+    };
     let (statements, rest) = statements(alloc, depth, rest)?;
-    let (close, rest) = skip(rest, Kind::CloseBrace)?;
+    let Some((close, rest)) = skip(rest, Kind::CloseBrace) else {
+        return Err(Stop::Unexpected);
+    };
     let block = Block {
         open,
         statements,
@@ -101,8 +104,7 @@ fn statement_line(
 ) -> Result<(StmtLine, &[Token]), Stop>
     ensures { Gives (λ x. (view_stmt_line x.0, x.1.now)) result (line_in (parsers depth) tokens.now) }
 {
-    if begins_with_semicolon(tokens) {
-        let (semicolon, rest) = semicolon(tokens)?;
+    if let Some((semicolon, rest)) = semicolon_if(tokens) {
         let line = StmtLine {
             stmt: None,
             semicolon: Some(semicolon),
@@ -110,7 +112,9 @@ fn statement_line(
         return Ok((line, rest));
     }
     let (stmt, rest) = statement(alloc, depth, tokens)?;
-    let (semicolon, rest) = line_end(rest, Kind::CloseBrace)?;
+    let Some((semicolon, rest)) = line_end(rest, Kind::CloseBrace) else {
+        return Err(Stop::Unexpected);
+    };
     let line = StmtLine {
         stmt: Some(stmt),
         semicolon,
@@ -230,7 +234,9 @@ fn simple_stmt(alloc: Global, depth: usize, tokens: &[Token]) -> Result<(Box<Stm
 fn go_stmt(alloc: Global, depth: usize, tokens: &[Token]) -> Result<(Box<Stmt>, &[Token]), Stop>
     ensures { Gives (λ x. (boxed_stmt x.0, x.1.now)) result (go_in (parsers depth) tokens.now) }
 {
-    let (word, rest) = skip(tokens, Kind::GoWord)?;
+    let Some((word, rest)) = skip(tokens, Kind::GoWord) else {
+        return Err(Stop::Unexpected);
+    };
     let (call, rest) = expr(alloc, depth, Context::Plain, LOOSE, rest)?;
     Ok((boxed(alloc, Stmt::Go { word, call })?, rest))
 }
@@ -241,7 +247,9 @@ fn go_stmt(alloc: Global, depth: usize, tokens: &[Token]) -> Result<(Box<Stmt>, 
 fn defer_stmt(alloc: Global, depth: usize, tokens: &[Token]) -> Result<(Box<Stmt>, &[Token]), Stop>
     ensures { Gives (λ x. (boxed_stmt x.0, x.1.now)) result (defer_in (parsers depth) tokens.now) }
 {
-    let (word, rest) = skip(tokens, Kind::DeferWord)?;
+    let Some((word, rest)) = skip(tokens, Kind::DeferWord) else {
+        return Err(Stop::Unexpected);
+    };
     let (call, rest) = expr(alloc, depth, Context::Plain, LOOSE, rest)?;
     Ok((boxed(alloc, Stmt::Defer { word, call })?, rest))
 }
@@ -252,7 +260,9 @@ fn defer_stmt(alloc: Global, depth: usize, tokens: &[Token]) -> Result<(Box<Stmt
 fn return_stmt(alloc: Global, depth: usize, tokens: &[Token]) -> Result<(Box<Stmt>, &[Token]), Stop>
     ensures { Gives (λ x. (boxed_stmt x.0, x.1.now)) result (return_in (parsers depth) tokens.now) }
 {
-    let (word, rest) = skip(tokens, Kind::ReturnWord)?;
+    let Some((word, rest)) = skip(tokens, Kind::ReturnWord) else {
+        return Err(Stop::Unexpected);
+    };
     if ends_statement(rest) {
         let results = Vec::new(alloc);
         return Ok((boxed(alloc, Stmt::Return { word, results })?, rest));
@@ -282,7 +292,7 @@ fn simple(
 /// statements", "IncDec statements", "Assignment statements", "Short variable declarations".
 #[cycle(parser)]
 #[tactic(auto, using(crate::proofs::SimpleStmts::rests))]
-fn simple_rest(
+pub(crate) fn simple_rest(
     alloc: Global,
     depth: usize,
     context: Context,
@@ -302,8 +312,7 @@ fn simple_rest(
         };
         return Ok((simple, rest));
     }
-    if begins_with(tokens, Kind::Define) {
-        let (operator, rest) = skip(tokens, Kind::Define)?;
+    if let Some((operator, rest)) = next_if(tokens, Kind::Define) {
         let (values, rest) = expr_list(alloc, depth, context, rest)?;
         let simple = Simple::Define {
             targets,
@@ -312,10 +321,11 @@ fn simple_rest(
         };
         return Ok((simple, rest));
     }
-    let first = single(targets)?;
-    if begins_with(tokens, Kind::Arrow) {
+    let Some(first) = single(targets) else {
+        return Err(Stop::Unexpected);
+    };
+    if let Some((arrow, rest)) = next_if(tokens, Kind::Arrow) {
         let channel = first;
-        let (arrow, rest) = skip(tokens, Kind::Arrow)?;
         let (value, rest) = expr(alloc, depth, context, LOOSE, rest)?;
         let simple = Simple::Send {
             channel,
@@ -333,7 +343,7 @@ fn simple_rest(
 
 /// A simple statement of a header, or nothing before a semicolon or a brace.
 #[cycle(parser)]
-fn optional_simple(
+pub(crate) fn optional_simple(
     alloc: Global,
     depth: usize,
     tokens: &[Token],
@@ -353,14 +363,13 @@ fn header(alloc: Global, depth: usize, tokens: &[Token]) -> Result<(HeaderParts,
     ensures { Gives (λ x. (view_header x.0, x.1.now)) result (header_in (parsers depth) tokens.now) }
 {
     let (first, rest) = optional_simple(alloc, depth, tokens)?;
-    if !begins_with_semicolon(rest) {
+    let Some((semicolon, rest)) = semicolon_if(rest) else {
         let init = Init {
             stmt: None,
             semicolon: None,
         };
         return Ok((HeaderParts { init, last: first }, rest));
-    }
-    let (semicolon, rest) = semicolon(rest)?;
+    };
     let (last, rest) = optional_simple(alloc, depth, rest)?;
     let init = Init {
         stmt: optional_stmt_of(alloc, first)?,
@@ -376,10 +385,9 @@ fn if_stmt(alloc: Global, depth: usize, tokens: &[Token]) -> Result<(Box<Stmt>, 
     ensures { Gives (λ x. (boxed_stmt x.0, x.1.now)) result (if_in (parsers depth) tokens.now) }
 {
     let (arms, rest) = if_arms(alloc, depth, tokens)?;
-    if !begins_with(rest, Kind::ElseWord) {
+    let Some((else_word, rest)) = next_if(rest, Kind::ElseWord) else {
         return Ok((without_else(alloc, arms)?, rest));
-    }
-    let (else_word, rest) = skip(rest, Kind::ElseWord)?;
+    };
     let (otherwise, rest) = block(alloc, depth, rest)?;
     Ok((with_else(alloc, arms, else_word, otherwise)?, rest))
 }
@@ -409,7 +417,9 @@ fn if_arms(alloc: Global, depth: usize, tokens: &[Token]) -> Result<(Vec<IfArm>,
 fn else_arm(alloc: Global, depth: usize, tokens: &[Token]) -> Result<(IfArm, &[Token]), Stop>
     ensures { Gives (λ x. (view_if_arm x.0, x.1.now)) result (else_arm_in (parsers depth) tokens.now) }
 {
-    let (else_word, rest) = skip(tokens, Kind::ElseWord)?;
+    let Some((else_word, rest)) = skip(tokens, Kind::ElseWord) else {
+        return Err(Stop::Unexpected);
+    };
     if_arm(alloc, depth, Some(else_word), rest)
 }
 
@@ -424,9 +434,13 @@ fn if_arm(
 ) -> Result<(IfArm, &[Token]), Stop>
     ensures { Gives (λ x. (view_if_arm x.0, x.1.now)) result (arm_in (parsers depth) (token_if else_word) tokens.now) }
 {
-    let (word, rest) = skip(tokens, Kind::IfWord)?;
+    let Some((word, rest)) = skip(tokens, Kind::IfWord) else {
+        return Err(Stop::Unexpected);
+    };
     let (parts, rest) = header(alloc, depth, rest)?;
-    let condition = condition_of(parts.last)?;
+    let Some(condition) = condition_of(parts.last) else {
+        return Err(Stop::Unexpected);
+    };
     let (body, rest) = block(alloc, depth, rest)?;
     let arm = IfArm {
         else_word,
@@ -444,16 +458,24 @@ fn if_arm(
 fn switch_stmt(alloc: Global, depth: usize, tokens: &[Token]) -> Result<(Box<Stmt>, &[Token]), Stop>
     ensures { Gives (λ x. (boxed_stmt x.0, x.1.now)) result (switch_in (parsers depth) tokens.now) }
 {
-    let (word, rest) = skip(tokens, Kind::SwitchWord)?;
+    let Some((word, rest)) = skip(tokens, Kind::SwitchWord) else {
+        return Err(Stop::Unexpected);
+    };
     let (parts, rest) = header(alloc, depth, rest)?;
     if begins_with(rest, Kind::Dot) {
-        let guard = guard_of(parts.last)?;
-        let (suffix, rest) = guard_suffix(rest)?;
+        let Some(guard) = guard_of(parts.last) else {
+            return Err(Stop::Unexpected);
+        };
+        let Some((suffix, rest)) = guard_suffix(rest) else {
+            return Err(Stop::Unexpected);
+        };
         let (body, rest) = switch_body(alloc, depth, rest)?;
         let stmt = type_switch(alloc, word, parts.init, guard, suffix, body)?;
         return Ok((stmt, rest));
     }
-    let tag = tag_of(parts.last)?;
+    let Some(tag) = tag_of(parts.last) else {
+        return Err(Stop::Unexpected);
+    };
     let (body, rest) = switch_body(alloc, depth, rest)?;
     Ok((value_switch(alloc, word, parts.init, tag, body)?, rest))
 }
@@ -467,9 +489,13 @@ fn switch_body(
 ) -> Result<(SwitchBody, &[Token]), Stop>
     ensures { Gives (λ x. (view_body x.0, x.1.now)) result (clauses_in (parsers depth) tokens.now) }
 {
-    let (open, rest) = skip(tokens, Kind::OpenBrace)?;
+    let Some((open, rest)) = skip(tokens, Kind::OpenBrace) else {
+        return Err(Stop::Unexpected);
+    };
     let (clauses, rest) = clauses(alloc, depth, rest)?;
-    let (close, rest) = skip(rest, Kind::CloseBrace)?;
+    let Some((close, rest)) = skip(rest, Kind::CloseBrace) else {
+        return Err(Stop::Unexpected);
+    };
     let body = SwitchBody {
         open,
         clauses,
@@ -507,9 +533,10 @@ fn clauses(
 fn clause(alloc: Global, depth: usize, tokens: &[Token]) -> Result<(CaseClause, &[Token]), Stop>
     ensures { Gives (λ x. (view_case_clause x.0, x.1.now)) result (clause_in (parsers depth) tokens.now) }
 {
-    if begins_with(tokens, Kind::DefaultWord) {
-        let (word, rest) = skip(tokens, Kind::DefaultWord)?;
-        let (colon, rest) = skip(rest, Kind::Colon)?;
+    if let Some((word, rest)) = next_if(tokens, Kind::DefaultWord) {
+        let Some((colon, rest)) = skip(rest, Kind::Colon) else {
+            return Err(Stop::Unexpected);
+        };
         let (statements, rest) = statements(alloc, depth, rest)?;
         let clause = CaseClause {
             word,
@@ -519,9 +546,13 @@ fn clause(alloc: Global, depth: usize, tokens: &[Token]) -> Result<(CaseClause, 
         };
         return Ok((clause, rest));
     }
-    let (word, rest) = skip(tokens, Kind::CaseWord)?;
+    let Some((word, rest)) = skip(tokens, Kind::CaseWord) else {
+        return Err(Stop::Unexpected);
+    };
     let (items, rest) = expr_list(alloc, depth, Context::Item, rest)?;
-    let (colon, rest) = skip(rest, Kind::Colon)?;
+    let Some((colon, rest)) = skip(rest, Kind::Colon) else {
+        return Err(Stop::Unexpected);
+    };
     let (statements, rest) = statements(alloc, depth, rest)?;
     let clause = CaseClause {
         word,
@@ -538,10 +569,16 @@ fn clause(alloc: Global, depth: usize, tokens: &[Token]) -> Result<(CaseClause, 
 fn select_stmt(alloc: Global, depth: usize, tokens: &[Token]) -> Result<(Box<Stmt>, &[Token]), Stop>
     ensures { Gives (λ x. (boxed_stmt x.0, x.1.now)) result (select_in (parsers depth) tokens.now) }
 {
-    let (word, rest) = skip(tokens, Kind::SelectWord)?;
-    let (open, rest) = skip(rest, Kind::OpenBrace)?;
+    let Some((word, rest)) = skip(tokens, Kind::SelectWord) else {
+        return Err(Stop::Unexpected);
+    };
+    let Some((open, rest)) = skip(rest, Kind::OpenBrace) else {
+        return Err(Stop::Unexpected);
+    };
     let (clauses, rest) = comm_clauses(alloc, depth, rest)?;
-    let (close, rest) = skip(rest, Kind::CloseBrace)?;
+    let Some((close, rest)) = skip(rest, Kind::CloseBrace) else {
+        return Err(Stop::Unexpected);
+    };
     let stmt = Stmt::Select {
         word,
         open,
@@ -584,9 +621,10 @@ fn comm_clause(
 ) -> Result<(CommClause, &[Token]), Stop>
     ensures { Gives (λ x. (view_comm_clause x.0, x.1.now)) result (comm_clause_in (parsers depth) tokens.now) }
 {
-    if begins_with(tokens, Kind::DefaultWord) {
-        let (word, rest) = skip(tokens, Kind::DefaultWord)?;
-        let (colon, rest) = skip(rest, Kind::Colon)?;
+    if let Some((word, rest)) = next_if(tokens, Kind::DefaultWord) {
+        let Some((colon, rest)) = skip(rest, Kind::Colon) else {
+            return Err(Stop::Unexpected);
+        };
         let (statements, rest) = statements(alloc, depth, rest)?;
         let clause = CommClause {
             word,
@@ -596,13 +634,17 @@ fn comm_clause(
         };
         return Ok((clause, rest));
     }
-    let (word, rest) = skip(tokens, Kind::CaseWord)?;
+    let Some((word, rest)) = skip(tokens, Kind::CaseWord) else {
+        return Err(Stop::Unexpected);
+    };
     let (simple, rest) = simple(alloc, depth, Context::Plain, rest)?;
     if !is_comm(&simple) {
         return Err(Stop::Unexpected);
     }
     let comm = Some(stmt_of(alloc, simple)?);
-    let (colon, rest) = skip(rest, Kind::Colon)?;
+    let Some((colon, rest)) = skip(rest, Kind::Colon) else {
+        return Err(Stop::Unexpected);
+    };
     let (statements, rest) = statements(alloc, depth, rest)?;
     let clause = CommClause {
         word,
@@ -611,147 +653,4 @@ fn comm_clause(
         statements,
     };
     Ok((clause, rest))
-}
-
-/// Go specification, "For statements".
-#[cycle(parser)]
-fn for_stmt(alloc: Global, depth: usize, tokens: &[Token]) -> Result<(Box<Stmt>, &[Token]), Stop>
-    ensures { Gives (λ x. (boxed_stmt x.0, x.1.now)) result (for_in (parsers depth) tokens.now) }
-{
-    let (word, rest) = skip(tokens, Kind::ForWord)?;
-    let is_range = begins_with(rest, Kind::RangeWord);
-    if is_range {
-        return range_stmt(alloc, depth, word, Vec::new(alloc), None, rest);
-    }
-    if begins_with_semicolon(rest) {
-        return for_clauses(alloc, depth, word, None, rest);
-    }
-    if begins_with_braces(rest) {
-        return while_stmt(alloc, depth, word, None, rest);
-    }
-    let (targets, rest) = expr_list(alloc, depth, Context::Header, rest)?;
-    for_rest(alloc, depth, word, targets, rest)
-}
-
-/// The rest of a `for` whose first statement begins with these expressions.
-#[cycle(parser)]
-fn for_rest(
-    alloc: Global,
-    depth: usize,
-    word: Token,
-    targets: Vec<ListedExpr>,
-    tokens: &[Token],
-) -> Result<(Box<Stmt>, &[Token]), Stop>
-    ensures { Gives (λ x. (boxed_stmt x.0, x.1.now)) result (for_rest_in (parsers depth) (one word) (each view_listed_expr targets.items) tokens.now) }
-{
-    if let Some((operator, rest)) = range_assignment(tokens) {
-        return range_stmt(alloc, depth, word, targets, Some(operator), rest);
-    }
-    let (simple, rest) = simple_rest(alloc, depth, Context::Header, targets, tokens)?;
-    if begins_with_semicolon(rest) {
-        let init = stmt_of(alloc, simple)?;
-        return for_clauses(alloc, depth, word, Some(init), rest);
-    }
-    let condition = condition_of(Some(simple))?;
-    while_stmt(alloc, depth, word, Some(condition), rest)
-}
-
-/// The body of a `for` with at most a condition. Go specification, "For statements with single condition".
-#[cycle(parser)]
-#[tactic(auto, using(go_grammar::proofs::Views::view_stmt_while))]
-fn while_stmt(
-    alloc: Global,
-    depth: usize,
-    word: Token,
-    condition: Option<Box<Expr>>,
-    tokens: &[Token],
-) -> Result<(Box<Stmt>, &[Token]), Stop>
-    ensures { Gives (λ x. (boxed_stmt x.0, x.1.now)) result (while_in (parsers depth) (one word) (if_some boxed_expr condition) tokens.now) }
-{
-    let (body, rest) = block(alloc, depth, tokens)?;
-    let body = boxed(alloc, body)?;
-    let stmt = Stmt::While {
-        word,
-        condition,
-        body,
-    };
-    Ok((boxed(alloc, stmt)?, rest))
-}
-
-/// The clauses of a `for` from the first semicolon on, and its body. Go specification, "For statements with for clause".
-#[cycle(parser)]
-#[tactic(auto, using(crate::proofs::Statements::fors))]
-fn for_clauses(
-    alloc: Global,
-    depth: usize,
-    word: Token,
-    init: Option<Box<Stmt>>,
-    tokens: &[Token],
-) -> Result<(Box<Stmt>, &[Token]), Stop>
-    ensures { Gives (λ x. (boxed_stmt x.0, x.1.now)) result (for_clauses_in (parsers depth) (one word) (if_some boxed_stmt init) tokens.now) }
-{
-    let (first, rest) = semicolon(tokens)?;
-    let (condition, rest) = for_condition(alloc, depth, rest)?;
-    let (second, rest) = semicolon(rest)?;
-    let (post, rest) = optional_simple(alloc, depth, rest)?;
-    if !is_post(&post) {
-        return Err(Stop::Unexpected);
-    }
-    let post = optional_stmt_of(alloc, post)?;
-    let (body, rest) = block(alloc, depth, rest)?;
-    let stmt = ForStmt {
-        word,
-        init,
-        first,
-        condition,
-        second,
-        post,
-        body,
-    };
-    let stmt = boxed(alloc, stmt)?;
-    Ok((boxed(alloc, Stmt::For(stmt))?, rest))
-}
-
-/// The condition between the semicolons of a `for`, or nothing.
-#[cycle(parser)]
-fn for_condition(
-    alloc: Global,
-    depth: usize,
-    tokens: &[Token],
-) -> Result<(Option<Box<Expr>>, &[Token]), Stop>
-    ensures { Gives (λ x. (if_some boxed_expr x.0, x.1.now)) result (for_condition_in (parsers depth) tokens.now) }
-{
-    if begins_with_semicolon(tokens) {
-        return Ok((None, tokens));
-    }
-    let (condition, rest) = expr(alloc, depth, Context::Header, LOOSE, tokens)?;
-    Ok((Some(condition), rest))
-}
-
-/// The rest of a `for` from `range` on. Go specification, "For statements with range clause".
-#[cycle(parser)]
-#[tactic(auto, using(crate::proofs::Statements::ranges))]
-fn range_stmt(
-    alloc: Global,
-    depth: usize,
-    word: Token,
-    targets: Vec<ListedExpr>,
-    operator: Option<Token>,
-    tokens: &[Token],
-) -> Result<(Box<Stmt>, &[Token]), Stop>
-    ensures { Gives (λ x. (boxed_stmt x.0, x.1.now)) result (range_in (parsers depth) (one word) (each view_listed_expr targets.items ⊕ token_if operator) tokens.now) }
-{
-    let (range, rest) = skip(tokens, Kind::RangeWord)?;
-    let (operand, rest) = expr(alloc, depth, Context::Header, LOOSE, rest)?;
-    let (body, rest) = block(alloc, depth, rest)?;
-    let stmt = RangeStmt {
-        word,
-        targets,
-        operator,
-        range,
-        operand,
-        body,
-    };
-    let stmt = boxed(alloc, stmt)?;
-    Ok((boxed(alloc, Stmt::Range(stmt))?, rest))
 }

@@ -26,8 +26,8 @@ use go_fragments::operands::Context;
 use go_fragments::parts::{named_type, params_of, signature_of};
 use go_fragments::stop::Stop;
 use go_fragments::tokens::{
-    begins_with, begins_with_bare_type, begins_with_both, begins_with_semicolon, begins_with_type,
-    direction, line_end, names, optional, semicolon, separator, skip, type_name,
+    begins_with, begins_with_bare_type, begins_with_both, begins_with_type, direction, line_end,
+    names, next_if, optional, semicolon_if, separator, skip, type_name,
 };
 use go_syntax::{ElementLine, FieldLine, Params, ResultForm, Signature, TypeExpr};
 use std::alloc::Global;
@@ -73,9 +73,13 @@ fn paren_type(
 ) -> Result<(Box<TypeExpr>, &[Token]), Stop>
     ensures { Gives (λ x. (view_type_expr x.0.value, x.1.now)) result (paren_type_in (parsers depth) tokens.now) }
 {
-    let (open, rest) = skip(tokens, Kind::OpenParen)?;
+    let Some((open, rest)) = skip(tokens, Kind::OpenParen) else {
+        return Err(Stop::Unexpected);
+    };
     let (inner, rest) = type_expr(alloc, depth, rest)?;
-    let (close, rest) = skip(rest, Kind::CloseParen)?;
+    let Some((close, rest)) = skip(rest, Kind::CloseParen) else {
+        return Err(Stop::Unexpected);
+    };
     let form = TypeExpr::Paren { open, inner, close };
     Ok((boxed(alloc, form)?, rest))
 }
@@ -118,7 +122,9 @@ fn pointer_type(
 ) -> Result<(Box<TypeExpr>, &[Token]), Stop>
     ensures { Gives (λ x. (view_type_expr x.0.value, x.1.now)) result (pointer_type_in (parsers depth) tokens.now) }
 {
-    let (star, rest) = skip(tokens, Kind::Star)?;
+    let Some((star, rest)) = skip(tokens, Kind::Star) else {
+        return Err(Stop::Unexpected);
+    };
     let (base, rest) = type_expr(alloc, depth, rest)?;
     Ok((boxed(alloc, TypeExpr::Pointer { star, base })?, rest))
 }
@@ -133,7 +139,9 @@ fn function_type(
 ) -> Result<(Box<TypeExpr>, &[Token]), Stop>
     ensures { Gives (λ x. (view_type_expr x.0.value, x.1.now)) result (function_type_in (parsers depth) tokens.now) }
 {
-    let (word, rest) = skip(tokens, Kind::FuncWord)?;
+    let Some((word, rest)) = skip(tokens, Kind::FuncWord) else {
+        return Err(Stop::Unexpected);
+    };
     let (signature, rest) = signature(alloc, depth, rest)?;
     let signature = boxed(alloc, signature)?;
     let form = TypeExpr::Function { word, signature };
@@ -173,8 +181,7 @@ fn bracket_type(
     requires { bracket.kind ≡ kinds.OpenBracket }
     ensures { Gives (λ x. (view_type_expr x.0.value, x.1.now)) result (bare_in (parsers depth) (bracket ∷ tokens.now)) }
 {
-    if begins_with(tokens, Kind::CloseBracket) {
-        let (close, rest) = skip(tokens, Kind::CloseBracket)?;
+    if let Some((close, rest)) = next_if(tokens, Kind::CloseBracket) {
         let (element, rest) = type_expr(alloc, depth, rest)?;
         let form = TypeExpr::Slice {
             open: bracket,
@@ -184,7 +191,9 @@ fn bracket_type(
         return Ok((boxed(alloc, form)?, rest));
     }
     let (length, rest) = expr(alloc, depth, Context::Plain, LOOSE, tokens)?;
-    let (close, rest) = skip(rest, Kind::CloseBracket)?;
+    let Some((close, rest)) = skip(rest, Kind::CloseBracket) else {
+        return Err(Stop::Unexpected);
+    };
     let (element, rest) = type_expr(alloc, depth, rest)?;
     let form = TypeExpr::Array {
         open: bracket,
@@ -207,9 +216,13 @@ fn map_type(
     requires { word.kind ≡ kinds.MapWord }
     ensures { Gives (λ x. (view_type_expr x.0.value, x.1.now)) result (bare_in (parsers depth) (word ∷ tokens.now)) }
 {
-    let (open, rest) = skip(tokens, Kind::OpenBracket)?;
+    let Some((open, rest)) = skip(tokens, Kind::OpenBracket) else {
+        return Err(Stop::Unexpected);
+    };
     let (key, rest) = type_expr(alloc, depth, rest)?;
-    let (close, rest) = skip(rest, Kind::CloseBracket)?;
+    let Some((close, rest)) = skip(rest, Kind::CloseBracket) else {
+        return Err(Stop::Unexpected);
+    };
     let (element, rest) = type_expr(alloc, depth, rest)?;
     let form = TypeExpr::Map {
         word,
@@ -231,8 +244,7 @@ fn chan_type(
 ) -> Result<(Box<TypeExpr>, &[Token]), Stop>
     ensures { Gives (λ x. (view_type_expr x.0.value, x.1.now)) result (run (at_type (parsers depth)) chan_plan tokens.now) }
 {
-    if begins_with(tokens, Kind::ChanWord) {
-        let (word, rest) = skip(tokens, Kind::ChanWord)?;
+    if let Some((word, rest)) = next_if(tokens, Kind::ChanWord) {
         let (arrow, rest) = direction(rest);
         let (element, rest) = type_expr(alloc, depth, rest)?;
         let form = TypeExpr::Chan {
@@ -242,8 +254,12 @@ fn chan_type(
         };
         return Ok((boxed(alloc, form)?, rest));
     }
-    let (arrow, rest) = skip(tokens, Kind::Arrow)?;
-    let (word, rest) = skip(rest, Kind::ChanWord)?;
+    let Some((arrow, rest)) = skip(tokens, Kind::Arrow) else {
+        return Err(Stop::Unexpected);
+    };
+    let Some((word, rest)) = skip(rest, Kind::ChanWord) else {
+        return Err(Stop::Unexpected);
+    };
     let (element, rest) = type_expr(alloc, depth, rest)?;
     let form = TypeExpr::ReceiveChan {
         arrow,
@@ -303,9 +319,13 @@ pub(crate) fn params(
 ) -> Result<(Params, &[Token]), Stop>
     ensures { Gives (λ x. (view_params x.0, x.1.now)) result (params_in (parsers depth) variadic tokens.now) }
 {
-    let (open, rest) = skip(tokens, Kind::OpenParen)?;
+    let Some((open, rest)) = skip(tokens, Kind::OpenParen) else {
+        return Err(Stop::Unexpected);
+    };
     let (list, rest) = param_entries(alloc, depth, rest)?;
-    let (close, rest) = skip(rest, Kind::CloseParen)?;
+    let Some((close, rest)) = skip(rest, Kind::CloseParen) else {
+        return Err(Stop::Unexpected);
+    };
     let params = grouped(alloc, variadic, list)?;
     Ok((params_of(open, params, close), rest))
 }
@@ -322,9 +342,13 @@ fn struct_type(
     requires { word.kind ≡ kinds.StructWord }
     ensures { Gives (λ x. (view_type_expr x.0.value, x.1.now)) result (bare_in (parsers depth) (word ∷ tokens.now)) }
 {
-    let (open, rest) = skip(tokens, Kind::OpenBrace)?;
+    let Some((open, rest)) = skip(tokens, Kind::OpenBrace) else {
+        return Err(Stop::Unexpected);
+    };
     let (fields, rest) = field_lines(alloc, depth, rest)?;
-    let (close, rest) = skip(rest, Kind::CloseBrace)?;
+    let Some((close, rest)) = skip(rest, Kind::CloseBrace) else {
+        return Err(Stop::Unexpected);
+    };
     let form = TypeExpr::Struct {
         word,
         open,
@@ -362,17 +386,21 @@ fn field_lines(
 fn field_line(alloc: Global, depth: usize, tokens: &[Token]) -> Result<(FieldLine, &[Token]), Stop>
     ensures { Gives (λ x. (view_field_line x.0, x.1.now)) result (field_line_in (parsers depth) tokens.now) }
 {
-    if begins_with_semicolon(tokens) {
-        let (semicolon, rest) = semicolon(tokens)?;
+    if let Some((semicolon, rest)) = semicolon_if(tokens) {
         return Ok((FieldLine::Empty(semicolon), rest));
     }
     if begins_with_embedded_field(tokens) {
-        return embedded_field(tokens);
+        let Some((line, rest)) = embedded_field(tokens) else {
+            return Err(Stop::Unexpected);
+        };
+        return Ok((line, rest));
     }
     let (names, rest) = names(alloc, tokens)?;
     let (form, rest) = type_expr(alloc, depth, rest)?;
     let (tag, rest) = optional(rest, Kind::Text);
-    let (semicolon, rest) = line_end(rest, Kind::CloseBrace)?;
+    let Some((semicolon, rest)) = line_end(rest, Kind::CloseBrace) else {
+        return Err(Stop::Unexpected);
+    };
     let line = FieldLine::Named {
         names,
         form,
@@ -394,9 +422,13 @@ fn interface_type(
     requires { word.kind ≡ kinds.InterfaceWord }
     ensures { Gives (λ x. (view_type_expr x.0.value, x.1.now)) result (bare_in (parsers depth) (word ∷ tokens.now)) }
 {
-    let (open, rest) = skip(tokens, Kind::OpenBrace)?;
+    let Some((open, rest)) = skip(tokens, Kind::OpenBrace) else {
+        return Err(Stop::Unexpected);
+    };
     let (elements, rest) = element_lines(alloc, depth, rest)?;
-    let (close, rest) = skip(rest, Kind::CloseBrace)?;
+    let Some((close, rest)) = skip(rest, Kind::CloseBrace) else {
+        return Err(Stop::Unexpected);
+    };
     let form = TypeExpr::Interface {
         word,
         open,
@@ -438,15 +470,18 @@ fn element_line(
 ) -> Result<(ElementLine, &[Token]), Stop>
     ensures { Gives (λ x. (view_element_line x.0, x.1.now)) result (element_line_in (parsers depth) tokens.now) }
 {
-    if begins_with_semicolon(tokens) {
-        let (semicolon, rest) = semicolon(tokens)?;
+    if let Some((semicolon, rest)) = semicolon_if(tokens) {
         return Ok((ElementLine::Empty(semicolon), rest));
     }
     if begins_with_both(tokens, Kind::Name, Kind::OpenParen) {
-        let (name, rest) = skip(tokens, Kind::Name)?;
+        let Some((name, rest)) = skip(tokens, Kind::Name) else {
+            return Err(Stop::Unexpected);
+        };
         let (signature, rest) = signature(alloc, depth, rest)?;
         let signature = boxed(alloc, signature)?;
-        let (semicolon, rest) = line_end(rest, Kind::CloseBrace)?;
+        let Some((semicolon, rest)) = line_end(rest, Kind::CloseBrace) else {
+            return Err(Stop::Unexpected);
+        };
         let line = ElementLine::Method {
             name,
             signature,
@@ -454,8 +489,12 @@ fn element_line(
         };
         return Ok((line, rest));
     }
-    let (name, rest) = type_name(tokens)?;
-    let (semicolon, rest) = line_end(rest, Kind::CloseBrace)?;
+    let Some((name, rest)) = type_name(tokens) else {
+        return Err(Stop::Unexpected);
+    };
+    let Some((semicolon, rest)) = line_end(rest, Kind::CloseBrace) else {
+        return Err(Stop::Unexpected);
+    };
     Ok((ElementLine::Embedded { name, semicolon }, rest))
 }
 
@@ -489,7 +528,9 @@ fn param_entry(alloc: Global, depth: usize, tokens: &[Token]) -> Result<(Entry, 
     let (name, rest) = param_name(tokens);
     let (ellipsis, rest) = optional(rest, Kind::Ellipsis);
     let (form, rest) = type_expr(alloc, depth, rest)?;
-    let (comma, rest) = separator(rest, Kind::CloseParen)?;
+    let Some((comma, rest)) = separator(rest, Kind::CloseParen) else {
+        return Err(Stop::Unexpected);
+    };
     let entry = Entry {
         name,
         ellipsis,

@@ -37,6 +37,7 @@ use Rattle.std.specs.Option.{is_some}
 use Rattle.std.specs.Prelude.{None, Some, not}
 use Rattle.go_syntax.specs.declared.exprs.Expr.TheVariants as exprs
 use Rattle.go_fragments.proofs.Lines.{braces_end, maybe_arrow, parens_end}
+use Rattle.go_fragments.specs.declared.stop.Stop.TheVariants as stops
 use Rattle.go_readers.proofs.+parser.Goals as goal
 
 pub decls::decl-returns-then-is_const : goal.decls::decl-returns-then-is_const
@@ -145,14 +146,14 @@ exprs::binary-returns-in_err-longer t c =
 
 pub exprs::element-returns : goal.exprs::element-returns
 exprs::element-returns t c =
-    element_alone (parsers c.args.depth) c.args.tokens.now c.in_ok-first.rest.now c.in_ok-comma-2.rest.now (view_expr c.in_ok-first.first.value) (token_if c.in_ok-comma-2.comma) _
-    c.in_ok-first.ensures (sym c.begins_with.ensures ∙ c.if-begins_with.false) c.in_ok-comma-2.ensures.read (view_element_made _)
+    element_alone (parsers c.args.depth) c.args.tokens.now c.in_ok-first.rest.now c.in-Some-separator-2.rest.now (view_expr c.in_ok-first.first.value) (token_if c.in-Some-separator-2.comma) _
+    c.in_ok-first.ensures c.in_default.ensures.found c.in-Some-separator-2.ensures.read (view_element_made _)
 
-pub exprs::element-returns-then-begins_with : goal.exprs::element-returns-then-begins_with
-exprs::element-returns-then-begins_with t c =
-    element_with_key (parsers c.args.depth) c.args.tokens.now c.in_ok-first.rest.now c.in_ok-colon.rest.now c.in_ok-value.rest.now c.in_ok-comma.rest.now
-    (view_expr c.in_ok-first.first.value) (one c.in_ok-colon.colon) (view_expr c.in_ok-value.value.value) (token_if c.in_ok-comma.comma) _
-    c.in_ok-first.ensures (sym c.begins_with.ensures ∙ c.if-begins_with.true) c.in_ok-colon.ensures c.in_ok-value.ensures c.in_ok-comma.ensures.read (view_element_made _)
+pub exprs::element-returns-in-Some : goal.exprs::element-returns-in-Some
+exprs::element-returns-in-Some t c =
+    element_with_key (parsers c.args.depth) c.args.tokens.now c.in_ok-first.rest.now c.in-Some.rest.now c.in_ok-value.rest.now c.in-Some-separator.rest.now
+    (view_expr c.in_ok-first.first.value) (one c.in-Some.colon) (view_expr c.in_ok-value.value.value) (token_if c.in-Some-separator.comma) _
+    c.in_ok-first.ensures c.in-Some.ensures.found c.in-Some.ensures.read c.in_ok-value.ensures c.in-Some-separator.ensures.read (view_element_made _)
 
 pub exprs::elements-loop-preserved : goal.exprs::elements-loop-preserved
 exprs::elements-loop-preserved t c =
@@ -348,56 +349,51 @@ stmts::compound_stmt-returns-then-is_for t c = rw (compound_for (parsers c.args.
 pub stmts::compound_stmt-returns : goal.stmts::compound_stmt-returns
 stmts::compound_stmt-returns t c = rw (compound_simple (parsers c.args.depth) c.args.tokens.now (sym c.begins_with-is_block.ensures ∙ c.if-is_block.false) (sym c.begins_with-is_if.ensures ∙ c.if-is_if.false) (sym c.begins_with-is_switch.ensures ∙ c.if-is_switch.false) (sym c.begins_with-is_select.ensures ∙ c.if-is_select.false) (sym c.begins_with-is_for.ensures ∙ c.if-is_for.false)) c.simple_stmt.ensures
 
-pub stmts::for_rest-returns-in-Some : goal.stmts::for_rest-returns-in-Some
-stmts::for_rest-returns-in-Some t c = rw (rest_range (parsers c.args.depth) (one c.args.word) (each view_listed_expr c.args.targets.items) c.args.tokens.now (one c.in-Some.operator) c.in-Some.rest.now c.in-Some.ensures.found c.in-Some.ensures.read) c.range_stmt.ensures
+pub loops::for_rest-returns-in-Some : goal.loops::for_rest-returns-in-Some
+loops::for_rest-returns-in-Some t c = rw (rest_range (parsers c.args.depth) (one c.args.word) (each view_listed_expr c.args.targets.items) c.args.tokens.now (one c.in-Some.operator) c.in-Some.rest.now c.in-Some.ensures.found c.in-Some.ensures.read) c.range_stmt.ensures
 
-pub stmts::for_rest-returns-in_err-simple : goal.stmts::for_rest-returns-in_err-simple
-stmts::for_rest-returns-in_err-simple t c =
+pub loops::for_rest-returns-in_err-simple : goal.loops::for_rest-returns-in_err-simple
+loops::for_rest-returns-in_err-simple t c =
     let fails : Fails c.in_err-simple.field-0.0 (for_rest_in (parsers c.args.depth) (one c.args.word) (each view_listed_expr c.args.targets.items) c.args.tokens.now) =
     rest_no_stmt (parsers c.args.depth) (one c.args.word) (each view_listed_expr c.args.targets.items) c.args.tokens.now (c.range_assignment.ensures.found ∙ ap is_some c.in_default.is) c.in_err-simple.field-0.0 c.in_err-simple.ensures.read in
     search rules
 
-pub stmts::for_rest-returns-then-begins_with_semicolon : goal.stmts::for_rest-returns-then-begins_with_semicolon
-stmts::for_rest-returns-then-begins_with_semicolon t c = rw (rest_clauses (parsers c.args.depth) (one c.args.word) (each view_listed_expr c.args.targets.items) c.args.tokens.now (c.range_assignment.ensures.found ∙ ap is_some c.in_default.is) (view_simple c.in_ok-simple.simple) c.in_ok-simple.rest.now c.in_ok-simple.ensures.read (boxed_stmt c.in_ok-init.init) (sym c.begins_with_semicolon.ensures ∙ c.if-begins_with_semicolon.true) c.in_ok-init.ensures) c.for_clauses.ensures
+pub loops::for_rest-returns-then-begins_with_semicolon : goal.loops::for_rest-returns-then-begins_with_semicolon
+loops::for_rest-returns-then-begins_with_semicolon t c = rw (rest_clauses (parsers c.args.depth) (one c.args.word) (each view_listed_expr c.args.targets.items) c.args.tokens.now (c.range_assignment.ensures.found ∙ ap is_some c.in_default.is) (view_simple c.in_ok-simple.simple) c.in_ok-simple.rest.now c.in_ok-simple.ensures.read (boxed_stmt c.in_ok-init.init) (sym c.begins_with_semicolon.ensures ∙ c.if-begins_with_semicolon.true) c.in_ok-init.ensures) c.for_clauses.ensures
 
-pub stmts::for_rest-returns-in_err-init : goal.stmts::for_rest-returns-in_err-init
-stmts::for_rest-returns-in_err-init t c =
+pub loops::for_rest-returns-in_err-init : goal.loops::for_rest-returns-in_err-init
+loops::for_rest-returns-in_err-init t c =
     let fails : Fails c.in_err-init.field-0.0 (for_rest_in (parsers c.args.depth) (one c.args.word) (each view_listed_expr c.args.targets.items) c.args.tokens.now) =
     memory_alone c.in_err-init.field-0.0 (view_simple c.in_ok-simple.simple) (for_rest_in (parsers c.args.depth) (one c.args.word) (each view_listed_expr c.args.targets.items) c.args.tokens.now) c.in_err-init.ensures in
     search rules
 
-pub stmts::for_rest-returns-in_err-condition : goal.stmts::for_rest-returns-in_err-condition
-stmts::for_rest-returns-in_err-condition t c =
-    let fails : Fails c.in_err-condition.field-0.0 (for_rest_in (parsers c.args.depth) (one c.args.word) (each view_listed_expr c.args.targets.items) c.args.tokens.now) =
-    rest_no_condition (parsers c.args.depth) (one c.args.word) (each view_listed_expr c.args.targets.items) c.args.tokens.now (c.range_assignment.ensures.found ∙ ap is_some c.in_default.is) (view_simple c.in_ok-simple.simple) c.in_ok-simple.rest.now c.in_ok-simple.ensures.read c.in_err-condition.field-0.0 (sym c.begins_with_semicolon.ensures ∙ c.if-begins_with_semicolon.false) c.in_err-condition.ensures in
-    search rules
+pub loops::for_rest-returns-in_default-condition_of : goal.loops::for_rest-returns-in_default-condition_of
+loops::for_rest-returns-in_default-condition_of t c =
+    rest_no_condition (parsers c.args.depth) (one c.args.word) (each view_listed_expr c.args.targets.items) c.args.tokens.now (c.range_assignment.ensures.found ∙ ap is_some c.in_default.is) (view_simple c.in_ok-simple.simple) c.in_ok-simple.rest.now c.in_ok-simple.ensures.read stops.Unexpected (sym c.begins_with_semicolon.ensures ∙ c.if-begins_with_semicolon.false) c.in_default-condition_of.ensures
 
-pub stmts::for_rest-returns : goal.stmts::for_rest-returns
-stmts::for_rest-returns t c = rw (rest_while (parsers c.args.depth) (one c.args.word) (each view_listed_expr c.args.targets.items) c.args.tokens.now (c.range_assignment.ensures.found ∙ ap is_some c.in_default.is) (view_simple c.in_ok-simple.simple) c.in_ok-simple.rest.now c.in_ok-simple.ensures.read (boxed_expr c.in_ok-condition.condition) (sym c.begins_with_semicolon.ensures ∙ c.if-begins_with_semicolon.false) c.in_ok-condition.ensures) c.while_stmt.ensures
+pub loops::for_rest-returns : goal.loops::for_rest-returns
+loops::for_rest-returns t c = rw (rest_while (parsers c.args.depth) (one c.args.word) (each view_listed_expr c.args.targets.items) c.args.tokens.now (c.range_assignment.ensures.found ∙ ap is_some c.in_default.is) (view_simple c.in_ok-simple.simple) c.in_ok-simple.rest.now c.in_ok-simple.ensures.read (boxed_expr c.in-Some-condition_of.condition) (sym c.begins_with_semicolon.ensures ∙ c.if-begins_with_semicolon.false) c.in-Some-condition_of.ensures) c.while_stmt.ensures
 
-pub stmts::for_stmt-returns-in_err-word : goal.stmts::for_stmt-returns-in_err-word
-stmts::for_stmt-returns-in_err-word t c =
-    let fails : Fails c.in_err-word.field-0.0 (for_in (parsers c.args.depth) c.args.tokens.now) =
-    for_no_word (parsers c.args.depth) c.args.tokens.now c.in_err-word.field-0.0 c.in_err-word.ensures in
-    search rules
+pub loops::for_stmt-returns-in_default : goal.loops::for_stmt-returns-in_default
+loops::for_stmt-returns-in_default t c = for_no_word (parsers c.args.depth) c.args.tokens.now stops.Unexpected c.in_default.ensures
 
-pub stmts::for_stmt-returns-then-is_range : goal.stmts::for_stmt-returns-then-is_range
-stmts::for_stmt-returns-then-is_range t c = rw (for_range (parsers c.args.depth) c.args.tokens.now c.in_ok-word.rest.now (one c.in_ok-word.word) c.in_ok-word.ensures c.new.result.items c.new.ensures.items (sym c.begins_with-is_range.ensures ∙ c.if-is_range.true)) c.range_stmt.ensures
+pub loops::for_stmt-returns-then-is_range : goal.loops::for_stmt-returns-then-is_range
+loops::for_stmt-returns-then-is_range t c = rw (for_range (parsers c.args.depth) c.args.tokens.now c.in-Some.rest.now (one c.in-Some.word) c.in-Some.ensures c.new.result.items c.new.ensures.items (sym c.begins_with-is_range.ensures ∙ c.if-is_range.true)) c.range_stmt.ensures
 
-pub stmts::for_stmt-returns-then-begins_with_semicolon : goal.stmts::for_stmt-returns-then-begins_with_semicolon
-stmts::for_stmt-returns-then-begins_with_semicolon t c = rw (for_empty (parsers c.args.depth) c.args.tokens.now c.in_ok-word.rest.now (one c.in_ok-word.word) c.in_ok-word.ensures (sym c.begins_with-is_range.ensures ∙ c.if-is_range.false) (sym c.begins_with_semicolon.ensures ∙ c.if-begins_with_semicolon.true)) c.for_clauses.ensures
+pub loops::for_stmt-returns-then-begins_with_semicolon : goal.loops::for_stmt-returns-then-begins_with_semicolon
+loops::for_stmt-returns-then-begins_with_semicolon t c = rw (for_empty (parsers c.args.depth) c.args.tokens.now c.in-Some.rest.now (one c.in-Some.word) c.in-Some.ensures (sym c.begins_with-is_range.ensures ∙ c.if-is_range.false) (sym c.begins_with_semicolon.ensures ∙ c.if-begins_with_semicolon.true)) c.for_clauses.ensures
 
-pub stmts::for_stmt-returns-then-begins_with_braces : goal.stmts::for_stmt-returns-then-begins_with_braces
-stmts::for_stmt-returns-then-begins_with_braces t c = rw (for_ever (parsers c.args.depth) c.args.tokens.now c.in_ok-word.rest.now (one c.in_ok-word.word) c.in_ok-word.ensures (sym c.begins_with-is_range.ensures ∙ c.if-is_range.false) (sym c.begins_with_semicolon.ensures ∙ c.if-begins_with_semicolon.false) (sym c.begins_with_braces.ensures ∙ c.if-begins_with_braces.true)) c.while_stmt.ensures
+pub loops::for_stmt-returns-then-begins_with_braces : goal.loops::for_stmt-returns-then-begins_with_braces
+loops::for_stmt-returns-then-begins_with_braces t c = rw (for_ever (parsers c.args.depth) c.args.tokens.now c.in-Some.rest.now (one c.in-Some.word) c.in-Some.ensures (sym c.begins_with-is_range.ensures ∙ c.if-is_range.false) (sym c.begins_with_semicolon.ensures ∙ c.if-begins_with_semicolon.false) (sym c.begins_with_braces.ensures ∙ c.if-begins_with_braces.true)) c.while_stmt.ensures
 
-pub stmts::for_stmt-returns-in_err-targets : goal.stmts::for_stmt-returns-in_err-targets
-stmts::for_stmt-returns-in_err-targets t c =
+pub loops::for_stmt-returns-in_err-targets : goal.loops::for_stmt-returns-in_err-targets
+loops::for_stmt-returns-in_err-targets t c =
     let fails : Fails c.in_err-targets.field-0.0 (for_in (parsers c.args.depth) c.args.tokens.now) =
-    for_no_targets (parsers c.args.depth) c.args.tokens.now c.in_ok-word.rest.now (one c.in_ok-word.word) c.in_ok-word.ensures (sym c.begins_with-is_range.ensures ∙ c.if-is_range.false) (sym c.begins_with_semicolon.ensures ∙ c.if-begins_with_semicolon.false) (sym c.begins_with_braces.ensures ∙ c.if-begins_with_braces.false) c.in_err-targets.field-0.0 c.in_err-targets.ensures in
+    for_no_targets (parsers c.args.depth) c.args.tokens.now c.in-Some.rest.now (one c.in-Some.word) c.in-Some.ensures (sym c.begins_with-is_range.ensures ∙ c.if-is_range.false) (sym c.begins_with_semicolon.ensures ∙ c.if-begins_with_semicolon.false) (sym c.begins_with_braces.ensures ∙ c.if-begins_with_braces.false) c.in_err-targets.field-0.0 c.in_err-targets.ensures in
     search rules
 
-pub stmts::for_stmt-returns : goal.stmts::for_stmt-returns
-stmts::for_stmt-returns t c = rw (for_targets (parsers c.args.depth) c.args.tokens.now c.in_ok-word.rest.now (one c.in_ok-word.word) c.in_ok-word.ensures (sym c.begins_with-is_range.ensures ∙ c.if-is_range.false) (sym c.begins_with_semicolon.ensures ∙ c.if-begins_with_semicolon.false) (sym c.begins_with_braces.ensures ∙ c.if-begins_with_braces.false) (each view_listed_expr c.in_ok-targets.targets.items) c.in_ok-targets.rest.now c.in_ok-targets.ensures) c.for_rest.ensures
+pub loops::for_stmt-returns : goal.loops::for_stmt-returns
+loops::for_stmt-returns t c = rw (for_targets (parsers c.args.depth) c.args.tokens.now c.in-Some.rest.now (one c.in-Some.word) c.in-Some.ensures (sym c.begins_with-is_range.ensures ∙ c.if-is_range.false) (sym c.begins_with_semicolon.ensures ∙ c.if-begins_with_semicolon.false) (sym c.begins_with_braces.ensures ∙ c.if-begins_with_braces.false) (each view_listed_expr c.in_ok-targets.targets.items) c.in_ok-targets.rest.now c.in_ok-targets.ensures) c.for_rest.ensures
 
 pub stmts::if_arms-loop-init : goal.stmts::if_arms-loop-init
 stmts::if_arms-loop-init t c = first_start (begins_both ElseWord IfWord) (arm_in (parsers c.args.depth) empty) (else_arm_in (parsers c.args.depth)) (each view_if_arm c.in_ok-arms.arms.items) (view_if_arm c.in_ok-first.first) c.args.tokens.now c.in_ok-first.rest.now (length c.in_ok-first.rest.now) 0 c.in_ok-first.ensures (ap (each view_if_arm) c.in_ok-arms.ensures.listed ∙ append-empty (view_if_arm c.in_ok-first.first)) refl refl
@@ -419,8 +415,8 @@ stmts::if_arms-returns-in_err-arm t c =
     many_fails (begins_both ElseWord IfWord) (else_arm_in (parsers c.args.depth)) c.in_err-arm.field-0.0 (length c.in_ok-first.rest.now) c.loop.counter (each view_if_arm c.loop.arms.items) c.loop.rest.now (arms_in (parsers c.args.depth) c.args.tokens.now) c.loop-test.true (sym c.begins_with_both.ensures ∙ c.if-not-begins_with_both.false) c.in_err-arm.ensures c.loop.invariant in
     search rules
 
-pub stmts::if_stmt-returns-then-not-begins_with : goal.stmts::if_stmt-returns-then-not-begins_with
-stmts::if_stmt-returns-then-not-begins_with t c = if_without (parsers c.args.depth) c.args.tokens.now c.in_ok-arms.rest.now (each view_if_arm c.in_ok-arms.arms.items) (boxed_stmt c.in_ok-without_else.field-0) c.in_ok-arms.ensures (sym c.begins_with.ensures ∙ c.if-not-begins_with.true) c.in_ok-without_else.ensures
+pub stmts::if_stmt-returns-in_default : goal.stmts::if_stmt-returns-in_default
+stmts::if_stmt-returns-in_default t c = if_without (parsers c.args.depth) c.args.tokens.now c.in_ok-arms.rest.now (each view_if_arm c.in_ok-arms.arms.items) (boxed_stmt c.in_ok-without_else.field-0) c.in_ok-arms.ensures c.in_default.ensures.found c.in_ok-without_else.ensures
 
 pub stmts::simple-returns-clause-split : goal.stmts::simple-returns-clause-split
 stmts::simple-returns-clause-split t c = c.simple_rest.ensures.split (exprs_list c.args.depth (view_context c.args.context) c.args.tokens.now c.in_ok-targets.rest.now (each view_listed_expr c.in_ok-targets.targets.items) c.requires c.in_ok-targets.ensures)
@@ -440,14 +436,14 @@ stmts::simple_rest-returns-in-Some-clause-split t c = λ list. split_assign c.ar
 pub stmts::simple_rest-returns-in_err-values-2-clause-read : goal.stmts::simple_rest-returns-in_err-values-2-clause-read
 stmts::simple_rest-returns-in_err-values-2-clause-read t c =
     let fails : Fails c.in_err-values-2.field-0.0 (simple_rest_in (parsers c.args.depth) (context_of (view_context c.args.context)) (each view_listed_expr c.args.targets.items) c.args.tokens.now) =
-    defines_nothing (parsers c.args.depth) (view_context c.args.context) (each view_listed_expr c.args.targets.items) c.args.tokens.now c.in_err-values-2.field-0.0 c.in_ok-operator.operator c.in_ok-operator.rest.now c.requires c.in_default.ensures.found (sym c.begins_with.ensures ∙ c.if-begins_with.true) c.in_ok-operator.ensures c.in_err-values-2.ensures in
+    defines_nothing (parsers c.args.depth) (view_context c.args.context) (each view_listed_expr c.args.targets.items) c.args.tokens.now c.in_err-values-2.field-0.0 c.in-Some-next_if.operator c.in-Some-next_if.rest.now c.requires c.in_default.ensures.found c.in-Some-next_if.ensures.found c.in-Some-next_if.ensures.read c.in_err-values-2.ensures in
     search rules
 
-pub stmts::simple_rest-returns-then-begins_with-clause-read : goal.stmts::simple_rest-returns-then-begins_with-clause-read
-stmts::simple_rest-returns-then-begins_with-clause-read t c = defined (parsers c.args.depth) (view_context c.args.context) (each view_listed_expr c.args.targets.items) c.args.tokens.now c.in_ok-operator.operator c.in_ok-operator.rest.now c.in_ok-values-2.rest.now (each view_listed_expr c.in_ok-values-2.values.items) c.requires c.in_default.ensures.found (sym c.begins_with.ensures ∙ c.if-begins_with.true) c.in_ok-operator.ensures c.in_ok-values-2.ensures
+pub stmts::simple_rest-returns-in-Some-next_if-clause-read : goal.stmts::simple_rest-returns-in-Some-next_if-clause-read
+stmts::simple_rest-returns-in-Some-next_if-clause-read t c = defined (parsers c.args.depth) (view_context c.args.context) (each view_listed_expr c.args.targets.items) c.args.tokens.now c.in-Some-next_if.operator c.in-Some-next_if.rest.now c.in_ok-values-2.rest.now (each view_listed_expr c.in_ok-values-2.values.items) c.requires c.in_default.ensures.found c.in-Some-next_if.ensures.found c.in-Some-next_if.ensures.read c.in_ok-values-2.ensures
 
-pub stmts::simple_rest-returns-then-begins_with-clause-split : goal.stmts::simple_rest-returns-then-begins_with-clause-split
-stmts::simple_rest-returns-then-begins_with-clause-split t c = λ list. split_define c.args.targets c.in_ok-operator.operator c.in_ok-values-2.values c.args.tokens.now c.in_ok-operator.rest.now c.in_ok-operator.ensures list
+pub stmts::simple_rest-returns-in-Some-next_if-clause-split : goal.stmts::simple_rest-returns-in-Some-next_if-clause-split
+stmts::simple_rest-returns-in-Some-next_if-clause-split t c = λ list. split_define c.args.targets c.in-Some-next_if.operator c.in_ok-values-2.values c.args.tokens.now c.in-Some-next_if.rest.now c.in-Some-next_if.ensures.read list
 
 pub stmts::statement-returns-then-not-begins_with_both : goal.stmts::statement-returns-then-not-begins_with_both
 stmts::statement-returns-then-not-begins_with_both t c = rw (statement_unlabeled (parsers c.args.depth) c.args.tokens.now (sym c.begins_with_both.ensures ∙ c.if-not-begins_with_both.true)) c.stmt.ensures
@@ -473,15 +469,15 @@ stmts::statement-returns t c =
     labels_before (parsers c.args.depth) c.args.tokens.now (each view_label c.in_ok-labels.labels.items) c.in_ok-labels.rest.now (sym c.begins_with_both.ensures ∙ c.if-not-begins_with_both.false) c.in_ok-labels.ensures (boxed_stmt c.in_ok-stmt.stmt) c.in_ok-stmt.rest.now (ap not (sym c.ends_statement.ensures ∙ c.if-ends_statement.false)) c.in_ok-stmt.ensures
     ∙ ap (λ (tree : Forest). Some (tree, c.in_ok-stmt.rest.now)) (seen_labeled c.in_ok-labels.labels (Some c.in_ok-stmt.stmt) c.in_ok-boxed-2.field-0.value c.in_ok-boxed-2.ensures.ok)
 
-pub stmts::statement_line-returns-then-begins_with_semicolon : goal.stmts::statement_line-returns-then-begins_with_semicolon
-stmts::statement_line-returns-then-begins_with_semicolon t c =
-    line_empty (parsers c.args.depth) c.args.tokens.now c.in_ok-semicolon.rest.now (one c.in_ok-semicolon.semicolon) (sym c.begins_with_semicolon.ensures ∙ c.if-begins_with_semicolon.true) c.in_ok-semicolon.ensures
-    ∙ ap (λ (tree : Forest). Some (tree, c.in_ok-semicolon.rest.now)) (line_seen None (Some c.in_ok-semicolon.semicolon))
+pub stmts::statement_line-returns-in-Some : goal.stmts::statement_line-returns-in-Some
+stmts::statement_line-returns-in-Some t c =
+    line_empty (parsers c.args.depth) c.args.tokens.now c.in-Some.rest.now (one c.in-Some.semicolon) c.in-Some.ensures.found c.in-Some.ensures.read
+    ∙ ap (λ (tree : Forest). Some (tree, c.in-Some.rest.now)) (line_seen None (Some c.in-Some.semicolon))
 
 pub stmts::statement_line-returns : goal.stmts::statement_line-returns
 stmts::statement_line-returns t c =
-    line_read (parsers c.args.depth) c.args.tokens.now c.in_ok-stmt.rest.now c.in_ok-semicolon-2.rest.now (boxed_stmt c.in_ok-stmt.stmt) (token_if c.in_ok-semicolon-2.semicolon) (sym c.begins_with_semicolon.ensures ∙ c.if-begins_with_semicolon.false) c.in_ok-stmt.ensures c.in_ok-semicolon-2.ensures
-    ∙ ap (λ (tree : Forest). Some (tree, c.in_ok-semicolon-2.rest.now)) (line_seen (Some c.in_ok-stmt.stmt) c.in_ok-semicolon-2.semicolon)
+    line_read (parsers c.args.depth) c.args.tokens.now c.in_ok-stmt.rest.now c.in-Some-line_end.rest.now (boxed_stmt c.in_ok-stmt.stmt) (token_if c.in-Some-line_end.semicolon) c.in_default.ensures.found c.in_ok-stmt.ensures c.in-Some-line_end.ensures
+    ∙ ap (λ (tree : Forest). Some (tree, c.in-Some-line_end.rest.now)) (line_seen (Some c.in_ok-stmt.stmt) c.in-Some-line_end.semicolon)
 
 pub stmts::statement_lines-loop-init : goal.stmts::statement_lines-loop-init
 stmts::statement_lines-loop-init t c = many_start (λ tokens. not (ends_statements tokens)) (line_in (parsers c.args.depth)) (length c.args.tokens.now) 0 (each view_stmt_line c.in_ok-lines.lines.items) c.args.tokens.now refl (ap (each view_stmt_line) c.in_ok-lines.ensures.items)
@@ -521,27 +517,23 @@ stmts::stmt-returns-then-begins_with_branch t c = rw (branch_first (parsers c.ar
 pub stmts::stmt-returns : goal.stmts::stmt-returns
 stmts::stmt-returns t c = rw (compound_last (parsers c.args.depth) c.args.tokens.now (sym c.begins_with_decl.ensures ∙ c.if-begins_with_decl.false) (sym c.begins_with-is_go.ensures ∙ c.if-is_go.false) (sym c.begins_with-is_defer.ensures ∙ c.if-is_defer.false) (sym c.begins_with-is_return.ensures ∙ c.if-is_return.false) (sym c.begins_with_branch.ensures ∙ c.if-begins_with_branch.false)) c.compound_stmt.ensures
 
-pub stmts::switch_stmt-returns-in_err-guard : goal.stmts::switch_stmt-returns-in_err-guard
-stmts::switch_stmt-returns-in_err-guard t c =
-    let fails : Fails c.in_err-guard.field-0.0 (switch_in (parsers c.args.depth) c.args.tokens.now) =
-    no_guard (parsers c.args.depth) c.args.tokens.now c.in_ok-word.rest.now c.in_ok-parts.rest.now c.in_ok-word.word (view_header c.in_ok-parts.parts) c.in_ok-word.ensures c.in_ok-parts.ensures c.in_err-guard.field-0.0 (sym c.begins_with.ensures ∙ c.if-begins_with.true) c.in_err-guard.ensures in
-    search rules
+pub stmts::switch_stmt-returns-in_default-guard_of : goal.stmts::switch_stmt-returns-in_default-guard_of
+stmts::switch_stmt-returns-in_default-guard_of t c =
+    no_guard (parsers c.args.depth) c.args.tokens.now c.in-Some.rest.now c.in_ok-parts.rest.now c.in-Some.word (view_header c.in_ok-parts.parts) c.in-Some.ensures c.in_ok-parts.ensures stops.Unexpected (sym c.begins_with.ensures ∙ c.if-begins_with.true) c.in_default-guard_of.ensures
 
-pub stmts::switch_stmt-returns-in_err-suffix : goal.stmts::switch_stmt-returns-in_err-suffix
-stmts::switch_stmt-returns-in_err-suffix t c =
-    let fails : Fails c.in_err-suffix.field-0.0 (switch_in (parsers c.args.depth) c.args.tokens.now) =
-    no_suffix (parsers c.args.depth) c.args.tokens.now c.in_ok-word.rest.now c.in_ok-parts.rest.now c.in_ok-word.word (view_header c.in_ok-parts.parts) c.in_ok-word.ensures c.in_ok-parts.ensures c.in_err-suffix.field-0.0 (view_guard c.in_ok-guard.guard) (sym c.begins_with.ensures ∙ c.if-begins_with.true) c.in_ok-guard.ensures c.in_err-suffix.ensures in
-    search rules
+pub stmts::switch_stmt-returns-in_default-guard_suffix : goal.stmts::switch_stmt-returns-in_default-guard_suffix
+stmts::switch_stmt-returns-in_default-guard_suffix t c =
+    no_suffix (parsers c.args.depth) c.args.tokens.now c.in-Some.rest.now c.in_ok-parts.rest.now c.in-Some.word (view_header c.in_ok-parts.parts) c.in-Some.ensures c.in_ok-parts.ensures stops.Unexpected (view_guard c.in-Some-guard_of.guard) (sym c.begins_with.ensures ∙ c.if-begins_with.true) c.in-Some-guard_of.ensures c.in_default-guard_suffix.ensures
 
 pub stmts::switch_stmt-returns-in_err-body : goal.stmts::switch_stmt-returns-in_err-body
 stmts::switch_stmt-returns-in_err-body t c =
     let fails : Fails c.in_err-body.field-0.0 (switch_in (parsers c.args.depth) c.args.tokens.now) =
-    no_clauses (parsers c.args.depth) c.args.tokens.now c.in_ok-word.rest.now c.in_ok-parts.rest.now c.in_ok-word.word (view_header c.in_ok-parts.parts) c.in_ok-word.ensures c.in_ok-parts.ensures c.in_err-body.field-0.0 (view_guard c.in_ok-guard.guard) (view_suffix c.in_ok-suffix.suffix) c.in_ok-suffix.rest.now (sym c.begins_with.ensures ∙ c.if-begins_with.true) c.in_ok-guard.ensures c.in_ok-suffix.ensures c.in_err-body.ensures in
+    no_clauses (parsers c.args.depth) c.args.tokens.now c.in-Some.rest.now c.in_ok-parts.rest.now c.in-Some.word (view_header c.in_ok-parts.parts) c.in-Some.ensures c.in_ok-parts.ensures c.in_err-body.field-0.0 (view_guard c.in-Some-guard_of.guard) (view_suffix c.in-Some-guard_suffix.suffix) c.in-Some-guard_suffix.rest.now (sym c.begins_with.ensures ∙ c.if-begins_with.true) c.in-Some-guard_of.ensures c.in-Some-guard_suffix.ensures c.in_err-body.ensures in
     search rules
 
 pub stmts::switch_stmt-returns-then-begins_with : goal.stmts::switch_stmt-returns-then-begins_with
 stmts::switch_stmt-returns-then-begins_with t c =
-    guarded (parsers c.args.depth) c.args.tokens.now c.in_ok-word.rest.now c.in_ok-parts.rest.now c.in_ok-word.word (view_header c.in_ok-parts.parts) c.in_ok-word.ensures c.in_ok-parts.ensures (view_guard c.in_ok-guard.guard) (view_suffix c.in_ok-suffix.suffix) (view_body c.in_ok-body.body) c.in_ok-suffix.rest.now c.in_ok-body.rest.now (sym c.begins_with.ensures ∙ c.if-begins_with.true) c.in_ok-guard.ensures c.in_ok-suffix.ensures c.in_ok-body.ensures
+    guarded (parsers c.args.depth) c.args.tokens.now c.in-Some.rest.now c.in_ok-parts.rest.now c.in-Some.word (view_header c.in_ok-parts.parts) c.in-Some.ensures c.in_ok-parts.ensures (view_guard c.in-Some-guard_of.guard) (view_suffix c.in-Some-guard_suffix.suffix) (view_body c.in_ok-body.body) c.in-Some-guard_suffix.rest.now c.in_ok-body.rest.now (sym c.begins_with.ensures ∙ c.if-begins_with.true) c.in-Some-guard_of.ensures c.in-Some-guard_suffix.ensures c.in_ok-body.ensures
     ∙ ap (λ (seen : Option Forest). seen >>= λ tree. Some (tree, c.in_ok-body.rest.now)) c.in_ok-stmt.ensures
 
 pub types::element_lines-loop-init : goal.types::element_lines-loop-init
@@ -676,8 +668,8 @@ exprs::function-returns-then-begins_with_braces t c = grind (arith, view_expr_fu
 pub exprs::function-returns : goal.exprs::function-returns
 exprs::function-returns t c = grind (arith, view_expr_type_form, view_type_expr_function)
 
-pub exprs::selector-returns-then-begins_with : goal.exprs::selector-returns-then-begins_with
-exprs::selector-returns-then-begins_with t c = grind (arith, view_expr_assertion)
+pub exprs::selector-returns-in-Some-next_if : goal.exprs::selector-returns-in-Some-next_if
+exprs::selector-returns-in-Some-next_if t c = grind (arith, view_expr_assertion)
 
 pub exprs::selector-returns : goal.exprs::selector-returns
 exprs::selector-returns t c = grind (arith, view_expr_selector)
@@ -685,17 +677,17 @@ exprs::selector-returns t c = grind (arith, view_expr_selector)
 pub exprs::index-returns : goal.exprs::index-returns
 exprs::index-returns t c = grind (arith, view_expr_index)
 
-pub exprs::slice-returns-then-begins_with : goal.exprs::slice-returns-then-begins_with
-exprs::slice-returns-then-begins_with t c = grind (arith, view_low_slice)
+pub exprs::slice-returns-in-Some-next_if : goal.exprs::slice-returns-in-Some-next_if
+exprs::slice-returns-in-Some-next_if t c = grind (arith, view_low_slice)
 
-pub exprs::slice-returns-then-begins_with-2 : goal.exprs::slice-returns-then-begins_with-2
-exprs::slice-returns-then-begins_with-2 t c = grind (arith, view_high_slice)
+pub exprs::slice-returns-in-Some-next_if-2 : goal.exprs::slice-returns-in-Some-next_if-2
+exprs::slice-returns-in-Some-next_if-2 t c = grind (arith, view_high_slice)
 
 pub exprs::slice-returns : goal.exprs::slice-returns
 exprs::slice-returns t c = grind (arith, view_expr_full_slice)
 
-pub exprs::call-returns-then-begins_with : goal.exprs::call-returns-then-begins_with
-exprs::call-returns-then-begins_with t c = grind (arith, view_expr_call)
+pub exprs::call-returns-in-Some-next_if : goal.exprs::call-returns-in-Some-next_if
+exprs::call-returns-in-Some-next_if t c = grind (arith, view_expr_call)
 
 pub exprs::call-returns : goal.exprs::call-returns
 exprs::call-returns t c = grind (arith, view_expr_call, regroup)
@@ -724,8 +716,8 @@ stmts::return_stmt-returns t c = grind (arith, view_stmt_return)
 pub stmts::if_arm-returns : goal.stmts::if_arm-returns
 stmts::if_arm-returns t c = grind (arith, arm_made)
 
-pub stmts::clause-returns-then-begins_with : goal.stmts::clause-returns-then-begins_with
-stmts::clause-returns-then-begins_with t c = grind (arith, view_case_clause_made)
+pub stmts::clause-returns-in-Some : goal.stmts::clause-returns-in-Some
+stmts::clause-returns-in-Some t c = grind (arith, view_case_clause_made)
 
 pub stmts::clause-returns : goal.stmts::clause-returns
 stmts::clause-returns t c = grind (arith, items_listed, view_case_clause_made)
@@ -733,20 +725,20 @@ stmts::clause-returns t c = grind (arith, items_listed, view_case_clause_made)
 pub stmts::select_stmt-returns : goal.stmts::select_stmt-returns
 stmts::select_stmt-returns t c = grind (arith, view_stmt_select)
 
-pub stmts::comm_clause-returns-then-begins_with : goal.stmts::comm_clause-returns-then-begins_with
-stmts::comm_clause-returns-then-begins_with t c = grind (arith, view_comm_clause_made)
+pub stmts::comm_clause-returns-in-Some : goal.stmts::comm_clause-returns-in-Some
+stmts::comm_clause-returns-in-Some t c = grind (arith, view_comm_clause_made)
 
 pub stmts::comm_clause-returns : goal.stmts::comm_clause-returns
 stmts::comm_clause-returns t c = grind (arith, view_comm_clause_made)
 
-pub stmts::while_stmt-returns : goal.stmts::while_stmt-returns
-stmts::while_stmt-returns t c = grind (arith, view_stmt_while)
+pub loops::while_stmt-returns : goal.loops::while_stmt-returns
+loops::while_stmt-returns t c = grind (arith, view_stmt_while)
 
-pub stmts::for_clauses-returns : goal.stmts::for_clauses-returns
-stmts::for_clauses-returns t c = grind (arith, view_stmt_for, for_made)
+pub loops::for_clauses-returns : goal.loops::for_clauses-returns
+loops::for_clauses-returns t c = grind (arith, view_stmt_for, for_made)
 
-pub stmts::range_stmt-returns : goal.stmts::range_stmt-returns
-stmts::range_stmt-returns t c = grind (arith, view_stmt_range, range_made)
+pub loops::range_stmt-returns : goal.loops::range_stmt-returns
+loops::range_stmt-returns t c = grind (arith, view_stmt_range, range_made)
 
 pub types::paren_type-returns : goal.types::paren_type-returns
 types::paren_type-returns t c = grind (arith, view_type_expr_paren)
@@ -757,8 +749,8 @@ types::pointer_type-returns t c = grind (arith, view_type_expr_pointer)
 pub types::function_type-returns : goal.types::function_type-returns
 types::function_type-returns t c = grind (arith, view_type_expr_function)
 
-pub types::bracket_type-returns-then-begins_with : goal.types::bracket_type-returns-then-begins_with
-types::bracket_type-returns-then-begins_with t c = grind (arith, view_type_expr_slice)
+pub types::bracket_type-returns-in-Some : goal.types::bracket_type-returns-in-Some
+types::bracket_type-returns-in-Some t c = grind (arith, view_type_expr_slice)
 
 pub types::bracket_type-returns : goal.types::bracket_type-returns
 types::bracket_type-returns t c = grind (arith, view_type_expr_array)
@@ -766,8 +758,8 @@ types::bracket_type-returns t c = grind (arith, view_type_expr_array)
 pub types::map_type-returns : goal.types::map_type-returns
 types::map_type-returns t c = grind (arith, view_type_expr_map)
 
-pub types::chan_type-returns-then-begins_with : goal.types::chan_type-returns-then-begins_with
-types::chan_type-returns-then-begins_with t c = grind (arith, view_type_expr_chan, maybe_arrow)
+pub types::chan_type-returns-in-Some : goal.types::chan_type-returns-in-Some
+types::chan_type-returns-in-Some t c = grind (arith, view_type_expr_chan, maybe_arrow)
 
 pub types::chan_type-returns : goal.types::chan_type-returns
 types::chan_type-returns t c = grind (arith, view_type_expr_receive_chan)
@@ -781,14 +773,14 @@ types::struct_type-returns t c = grind (arith, view_type_expr_struct)
 pub types::interface_type-returns : goal.types::interface_type-returns
 types::interface_type-returns t c = grind (arith, view_type_expr_interface)
 
-pub types::field_line-returns-then-begins_with_semicolon : goal.types::field_line-returns-then-begins_with_semicolon
-types::field_line-returns-then-begins_with_semicolon t c = grind (arith, view_field_line_empty)
+pub types::field_line-returns-in-Some : goal.types::field_line-returns-in-Some
+types::field_line-returns-in-Some t c = grind (arith, view_field_line_empty)
 
 pub types::field_line-returns : goal.types::field_line-returns
 types::field_line-returns t c = grind (arith, view_field_line_named, braces_end)
 
-pub types::element_line-returns-then-begins_with_semicolon : goal.types::element_line-returns-then-begins_with_semicolon
-types::element_line-returns-then-begins_with_semicolon t c = grind (arith, view_element_line_empty)
+pub types::element_line-returns-in-Some : goal.types::element_line-returns-in-Some
+types::element_line-returns-in-Some t c = grind (arith, view_element_line_empty)
 
 pub types::element_line-returns-then-begins_with_both : goal.types::element_line-returns-then-begins_with_both
 types::element_line-returns-then-begins_with_both t c = grind (arith, view_element_line_method, braces_end)

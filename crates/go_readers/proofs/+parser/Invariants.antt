@@ -198,17 +198,17 @@ decreases-stmts::defer_stmt l = l.depth * 32 + 1
 abbrev pub decreases-stmts::else_arm : goal.decreases-stmts::else_arm
 decreases-stmts::else_arm l = l.depth * 32 + 8
 
-abbrev pub decreases-stmts::for_clauses : goal.decreases-stmts::for_clauses
-decreases-stmts::for_clauses l = l.depth * 32 + 6
+abbrev pub decreases-loops::for_clauses : goal.decreases-loops::for_clauses
+decreases-loops::for_clauses l = l.depth * 32 + 6
 
-abbrev pub decreases-stmts::for_condition : goal.decreases-stmts::for_condition
-decreases-stmts::for_condition l = l.depth * 32 + 1
+abbrev pub decreases-loops::for_condition : goal.decreases-loops::for_condition
+decreases-loops::for_condition l = l.depth * 32 + 1
 
-abbrev pub decreases-stmts::for_rest : goal.decreases-stmts::for_rest
-decreases-stmts::for_rest l = l.depth * 32 + 7
+abbrev pub decreases-loops::for_rest : goal.decreases-loops::for_rest
+decreases-loops::for_rest l = l.depth * 32 + 7
 
-abbrev pub decreases-stmts::for_stmt : goal.decreases-stmts::for_stmt
-decreases-stmts::for_stmt l = l.depth * 32 + 8
+abbrev pub decreases-loops::for_stmt : goal.decreases-loops::for_stmt
+decreases-loops::for_stmt l = l.depth * 32 + 8
 
 abbrev pub decreases-stmts::go_stmt : goal.decreases-stmts::go_stmt
 decreases-stmts::go_stmt l = l.depth * 32 + 1
@@ -231,8 +231,8 @@ decreases-stmts::if_stmt l = l.depth * 32 + 10
 abbrev pub decreases-stmts::optional_simple : goal.decreases-stmts::optional_simple
 decreases-stmts::optional_simple l = l.depth * 32 + 5
 
-abbrev pub decreases-stmts::range_stmt : goal.decreases-stmts::range_stmt
-decreases-stmts::range_stmt l = l.depth * 32 + 2
+abbrev pub decreases-loops::range_stmt : goal.decreases-loops::range_stmt
+decreases-loops::range_stmt l = l.depth * 32 + 2
 
 abbrev pub decreases-stmts::return_stmt : goal.decreases-stmts::return_stmt
 decreases-stmts::return_stmt l = l.depth * 32 + 3
@@ -273,8 +273,8 @@ decreases-stmts::switch_body l = l.depth * 32 + 5
 abbrev pub decreases-stmts::switch_stmt : goal.decreases-stmts::switch_stmt
 decreases-stmts::switch_stmt l = l.depth * 32 + 7
 
-abbrev pub decreases-stmts::while_stmt : goal.decreases-stmts::while_stmt
-decreases-stmts::while_stmt l = l.depth * 32 + 2
+abbrev pub decreases-loops::while_stmt : goal.decreases-loops::while_stmt
+decreases-loops::while_stmt l = l.depth * 32 + 2
 
 abbrev pub decreases-types::bare_type : goal.decreases-types::bare_type
 decreases-types::bare_type l = l.depth * 32 + 8

@@ -13,3 +13,6 @@ returns-in_err-whole c = grind (arith, groups_end_fails)
 
 pub returns : goal.returns
 returns c = grind (arith, groups_end)
+
+pub returns-in_default-closed : goal.returns-in_default-closed
+returns-in_default-closed c = grind (arith, groups_end)
