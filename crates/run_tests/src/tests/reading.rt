@@ -188,7 +188,7 @@ impl Reader {
             "try" => self.selected(false, words)?,
             "part" => Op::Extract {
                 operand: self.operand_at(words, 0)?,
-                part: number_at(words, 1) as u32,
+                part: number_at(words, 1).min(9) as u32,
             },
             "new" => Op::New(basic(Basic::Int)),
             "load" => Op::Load(self.operand_at(words, 0)?),
