@@ -95,13 +95,7 @@ const TRIES: &[&str] = &[
 ];
 
 /// `go func() { println("g") }(); println("m")`
-const STARTS: &[&str] = &[
-    "func main.main",
-    "block",
-    "go 1",
-    "println 'm",
-    "return",
-];
+const STARTS: &[&str] = &["func main.main", "block", "go 1", "println 'm", "return"];
 
 const SAYS: &[&str] = &["func main.f", "block", "println 'g", "return"];
 

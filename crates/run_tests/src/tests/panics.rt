@@ -32,12 +32,7 @@ const DEFERRING: &[&str] = &[
 
 const SHOWS: &[&str] = &["func main.h int", "block", "println $0", "return"];
 
-const BOOM: &[&str] = &[
-    "func main.g",
-    "block",
-    "any box 'boom",
-    "panic .0",
-];
+const BOOM: &[&str] = &["func main.g", "block", "any box 'boom", "panic .0"];
 
 const SEVEN: &[&str] = &["func main.g", "block", "any box #7", "panic .0"];
 
@@ -126,13 +121,7 @@ const GUARDED: &[&str] = &[
 ];
 
 /// Goes on behind the call.
-const GOES_ON: &[&str] = &[
-    "func main.main",
-    "block",
-    "call 1",
-    "println 'on",
-    "return",
-];
+const GOES_ON: &[&str] = &["func main.main", "block", "call 1", "println 'on", "return"];
 
 /// `println(recover().(string))`
 const RECOVERS: &[&str] = &[
@@ -172,12 +161,7 @@ const PANICS_TWICE: &[&str] = &[
     "return",
 ];
 
-const TWO: &[&str] = &[
-    "func main.g",
-    "block",
-    "any box 'two",
-    "panic .0",
-];
+const TWO: &[&str] = &["func main.g", "block", "any box 'two", "panic .0"];
 
 const RECOVERED: &[Row] = &[
     (

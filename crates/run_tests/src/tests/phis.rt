@@ -74,7 +74,13 @@ const ROWS: &[Row] = &[
         "1 2 3\n2 3 1\n3 1 2\n",
         Ends::Exits(0),
     ),
-    (&[TWICE, DIAMOND], &[], AMPLE, "7 high\n93 low\n", Ends::Exits(0)),
+    (
+        &[TWICE, DIAMOND],
+        &[],
+        AMPLE,
+        "7 high\n93 low\n",
+        Ends::Exits(0),
+    ),
 ];
 
 #[test]

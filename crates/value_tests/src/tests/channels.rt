@@ -320,11 +320,13 @@ fn closed(sched: &mut Sched, chan: Chan) -> Result<Selected, SchedError> {
 /// The index of a case, the value that came, and who goes on.
 fn push_selected(text: &mut Vec<u8>, answer: Result<Selected, SchedError>) -> Result<(), NoMemory> {
     match answer {
-        Ok(Selected::Case {
-            index,
-            value,
-            wakes,
-        }) => {
+        Ok(
+            Selected::Case {
+                index,
+                value,
+                wakes,
+            },
+        ) => {
             push_number(text, u64::from(index))?;
             push_got(text, &value)?;
             return push_wakes(text, wakes);
@@ -400,7 +402,14 @@ fn lists_are_filled(rt: HostRuntime) -> Result<(), Fail> {
     assert!(rt; cases.is_empty());
     cases.push(operation(Case::Receive(FIRST)))?;
     assert_eq!(rt; cases.len(), 1);
-    assert!(rt; matches!(cases.as_slice(), [ChanOp::Receive { chan: Some(ChanId { number: 0 }) }]));
+    assert!(rt;
+        matches!(
+            cases.as_slice(),
+            [ChanOp::Receive {
+                chan: Some(ChanId { number: 0 })
+            }]
+        )
+    );
     let mut wakes = Wakes::new(rt.alloc());
     assert!(rt; wakes.is_empty());
     wakes.push(Wake {

@@ -45,7 +45,11 @@ fn types_are_asserted(rt: HostRuntime) -> Result<(), Fail> {
         assert!(rt; assertion_fault(&value, wanted) == fault, "{words}");
         match (assert_to(rt.alloc(), &types, value, wanted)?, given) {
             (Some(found), Some(given)) => {
-                assert_eq!(rt; shown(rt.alloc(), &found)?.as_slice(), given.as_bytes(), "{words}")
+                assert_eq!(rt;
+                    shown(rt.alloc(), &found)?.as_slice(),
+                    given.as_bytes(),
+                    "{words}"
+                )
             }
             (found, given) => assert!(rt; found.is_none() && given.is_none(), "{words}"),
         }
@@ -78,7 +82,12 @@ fn deep_values_are_compared(rt: HostRuntime) -> Result<(), Fail> {
     let types = types(rt.alloc())?;
     for (first, second, same) in DEEP {
         let first = deep(rt.alloc(), &types, first, 4_999)?;
-        let held = parts(rt.alloc(), None, Some(deep(rt.alloc(), &types, second, 4_998)?), false)?;
+        let held = parts(
+            rt.alloc(),
+            None,
+            Some(deep(rt.alloc(), &types, second, 4_998)?),
+            false,
+        )?;
         let second = sound(to_interface(rt.alloc(), &types, HOLDER, held))?;
         assert_eq!(rt; (first.depth(), second.depth()), (MAX_DEPTH, MAX_DEPTH));
         let found = sound(equal(rt.alloc(), &types, &first, &second))?;

@@ -45,11 +45,7 @@ const COMPARED: &[(&str, &str, Result<bool, Fault>)] = &[
     // Types that are not comparable, up to the first difference.
     ("slice", "slice", Ok(true)),
     ("func", "func", Ok(true)),
-    (
-        "slice ints",
-        "slice ints",
-        Err(Fault::Uncomparable(INTS)),
-    ),
+    ("slice ints", "slice ints", Err(Fault::Uncomparable(INTS))),
     ("slice ints", "1 int", Ok(false)),
     ("slice ints", "nil", Ok(false)),
     (

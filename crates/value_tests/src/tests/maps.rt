@@ -193,7 +193,10 @@ fn nil_maps_are_empty(rt: HostRuntime) -> Result<(), Fail> {
         key: Value::Int(1),
         value: Value::Int(2),
     })?;
-    assert_eq!(rt; listed(rt.alloc(), &entries)?.as_slice(), b"4 1 2;".as_slice());
+    assert_eq!(rt;
+        listed(rt.alloc(), &entries)?.as_slice(),
+        b"4 1 2;".as_slice()
+    );
     Ok(())
 }
 
@@ -207,7 +210,10 @@ fn maps_alone(rt: HostRuntime) -> Result<(), Fail> {
     }
     sound(maps.remove(&types, second, &Value::Int(5)))?;
     let found = sound(maps.get(rt.alloc(), &types, second, &Value::Int(6)))?;
-    assert_eq!(rt; shown(rt.alloc(), &found.ok_or("none")?)?.as_slice(), b"60".as_slice());
+    assert_eq!(rt;
+        shown(rt.alloc(), &found.ok_or("none")?)?.as_slice(),
+        b"60".as_slice()
+    );
     assert!(rt; sound(maps.get(rt.alloc(), &types, first, &Value::Int(6)))?.is_none());
     assert_eq!(rt; (maps.len(first), maps.len(second)), (0, 2));
     assert!(rt; maps.has_entry(second, 1) && !maps.has_entry(second, 0));

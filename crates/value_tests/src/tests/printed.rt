@@ -16,10 +16,7 @@ const INT: TypeId = TypeId {
 /// A fault, and its text.
 const FAULTS: &[(Fault, &str)] = &[
     (
-        Fault::Index {
-            index: -1,
-            len: 5,
-        },
+        Fault::Index { index: -1, len: 5 },
         "index out of range [-1] with length 5",
     ),
     (

@@ -18,9 +18,11 @@ pub const PAIR: TypeId = TypeId { number: 22 };
 pub const HOLDER: TypeId = TypeId { number: 23 };
 /// `struct{x []int}`
 pub const BAG: TypeId = TypeId { number: 24 };
+
 pub const POINTER: TypeId = TypeId { number: 25 };
 /// `map[int]int`
 pub const MAP: TypeId = TypeId { number: 26 };
+
 pub const CHAN: TypeId = TypeId { number: 27 };
 /// `func()`
 pub const FUNC: TypeId = TypeId { number: 28 };

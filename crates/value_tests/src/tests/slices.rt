@@ -89,7 +89,11 @@ fn slices_grow(rt: HostRuntime) -> Result<(), Fail> {
         let old = counted(&mut store, rt.alloc(), *len, *cap)?;
         let items = items.get(..*times).unwrap_or(&[]);
         let new = sound(store.append(1, &old, items))?;
-        assert_eq!(rt; (new.len, new.cap), (*new_len, *new_cap), "{len} {cap} {times}");
+        assert_eq!(rt;
+            (new.len, new.cap),
+            (*new_len, *new_cap),
+            "{len} {cap} {times}"
+        );
         assert_eq!(rt; new.at.is_same(&old.at), *shared, "{len} {cap} {times}");
         sound(store.put_int_at(&sound(element(rt.alloc(), &new, 0))?, 99))?;
         let seen = held(&store, rt.alloc(), &old)?.contains(&Some(99));
@@ -184,8 +188,12 @@ fn elements_are_copied(rt: HostRuntime) -> Result<(), Fail> {
     for (to, from, count, given) in COPIED {
         let mut store = Store::new(rt.alloc());
         let slice = counted(&mut store, rt.alloc(), 5, 5)?;
-        let source = slice_of(slice.copy(rt.alloc())?, *from, 5, 5).ok().ok_or("no part")?;
-        let target = slice_of(slice.copy(rt.alloc())?, *to, 5, 5).ok().ok_or("no part")?;
+        let source = slice_of(slice.copy(rt.alloc())?, *from, 5, 5)
+            .ok()
+            .ok_or("no part")?;
+        let target = slice_of(slice.copy(rt.alloc())?, *to, 5, 5)
+            .ok()
+            .ok_or("no part")?;
         assert_eq!(rt; sound(store.copy_items(&target, &source))?, *count);
         let wanted = given.map(Some);
         assert_eq!(rt; held(&store, rt.alloc(), &slice)?, wanted, "{to} {from}");
@@ -197,7 +205,11 @@ fn elements_are_copied(rt: HostRuntime) -> Result<(), Fail> {
 const CONVERTED: &[(&[u8], &[i128], &[u8])] = &[
     (b"", &[], b""),
     (b"abc", &[97, 98, 99], b"abc"),
-    (b"a\xff\xc3\xa9", &[97, 0xfffd, 233], b"a\xef\xbf\xbd\xc3\xa9"),
+    (
+        b"a\xff\xc3\xa9",
+        &[97, 0xfffd, 233],
+        b"a\xef\xbf\xbd\xc3\xa9",
+    ),
     (b"\xf0\x9f\x99\x82", &[0x1f642], b"\xf0\x9f\x99\x82"),
 ];
 
@@ -207,7 +219,10 @@ fn texts_are_converted(rt: HostRuntime) -> Result<(), Fail> {
     for (text, runes, given) in CONVERTED {
         let text = bytes(rt.alloc(), text)?;
         let slice = sound(bytes_of_text(rt.alloc(), &mut store, &text))?;
-        assert_eq!(rt; (slice.len, slice.cap), (text.len() as u64, text.len() as u64));
+        assert_eq!(rt;
+            (slice.len, slice.cap),
+            (text.len() as u64, text.len() as u64)
+        );
         let back = sound(text_of_bytes(rt.alloc(), &store, &slice))?;
         assert_eq!(rt; back.as_slice(), text.as_slice());
         let slice = sound(runes_of_text(rt.alloc(), &mut store, &text))?;

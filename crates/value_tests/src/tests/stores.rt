@@ -19,7 +19,10 @@ fn two_cells(alloc: Global) -> Result<(Store, CellId, CellId), NoMemory> {
 #[test]
 fn cells_are_loaded(rt: HostRuntime) -> Result<(), Fail> {
     let (store, first, second) = two_cells(rt.alloc())?;
-    assert_eq!(rt; (store.cell_count(), first.number, second.number), (2, 0, 1));
+    assert_eq!(rt;
+        (store.cell_count(), first.number, second.number),
+        (2, 0, 1)
+    );
     let whole = Address::whole(first);
     let value = sound(store.load_at(rt.alloc(), &whole))?;
     assert_eq!(rt; shown(rt.alloc(), &value)?.as_slice(), b"5".as_slice());
@@ -34,7 +37,10 @@ fn cells_are_loaded(rt: HostRuntime) -> Result<(), Fail> {
     assert!(rt; store.load_int(&part) == Ok(7));
     let near = Address::near(rt.alloc(), second, 0)?;
     assert!(rt; store.load_int_at(&near) == Ok(6));
-    assert_eq!(rt; (store.int_at(&near), store.int_at(&whole)), (Some(6), Some(5)));
+    assert_eq!(rt;
+        (store.int_at(&near), store.int_at(&whole)),
+        (Some(6), Some(5))
+    );
     assert!(rt; store.load_int(&base) == Ok(0));
     assert_eq!(rt; store.int_at(&Address::whole(second)), None);
     Ok(())
@@ -54,7 +60,10 @@ fn cells_are_changed(rt: HostRuntime) -> Result<(), Fail> {
     sound(store.put_int(&part, 300))?;
     sound(store.put(&pointer_to(rt.alloc(), second, 0)?, Value::Int(-1)))?;
     let value = sound(store.load_at(rt.alloc(), &Address::whole(second)))?;
-    assert_eq!(rt; shown(rt.alloc(), &value)?.as_slice(), b" -1 300".as_slice());
+    assert_eq!(rt;
+        shown(rt.alloc(), &value)?.as_slice(),
+        b" -1 300".as_slice()
+    );
     let both = parts(rt.alloc(), Some(Value::Int(1)), Some(Value::Int(2)), true)?;
     sound(store.put_at(&Address::whole(second), both))?;
     let value = sound(store.load_at(rt.alloc(), &Address::whole(second)))?;

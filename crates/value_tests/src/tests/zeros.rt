@@ -40,7 +40,11 @@ fn types_have_zero_values(rt: HostRuntime) -> Result<(), Fail> {
     assert!(rt; basic(Basic::Bool) == BOOL);
     for (of, given) in ZEROS {
         let value = zero_value(rt.alloc(), &types, Some(BLANK), *of)?;
-        assert_eq!(rt; shown(rt.alloc(), &value)?.as_slice(), given.as_bytes(), "{of:?}");
+        assert_eq!(rt;
+            shown(rt.alloc(), &value)?.as_slice(),
+            given.as_bytes(),
+            "{of:?}"
+        );
     }
     Ok(())
 }
@@ -63,9 +67,17 @@ fn values_are_copied(rt: HostRuntime) -> Result<(), Fail> {
     let types = types(rt.alloc())?;
     for (words, given, zero) in COPIED {
         let value = made(rt.alloc(), &types, words)?.copy(rt.alloc())?;
-        assert_eq!(rt; shown(rt.alloc(), &value)?.as_slice(), given.as_bytes(), "{words}");
+        assert_eq!(rt;
+            shown(rt.alloc(), &value)?.as_slice(),
+            given.as_bytes(),
+            "{words}"
+        );
         let like = zero_like(rt.alloc(), &value)?;
-        assert_eq!(rt; shown(rt.alloc(), &like)?.as_slice(), zero.as_bytes(), "{words}");
+        assert_eq!(rt;
+            shown(rt.alloc(), &like)?.as_slice(),
+            zero.as_bytes(),
+            "{words}"
+        );
     }
     let (mut number, mut truth) = (Value::Int(7), Value::Truth(true));
     number.put_int(9);
