@@ -47,7 +47,7 @@ const DIVIDES: &[&str] = &[
     "return",
 ];
 
-/// Loads through a nil pointer, which a cell of pointers would hold at first.
+/// Panics with what `recover` gives where nothing panics, which is nil.
 const PANICS_WITH_NIL: &[&str] = &[
     "func main.g",
     "recovery 1",
@@ -106,7 +106,7 @@ fn panics_go_through_frames(rt: HostRuntime) -> Result<(), Fail> {
     Ok(())
 }
 
-/// Calls what panics, with a deferred call that may recover; its result stays 0.
+/// Calls what panics, with a deferred call that may recover.
 const GUARDED: &[&str] = &[
     "func main.f",
     "recovery 1",

@@ -1,8 +1,8 @@
-//! Functions as lines of words. The first line is `func` or `external`, the name and the types of the parameters; `results`
-//! and `recovery` name the results and the recover block, and `block` begins a block with the blocks that lead to it. Any
-//! other line is an instruction, behind the type of its register where it gives one; registers are numbered in the order
-//! of the lines. An operand is `.0` (a register), `$0` (a parameter), `#0` (an integer), `'a` (a string) or `nil` (a
-//! channel). A function is named by its number.
+//! Functions as lines of words. The first line is `func` or `external`, the name and the types of the parameters.
+//! `results` and `recovery` name the results and the recover block, and `block` begins a block with the blocks that
+//! lead to it. Any other line is an instruction, behind the type of its register where it gives one; registers are
+//! numbered in the order of the lines. An operand is `.0` (a register), `$0` (a parameter), `#0` (an integer), `'a` (a
+//! string) or `nil` (a channel). A function is named by its number.
 
 use crate::tests::kinds::Kinds;
 use crate::tests::rigs::Lines;
