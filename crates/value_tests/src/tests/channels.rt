@@ -213,7 +213,7 @@ const WAITED: Script = &[
     (Act::Do(Case::Send(FIRST, 8)), "0; 1.1 got 8"),
 ];
 
-/// With the choices 2, 4 and 0: the current goroutine, then those behind it in cyclic order; one that yields stands last.
+/// With the choices 2, 4, 0: the current goroutine, then those behind it in cyclic order; one that yields stands last.
 const SWITCHED: Script = &[
     (Act::Spawn, "1"),
     (Act::Spawn, "2"),

@@ -141,9 +141,9 @@ pub fn sound<T: Drop>(answer: Result<T, ValueError>) -> Result<T, NoMemory> {
     }
 }
 
-/// The value of a line of words, which are the operations of a stack. `5` is an integer and `'a` a string; `nil` is the nil
-/// interface, `slice` and `func` are nil; `one` is a struct or an array of the last value, `two` of the last two, `blank`
-/// the same with a last field named `_`; a type makes an interface of the last value.
+/// The value of a line of words, which are operations of a stack. `5` is an integer and `'a` a string; `nil` is the nil
+/// interface, `slice` and `func` are nil; `one` is a struct of the last value, `two` of the last two, `blank` of these
+/// with a last field named `_`; a type makes an interface of the last value.
 pub fn made(alloc: Global, types: &Types, line: &str) -> Result<Value, NoMemory> {
     let mut stack = Vec::new(alloc);
     for word in line.split_whitespace() {

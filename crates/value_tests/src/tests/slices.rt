@@ -1,4 +1,4 @@
-//! Slices. Go specification, "Slice expressions", "Appending to and copying slices" and "Making slices, maps and channels".
+//! Slices. Go specification, "Slice expressions", "Appending to and copying slices" and "Making slices".
 
 use crate::tests::rigs::{bytes, parts, settled, shown, sound};
 use go_base::NoMemory;
@@ -173,8 +173,8 @@ fn arrays_are_sliced(rt: HostRuntime) -> Result<(), Fail> {
     Ok(())
 }
 
-/// Where the target and the source of a copy begin in a slice of 0, 1, 2, 3 and 4, how many are copied, and what stands there
-/// then.
+/// Where the target and the source of a copy begin in a slice of 0, 1, 2, 3 and 4, how many are copied, and what
+/// stands there then.
 const COPIED: &[(i128, i128, u64, [i128; 5])] = &[
     (1, 0, 4, [0, 0, 1, 2, 3]),
     (0, 1, 4, [1, 2, 3, 4, 4]),
