@@ -110,15 +110,24 @@ fn turn(
     Ok(Some(entry.key))
 }
 
-/// The keys that a range over 1, 2 and 3 meets, where each turn changes the map.
-fn ranged(alloc: Global, types: &Types, store: &mut Store) -> Result<Vec<u8>, NoMemory> {
+/// A map of 1, 2 and 3.
+fn filled(alloc: Global, types: &Types, store: &mut Store) -> Result<MapId, NoMemory> {
     let map = store.make_map()?;
     for done in [Act::Put("1", 1), Act::Put("2", 2), Act::Put("3", 3)] {
         make_act(alloc, types, store, map, done)?;
     }
+    Ok(map)
+}
+
+/// The keys that a range over 1, 2 and 3 meets, where each turn changes the map.
+fn ranged(alloc: Global, types: &Types, store: &mut Store) -> Result<Vec<u8>, NoMemory> {
+    let map = filled(alloc, types, store)?;
     let mut text = Vec::new(alloc);
     let mut left = store.entry_numbers(alloc, Some(map))?;
-    while let Some(number) = left.pop() {
+    for _ in 0..left.len() {
+        let Some(number) = left.pop() else {
+            return Ok(text);
+        };
         if let Some(key) = turn(alloc, types, store, map, number)? {
             push_shown(&mut text, &key)?;
         }
