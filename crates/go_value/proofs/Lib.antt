@@ -1,11 +1,5 @@
 pub mod Wraps
 pub mod Shifts
-pub mod Variants
-pub mod DepthOf
-pub mod Boxed
-pub mod KindOf
-pub mod Written
 pub mod ZeroOf
-pub mod Mapped
 pub mod ZeroTo
 pub mod RuneAt

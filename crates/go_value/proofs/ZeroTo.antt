@@ -1,16 +1,13 @@
 -- Zero values of types.
-use Rattle.std.proofs.Common.{◌≡◌, ◌<◌, ◌≤◌, ◌+◌, ap, refl, sym, subst, ◌∙◌, map, false, List, [], ◌∷◌, ◌++◌, Bool, Option, None, Some, ℕ, zero, suc, drop, get_or, length, replicate, append_assoc, option_map, ◌-◌}
-use Rattle.std.proofs.lemmas.List.{at_drop_more, map-append, drop_all, append-nil}
+use Rattle.std.proofs.Common.{◌≡◌, ◌<◌, ◌≤◌, ◌+◌, ap, refl, sym, subst, ◌∙◌, false, List, [], ◌∷◌, ◌++◌, Bool, Option, None, Some, ℕ, zero, suc, drop, get_or, length, replicate, append_assoc, option_map, ◌-◌}
+use Rattle.std.proofs.lemmas.List.{at_drop_more, drop_all, append-nil}
 use lib.ListN.{replicate-append-replicate}
 use native.Mathlib.Numerals.{sub-one}
 use Rattle.go_base.specs.declared.ids.NameId.{NameId}
 use Rattle.go_base.specs.declared.ids.TypeId.{TypeId}
 use Rattle.go_type.specs.declared.term.TypeTerm.{TypeTerm}
 use Rattle.go_type.specs.declared.term.TypeTerm.TheVariants as term
-use Rattle.go_value.specs.Values.{Val, Field, parts, parts_of, none, part_of, value_of}
-use Rattle.go_value.specs.declared.values.Part.{Part}
-use Rattle.go_value.specs.declared.values.Value.{Value}
-use Rattle.go_value.proofs.Variants.{part_is}
+use Rattle.go_value.specs.Values.{Val, Field, parts, parts_of, none}
 use Rattle.go_value.specs.Zeros.{zero_of_term, zero_to, parts_by, with_part, all_parts, array_of, plain}
 use Rattle.go_type.specs.Assignable.{underlying_term_of}
 use Rattle.go_type.specs.Table.{Table, is_name}
@@ -103,27 +100,23 @@ module _ (depth : ℕ) (types : Table) (blank : Option NameId) (of : TypeId) (t 
 
 -- ---- an array
 
-pub one_more_element : (xs : List Part) (p : Part) (v : Value) (n : ℕ) (z : Val) → map part_of xs ≡ replicate n (plain z) → p ≡ record { value = v; blank = false } → value_of v ≡ z → map part_of (xs ++ p ∷ []) ≡ replicate (n + 1) (plain z)
-one_more_element xs p v n z before is same =
-    map-append part_of xs (p ∷ []) ∙ ap (λ l. l ++ part_of p ∷ []) before
-    ∙ ap (λ (q : Field). replicate n (plain z) ++ q ∷ []) (ap part_of is ∙ part_is (record { value = v; blank = false }) ∙ ap plain same)
-    ∙ replicate-append-replicate n 1 (plain z)
+pub one_more_element : (xs : List Field) (p : Field) (n : ℕ) (z : Val) → xs ≡ replicate n (plain z) → p ≡ plain z → xs ++ p ∷ [] ≡ replicate (n + 1) (plain z)
+one_more_element xs p n z before is =
+    ap (λ l. l ++ p ∷ []) before ∙ ap (λ (q : Field). replicate n (plain z) ++ q ∷ []) is ∙ replicate-append-replicate n 1 (plain z)
 
 -- ---- the loops over fields and over the parts of tuples
 
 module _ {A : Type 0} (f : A → Option Val) (b : A → Bool) (items : List A) where
-  pub first_part : (made : List Part) → made ≡ [] → done_then (map part_of made) (parts_by f b (drop 0 items)) ≡ parts_by f b items
-  first_part made is = ap (λ (l : List Part). done_then (map part_of l) (parts_by f b items)) is ∙ none_done (parts_by f b items)
+  pub first_part : (made : List Field) → made ≡ [] → done_then made (parts_by f b (drop 0 items)) ≡ parts_by f b items
+  first_part made is = ap (λ (l : List Field). done_then l (parts_by f b items)) is ∙ none_done (parts_by f b items)
 
-  pub next_part : (made more : List Part) (i : ℕ) (d x : A) (v : Value) (m : Bool) → done_then (map part_of made) (parts_by f b (drop i items)) ≡ parts_by f b items → i < length items → x ≡ get_or items i d → f x ≡ Some (value_of v) → b x ≡ m → more ≡ made ++ record { value = v; blank = m } ∷ [] → done_then (map part_of more) (parts_by f b (drop (i + 1) items)) ≡ parts_by f b items
+  pub next_part : (made more : List Field) (i : ℕ) (d x : A) (v : Val) (m : Bool) → done_then made (parts_by f b (drop i items)) ≡ parts_by f b items → i < length items → x ≡ get_or items i d → f x ≡ Some v → b x ≡ m → more ≡ made ++ record { value = v; blank = m } ∷ [] → done_then more (parts_by f b (drop (i + 1) items)) ≡ parts_by f b items
   next_part made more i d x v m before below is value blank pushed =
-      let p : Part = record { value = v; blank = m } in
-      ap (λ (l : List Part). done_then (map part_of l) (parts_by f b (drop (i + 1) items))) pushed
-      ∙ ap (λ (l : List Field). done_then l (parts_by f b (drop (i + 1) items))) (map-append part_of made (p ∷ []) ∙ ap (λ (q : Field). map part_of made ++ q ∷ []) (part_is p))
-      ∙ next_done f b items i d x (map part_of made) (record { value = value_of v; blank = m }) (parts_by f b items) before below is value blank
+      ap (λ (l : List Field). done_then l (parts_by f b (drop (i + 1) items))) pushed
+      ∙ next_done f b items i d x made (record { value = v; blank = m }) (parts_by f b items) before below is value blank
 
-  pub last_part : (made : List Part) (i : ℕ) (v : Val) → done_then (map part_of made) (parts_by f b (drop i items)) ≡ parts_by f b items → length items ≤ i → v ≡ parts (parts_of (map part_of made)) → all_parts (parts_by f b items) ≡ Some v
+  pub last_part : (made : List Field) (i : ℕ) (v : Val) → done_then made (parts_by f b (drop i items)) ≡ parts_by f b items → length items ≤ i → v ≡ parts (parts_of made) → all_parts (parts_by f b items) ≡ Some v
   last_part made i v before end is =
-      all_done f b items i (map part_of made) (parts_by f b items) before (drop_all i items end)
-      ∙ ap (λ (l : List Field). Some (parts (parts_of l))) (append-nil (map part_of made))
+      all_done f b items i made (parts_by f b items) before (drop_all i items end)
+      ∙ ap (λ (l : List Field). Some (parts (parts_of l))) (append-nil made)
       ∙ ap Some (sym is)

@@ -1,7 +1,7 @@
 -- How deep values are.
 use Rattle.std.specs.Prelude.{ℕ, ◌+◌, ◌-◌, ◌^◌, max, min}
-use Rattle.go_value.specs.Values.{Val, Parts}
-use Rattle.go_value.specs.Values as vals
+use Rattle.go_value.specs.Plain.{Val, Parts}
+use Rattle.go_value.specs.Plain as vals
 
 abbrev mutual
   -- one more than the greatest depth among the parts, the value in the interface and the bound receiver

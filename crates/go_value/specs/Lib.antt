@@ -1,6 +1,10 @@
 pub mod Address
 pub mod Ints
+pub mod Plain
 pub mod Values
+pub mod Counts
+pub mod Falls
+pub mod Signs
 pub mod Depths
 pub mod Gives
 pub mod Interfaces

@@ -8,7 +8,7 @@ ghost use Rattle.go_value.specs.Values.{value_of};
 use crate::depths::MAX_DEPTH;
 use crate::faults::{Fault, ValueError};
 use crate::memory::{lost, shared};
-use crate::values::{BoundTarget, Dynamic, FuncValue, Value};
+use crate::values::{BoundTarget, Dynamic, FuncValue, Receiver, Value};
 use go_base::{NoMemory, TypeId};
 use go_type::{TypeTerm, Types, implements};
 use std::alloc::Global;
@@ -22,7 +22,6 @@ fn is_interface(types: &Types, of: TypeId) -> bool
 
 /// A value of a type, converted to an interface type. A value of an interface type stays as it is. `TooDeep` exactly
 /// where the result would have a depth above 10,000.
-#[tactic(auto, using(crate::proofs::Boxed::boxed))]
 pub fn to_interface(
     alloc: Global,
     types: &Types,
@@ -34,20 +33,30 @@ pub fn to_interface(
     if is_interface(types, of) {
         return Ok(value);
     }
-    if value.depth() >= MAX_DEPTH {
+    let inner_depth = value.depth();
+    if inner_depth >= MAX_DEPTH {
         return Err(ValueError::Fault(Fault::TooDeep));
     }
-    Ok(Value::Interface(shared(alloc, Dynamic { of, value })?))
+    let dynamic = Dynamic {
+        of,
+        value,
+        inner_depth,
+    };
+    Ok(Value::Interface(shared(alloc, dynamic)?))
 }
 
 /// The value of a method with its receiver. `TooDeep` exactly where it would have a depth above 10,000.
-#[tactic(auto, using(crate::proofs::Boxed::boxed))]
 pub fn bind(alloc: Global, target: BoundTarget, receiver: Value) -> Result<Value, ValueError>
     ensures { Gives value_of result (bound_to target (value_of receiver)) }
 {
-    if receiver.depth() >= MAX_DEPTH {
+    let inner_depth = receiver.depth();
+    if inner_depth >= MAX_DEPTH {
         return Err(ValueError::Fault(Fault::TooDeep));
     }
+    let receiver = Receiver {
+        value: receiver,
+        inner_depth,
+    };
     let receiver = Box::new(alloc, receiver)?;
     Ok(Value::function(alloc, FuncValue::Bound { target, receiver })?)
 }
@@ -55,7 +64,6 @@ pub fn bind(alloc: Global, target: BoundTarget, receiver: Value) -> Result<Value
 /// What an assertion of a type makes of a value in an interface: an interface of the same value where the type is one of
 /// interfaces and the dynamic type implements it, and else the value itself where that is its type. None where the
 /// assertion does not hold.
-#[tactic(auto, using(crate::proofs::Boxed::boxed))]
 pub fn assert_to(
     alloc: Global,
     types: &Types,
@@ -68,15 +76,15 @@ pub fn assert_to(
         Value::NilInterface => Ok(None),
         Value::Interface(dynamic) => {
             if is_interface(types, to) {
-                if !implements(types, dynamic.of, to) {
+                if !implements(types, dynamic.of(), to) {
                     return Ok(None);
                 }
                 return Ok(Some(value));
             }
-            if dynamic.of != to {
+            if dynamic.of() != to {
                 return Ok(None);
             }
-            Ok(Some(dynamic.value.copy(alloc)?))
+            Ok(Some(dynamic.value().copy(alloc)?))
         }
         _ => Err(lost()),
     }
@@ -93,12 +101,11 @@ pub fn assertion_fault(value: &Value, wanted: TypeId) -> Fault
 }
 
 /// The type of what an interface holds.
-#[tactic(auto, using(crate::proofs::Boxed::dynamic_types))]
 fn dynamic_type(value: &Value) -> Option<TypeId>
     ensures { result ≡ dynamic_type (value_of value.now) }
 {
     match value {
-        Value::Interface(dynamic) => Some(dynamic.of),
+        Value::Interface(dynamic) => Some(dynamic.of()),
         Value::Truth(_)
         | Value::Int(_)
         | Value::Text(_)

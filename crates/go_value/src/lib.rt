@@ -20,5 +20,5 @@ pub use interfaces::{assert_to, assertion_fault, bind, to_interface};
 pub use ints::{convert_int, int_op, shift_op};
 pub use runes::{decode_rune, push_rune, text_of_int};
 pub use texts::{MAX_TEXT, check_index, concat, text_slice};
-pub use values::{BoundTarget, Dynamic, FuncValue, Part, RangeState, Value};
+pub use values::{BoundTarget, Dynamic, FuncValue, Part, RangeState, Receiver, Value};
 pub use zeros::{zero_like, zero_value};

@@ -1,7 +1,7 @@
 //! Values.
 
-ghost use Rattle.std.specs.Prelude.{◌≡◌, IfOk, false, map};
-ghost use Rattle.go_value.specs.Values.{value_of, range_of, function_of, part_of, parts_of};
+ghost use Rattle.std.specs.Prelude.{◌≡◌, IfOk, false};
+ghost use Rattle.go_value.specs.Values.{value_of, range_of, function_of, parts_of};
 ghost use Rattle.go_value.specs.Kinds.{renumbered};
 ghost use Rattle.go_value.specs.Values as vals;
 
@@ -9,6 +9,7 @@ use crate::address::{Address, SliceValue};
 use crate::memory::shared;
 use go_base::{Bytes, ChanId, FuncId, MapId, NameId, NoMemory, TypeId};
 use std::alloc::Global;
+use std::marker::Model;
 use std::rc::Rc;
 
 /// A value. What owns memory is shared, so that a copy takes none.
@@ -50,7 +51,7 @@ impl Drop for Value {
     }
 }
 
-/// An element or a field.
+/// An element or a field. A contract sees what its value is.
 #[cycle(value)]
 pub struct Part {
     pub value: Value,
@@ -68,11 +69,34 @@ impl Drop for Part {
     }
 }
 
-/// What an interface holds. The type is no interface.
+impl Model for Part {
+    ghost use Rattle.std.specs.Coded.{codes};
+    ghost use Rattle.go_value.specs.Plain.{Field};
+    ghost use Rattle.go_value.specs.Counts.{count};
+    ghost use Rattle.go_value.specs.Signs.{field_code};
+
+    ghost Value = { Field };
+
+    ghost coded = { field_code (Prim.hlevel codes) };
+
+    ghost use Rattle.go_value.specs.Values.{value_of};
+
+    ghost view = { λ p. record { value = value_of p.value; blank = p.blank } };
+
+    ghost size = { λ f. count f.value };
+
+    ghost use Rattle.go_value.specs.Falls.{values_fall};
+
+    ghost size_decreases = { λ p _. values_fall p.value };
+}
+
+/// What an interface holds: a value and its type, which is no interface. A contract sees what the value is.
 #[cycle(value)]
 pub struct Dynamic {
-    pub of: TypeId,
-    pub value: Value,
+    pub(crate) of: TypeId,
+    pub(crate) value: Value,
+    /// The depth of the value.
+    pub(crate) inner_depth: u64,
 }
 
 impl Drop for Dynamic {
@@ -81,8 +105,77 @@ impl Drop for Dynamic {
         let Dynamic {
             of: _of,
             value: _value,
+            inner_depth: _inner_depth,
         } = self;
     }
+}
+
+impl Model for Dynamic {
+    ghost use Rattle.std.specs.Prelude.{◌≡◌};
+    ghost use Rattle.std.specs.Coded.{codes};
+    ghost use Rattle.go_value.specs.Plain.{Typed};
+    ghost use Rattle.go_value.specs.Counts.{count};
+    ghost use Rattle.go_value.specs.Signs.{typed_code};
+
+    ghost Value = { Typed };
+
+    ghost coded = { typed_code (Prim.hlevel codes) (Prim.hlevel codes) };
+
+    ghost use Rattle.go_value.specs.Depths.{depth, capped};
+    ghost use Rattle.go_value.specs.Values.{value_of};
+
+    ghost view = { λ d. record { of = d.of; value = value_of d.value } };
+
+    ghost invariant = { λ d. d.inner_depth ≡ capped (depth (value_of d.value)) };
+
+    ghost size = { λ t. count t.value };
+
+    ghost use Rattle.go_value.specs.Falls.{values_fall};
+
+    ghost size_decreases = { λ d _. values_fall d.value };
+}
+
+/// The receiver that a method value is bound to. A contract sees what it is.
+#[cycle(value)]
+pub struct Receiver {
+    pub(crate) value: Value,
+    /// The depth of the value.
+    pub(crate) inner_depth: u64,
+}
+
+impl Drop for Receiver {
+    #[cycle(drops)]
+    fn drop(self) {
+        let Receiver {
+            value: _value,
+            inner_depth: _inner_depth,
+        } = self;
+    }
+}
+
+impl Model for Receiver {
+    ghost use Rattle.std.specs.Prelude.{◌≡◌};
+    ghost use Rattle.std.specs.Coded.{codes};
+    ghost use Rattle.go_value.specs.Plain.{Val};
+    ghost use Rattle.go_value.specs.Counts.{count};
+    ghost use Rattle.go_value.specs.Signs.{value_code};
+
+    ghost Value = { Val };
+
+    ghost coded = { value_code (Prim.hlevel codes) };
+
+    ghost use Rattle.go_value.specs.Depths.{depth, capped};
+    ghost use Rattle.go_value.specs.Values.{value_of};
+
+    ghost view = { λ r. value_of r.value };
+
+    ghost invariant = { λ r. r.inner_depth ≡ capped (depth (value_of r.value)) };
+
+    ghost size = { count };
+
+    ghost use Rattle.go_value.specs.Falls.{values_fall};
+
+    ghost size_decreases = { λ r _. values_fall r.value };
 }
 
 /// A function value.
@@ -95,7 +188,7 @@ pub enum FuncValue {
     },
     Bound {
         target: BoundTarget,
-        receiver: Box<Value>,
+        receiver: Box<Receiver>,
     },
     Expression {
         receiver: TypeId,
@@ -161,7 +254,6 @@ impl RangeState {
 
 impl Value {
     /// The same value once more. It takes no memory but for the state of a range.
-    #[tactic(auto, using(crate::proofs::Variants::truth_is, crate::proofs::Variants::int_is, crate::proofs::Variants::text_is, crate::proofs::Variants::pointer_is, crate::proofs::Variants::slice_is, crate::proofs::Variants::map_is, crate::proofs::Variants::chan_is, crate::proofs::Variants::func_is, crate::proofs::Variants::nil_interface_is, crate::proofs::Variants::interface_is, crate::proofs::Variants::parts_is, crate::proofs::Variants::iter_is))]
     pub fn copy(&self, alloc: Global) -> Result<Value, NoMemory>
         ensures { IfOk result (λ copy. value_of copy ≡ value_of self.now) }
     {
@@ -182,7 +274,6 @@ impl Value {
     }
 
     /// The value of a text.
-    #[tactic(auto, using(crate::proofs::Variants::text_is))]
     pub fn text(alloc: Global, bytes: Bytes) -> Result<Value, NoMemory>
         ensures { IfOk result (λ value. value_of value ≡ vals.text bytes) }
     {
@@ -190,7 +281,6 @@ impl Value {
     }
 
     /// The value of a slice.
-    #[tactic(auto, using(crate::proofs::Variants::slice_is))]
     pub fn slice(alloc: Global, slice: SliceValue) -> Result<Value, NoMemory>
         ensures { IfOk result (λ value. value_of value ≡ vals.slice slice) }
     {
@@ -198,7 +288,6 @@ impl Value {
     }
 
     /// The value of a function.
-    #[tactic(auto, using(crate::proofs::Variants::func_is))]
     pub fn function(alloc: Global, function: FuncValue) -> Result<Value, NoMemory>
         ensures { IfOk result (λ value. value_of value ≡ function_of function) }
     {
@@ -206,9 +295,8 @@ impl Value {
     }
 
     /// The value of parts.
-    #[tactic(auto, using(crate::proofs::Variants::parts_is))]
     pub fn parts(alloc: Global, parts: Vec<Part>) -> Result<Value, NoMemory>
-        ensures { IfOk result (λ value. value_of value ≡ vals.parts (parts_of (map part_of parts.items))) }
+        ensures { IfOk result (λ value. value_of value ≡ vals.parts (parts_of parts.items)) }
     {
         Ok(Value::Parts(shared(alloc, parts)?))
     }
@@ -229,7 +317,7 @@ impl Value {
 impl Part {
     /// A part that is no field named `_`.
     pub fn plain(value: Value) -> Part
-        ensures { result ≡ record { value = value; blank = false } }
+        ensures { result ≡ record { value = value_of value; blank = false } }
     {
         Part {
             value,

@@ -1,7 +1,7 @@
 //! Zero values. Go specification, "The zero value".
 
-ghost use Rattle.std.specs.Prelude.{◌≡◌, IfOk, Some, None, false, map};
-ghost use Rattle.go_value.specs.Values.{value_of, part_of, parts_of};
+ghost use Rattle.std.specs.Prelude.{◌≡◌, IfOk, Some, None, false};
+ghost use Rattle.go_value.specs.Values.{value_of, parts_of};
 ghost use Rattle.go_value.specs.Values as vals;
 ghost use Rattle.go_type.specs.Table.{is_name};
 ghost use Rattle.go_value.specs.Zeros.{zeroed, zeroed_parts, zero_to, zero_of_term, zero_of_basic, all_parts, parts_by, array_of};
@@ -120,7 +120,6 @@ fn repeated(alloc: Global, value: &Value, len: u64) -> Result<Value, NoMemory>
 }
 
 /// The zero value of a type without parts.
-#[tactic(auto, using(crate::proofs::ZeroOf::zero_leaves))]
 fn zero_leaf(alloc: Global, term: &TypeTerm) -> Result<Value, NoMemory>
     ensures { IfOk result (λ zero. zero_of_term (λ _. None) None (Some term.now) ≡ Some (value_of zero)) }
 {
@@ -136,7 +135,6 @@ fn zero_leaf(alloc: Global, term: &TypeTerm) -> Result<Value, NoMemory>
     }
 }
 
-#[tactic(auto, using(crate::proofs::ZeroOf::zero_leaves, crate::proofs::Variants::text_is))]
 fn zero_basic(alloc: Global, basic: Basic) -> Result<Value, NoMemory>
     ensures { IfOk result (λ zero. zero_of_basic basic ≡ Some (value_of zero)) }
 {
@@ -156,7 +154,6 @@ pub fn zero_like(alloc: Global, value: &Value) -> Result<Value, NoMemory>
 }
 
 #[cycle(zero_like)]
-#[tactic(auto, using(crate::proofs::ZeroOf::zero_parts))]
 fn zero_of(alloc: Global, value: &Value) -> Result<Value, NoMemory>
     ensures { IfOk result (λ zero_value. value_of zero_value ≡ zeroed (value_of value.now)) }
 {
@@ -168,7 +165,7 @@ fn zero_of(alloc: Global, value: &Value) -> Result<Value, NoMemory>
 
 #[cycle(zero_like)]
 fn zeros_of(alloc: Global, parts: &[Part]) -> Result<Value, NoMemory>
-    ensures { IfOk result (λ zero_value. value_of zero_value ≡ vals.parts (zeroed_parts (parts_of (map part_of parts.now)))) }
+    ensures { IfOk result (λ zero_value. value_of zero_value ≡ vals.parts (zeroed_parts (parts_of parts.now))) }
 {
     let mut zeros = Vec::new(alloc);
     for part in parts {
@@ -181,7 +178,6 @@ fn zeros_of(alloc: Global, parts: &[Part]) -> Result<Value, NoMemory>
     Value::parts(alloc, zeros)
 }
 
-#[tactic(auto, using(crate::proofs::ZeroOf::zero_leaves))]
 fn zero_of_leaf(alloc: Global, value: &Value) -> Result<Value, NoMemory>
     ensures { IfOk result (λ zero_value. value_of zero_value ≡ zeroed (value_of value.now)) }
 {

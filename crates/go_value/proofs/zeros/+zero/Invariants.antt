@@ -1,6 +1,5 @@
-use Rattle.std.proofs.Common.{◌≡◌, ◌+◌, ◌*◌, false, map, drop}
+use Rattle.std.proofs.Common.{◌≡◌, ◌+◌, ◌*◌, false, drop}
 use Rattle.go_type.specs.Table.{is_name}
-use Rattle.go_value.specs.Values.{part_of}
 use Rattle.go_value.specs.Zeros.{parts_by, zero_to}
 use Rattle.go_value.proofs.ZeroTo.{done_then}
 use Rattle.go_value.proofs.zeros.+zero.Given as goal
@@ -16,12 +15,12 @@ decreases-zero_parts l = l.depth * 2 + 1
 
 abbrev pub invariant-zero_fields-loop-field : goal.invariant-zero_fields-loop-field
 invariant-zero_fields-loop-field l =
-    done_then (map part_of l.parts.items)
+    done_then l.parts.items
     (parts_by (λ field. zero_to l.depth l.types l.blank field.of) (λ field. is_name l.blank field.name)
     (drop l.field-index l.fields))
     ≡ parts_by (λ field. zero_to l.depth l.types l.blank field.of) (λ field. is_name l.blank field.name) l.fields
 
 abbrev pub invariant-zero_parts-loop-id : goal.invariant-zero_parts-loop-id
 invariant-zero_parts-loop-id l =
-    done_then (map part_of l.parts.items) (parts_by (zero_to l.depth l.types l.blank) (λ _. false) (drop l.id-index l.ids))
+    done_then l.parts.items (parts_by (zero_to l.depth l.types l.blank) (λ _. false) (drop l.id-index l.ids))
     ≡ parts_by (zero_to l.depth l.types l.blank) (λ _. false) l.ids

@@ -1,14 +1,14 @@
-use Rattle.std.proofs.Common.{◌≡◌, ap, ◌∙◌, map, replicate, arith}
+use Rattle.std.proofs.Common.{◌≡◌, ap, ◌∙◌, replicate, arith}
 use Rattle.std.proofs.lemmas.Result.{IfOk-weaker}
-use Rattle.go_value.specs.Values.{value_of, part_of, parts, parts_of}
+use Rattle.go_value.specs.Values.{value_of, parts, parts_of}
 use Rattle.go_value.specs.Zeros.{plain}
 use Rattle.go_value.proofs.ZeroTo.{one_more_element}
 use Rattle.go_value.proofs.zeros.repeated.Goals as goal
 
 pub parts-preserved : goal.parts-preserved
 parts-preserved c =
-    ap (map part_of) c.in_ok-push.ensures.items
-    ∙ one_more_element c.parts.parts.items c.plain.result _ c.parts.counter (value_of c.args.value.now) c.parts.invariant c.plain.ensures c.in_ok-copy.ensures
+    c.in_ok-push.ensures.items
+    ∙ one_more_element c.parts.parts.items c.plain.result c.parts.counter (value_of c.args.value.now) c.parts.invariant (c.plain.ensures ∙ ap plain c.in_ok-copy.ensures)
 
 pub returns : goal.returns
 returns c =

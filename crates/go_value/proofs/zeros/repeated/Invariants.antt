@@ -1,7 +1,7 @@
-use Rattle.std.proofs.Common.{◌≡◌, map, replicate}
-use Rattle.go_value.specs.Values.{value_of, part_of}
+use Rattle.std.proofs.Common.{◌≡◌, replicate}
+use Rattle.go_value.specs.Values.{value_of}
 use Rattle.go_value.specs.Zeros.{plain}
 use Rattle.go_value.proofs.zeros.repeated.Given as goal
 
 abbrev pub invariant-parts : goal.invariant-parts
-invariant-parts l = map part_of l.parts.items ≡ replicate l.counter (plain (value_of l.value))
+invariant-parts l = l.parts.items ≡ replicate l.counter (plain (value_of l.value))
