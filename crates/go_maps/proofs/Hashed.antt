@@ -1,5 +1,5 @@
 -- The code of a key and its fault, part by part.
-use Rattle.std.proofs.Common.{◌≡◌, ◌<◌, ◌≤◌, ◌+◌, ℕ, ap, refl, sym, ◌∙◌, map, List, [], ◌∷◌, ◌++◌, Bool, true, false, Option, Some, None, Err, drop, get_or, length, append_assoc}
+use Rattle.std.proofs.Common.{◌≡◌, ◌<◌, ◌≤◌, ◌+◌, ℕ, ap, refl, sym, ◌∙◌, List, [], ◌∷◌, ◌++◌, Bool, true, false, Option, Some, None, Err, drop, get_or, length, append_assoc}
 use Rattle.std.specs.Prelude.{IsTrue, ◌↔◌}
 use Rattle.std.proofs.lemmas.Bool.{cond-true, cond-false}
 use Rattle.std.proofs.lemmas.List.{append-nil}
@@ -10,15 +10,12 @@ use Rattle.go_value.specs.declared.faults.Fault.{Fault}
 use Rattle.go_value.specs.declared.faults.Fault.TheVariants as fault
 use Rattle.go_value.specs.declared.faults.ValueError.{ValueError}
 use Rattle.go_value.specs.declared.faults.ValueError.TheVariants as errors
-use Rattle.go_value.specs.declared.values.Dynamic.{Dynamic}
-use Rattle.go_value.specs.declared.values.Part.{Part}
 use Rattle.go_value.specs.Values as vals
-use Rattle.go_value.specs.Values.{Val, Field, value_of, dynamic_of, part_of, parts_of, part}
-use Rattle.go_value.proofs.Variants.{part_is}
+use Rattle.go_value.specs.Values.{Val, Field, Typed, parts_of, part}
 use Rattle.go_maps.specs.Equality.{TellsComparable}
 use Rattle.go_maps.specs.Keys.{code, parts_code, part_code, number_code, unhashable, unhashable_in, unhashable_part, first_fault, TellsFault}
 use Rattle.go_maps.proofs.KindsOf.{kind, interfaces, compounds}
-use Rattle.go_maps.proofs.Sames.{dynamic_as, told, not_told, next_part, drop_whole}
+use Rattle.go_maps.proofs.Sames.{told, not_told, next_part, drop_whole}
 
 -- ---- leaves have no fault
 
@@ -42,37 +39,36 @@ leaf_hashes test (vals.map_range x y) h h' = refl
 
 -- ---- values in interfaces
 
-pub dynamic_code : (it : Dynamic) (old one two new : List ℕ) → one ≡ old ++ 1 ∷ [] → two ≡ one ++ number_code it.of.number → new ≡ two ++ code (value_of it.value) → new ≡ old ++ code (vals.dynamic (dynamic_of it).of (dynamic_of it).value)
+pub dynamic_code : (it : Typed) (old one two new : List ℕ) → one ≡ old ++ 1 ∷ [] → two ≡ one ++ number_code it.of.number → new ≡ two ++ code it.value → new ≡ old ++ code (vals.dynamic it.of it.value)
 dynamic_code it old one two new is is' is'' =
-    is'' ∙ ap (λ l. l ++ code (value_of it.value)) is' ∙ ap (λ l. (l ++ number_code it.of.number) ++ code (value_of it.value)) is
-    ∙ append_assoc (old ++ 1 ∷ []) (number_code it.of.number) (code (value_of it.value))
-    ∙ append_assoc old (1 ∷ []) (number_code it.of.number ++ code (value_of it.value))
-    ∙ ap (λ v. old ++ code v) (sym (dynamic_as it))
+    is'' ∙ ap (λ l. l ++ code it.value) is' ∙ ap (λ l. (l ++ number_code it.of.number) ++ code it.value) is
+    ∙ append_assoc (old ++ 1 ∷ []) (number_code it.of.number) (code it.value)
+    ∙ append_assoc old (1 ∷ []) (number_code it.of.number ++ code it.value)
 
-pub unhashable_type : (types : Table) (test : TypeId → Bool) (it : Dynamic) (known : Bool) → TellsComparable types test → (IsTrue known ↔ Comparable types it.of) → known ≡ false → unhashable test (vals.dynamic (dynamic_of it).of (dynamic_of it).value) ≡ Some (fault.Unhashable it.of)
+pub unhashable_type : (types : Table) (test : TypeId → Bool) (it : Typed) (known : Bool) → TellsComparable types test → (IsTrue known ↔ Comparable types it.of) → known ≡ false → unhashable test (vals.dynamic it.of it.value) ≡ Some (fault.Unhashable it.of)
 unhashable_type types test it known tells means no_way =
-    ap (unhashable test) (dynamic_as it) ∙ cond-false (test it.of) _ _ (not_told types test it.of known tells means no_way (test it.of) refl)
+    cond-false (test it.of) _ _ (not_told types test it.of known tells means no_way (test it.of) refl)
 
-pub within_hashes : (types : Table) (test : TypeId → Bool) (it : Dynamic) (known : Bool) → TellsComparable types test → (IsTrue known ↔ Comparable types it.of) → known ≡ true → unhashable test (vals.dynamic (dynamic_of it).of (dynamic_of it).value) ≡ unhashable test (value_of it.value)
+pub within_hashes : (types : Table) (test : TypeId → Bool) (it : Typed) (known : Bool) → TellsComparable types test → (IsTrue known ↔ Comparable types it.of) → known ≡ true → unhashable test (vals.dynamic it.of it.value) ≡ unhashable test it.value
 within_hashes types test it known tells means yes_way =
-    ap (unhashable test) (dynamic_as it) ∙ cond-true (test it.of) _ _ (told types test it.of known tells means yes_way)
+    cond-true (test it.of) _ _ (told types test it.of known tells means yes_way)
 
 -- ---- parts
 
-pub blank_code : (p : Part) (old : List ℕ) → p.blank ≡ true → old ≡ old ++ part_code (part_of p)
-blank_code p old is = sym (ap (λ l. old ++ l) (ap part_code (part_is p) ∙ cond-true p.blank _ _ is) ∙ append-nil old)
+pub blank_code : (p : Field) (old : List ℕ) → p.blank ≡ true → old ≡ old ++ part_code p
+blank_code p old is = sym (ap (λ l. old ++ l) (cond-true p.blank _ _ is) ∙ append-nil old)
 
-pub plain_code : (p : Part) → p.blank ≡ false → part_code (part_of p) ≡ code (value_of p.value)
-plain_code p is = ap part_code (part_is p) ∙ cond-false p.blank _ _ is
+pub plain_code : (p : Field) → p.blank ≡ false → part_code p ≡ code (p.value)
+plain_code p is = cond-false p.blank _ _ is
 
-pub blank_hashes : (test : TypeId → Bool) (p : Part) → p.blank ≡ true → unhashable_part test (part_of p) ≡ None
-blank_hashes test p is = ap (unhashable_part test) (part_is p) ∙ cond-true p.blank _ _ is
+pub blank_hashes : (test : TypeId → Bool) (p : Field) → p.blank ≡ true → unhashable_part test p ≡ None
+blank_hashes test p is = cond-true p.blank _ _ is
 
-pub plain_hashes : (test : TypeId → Bool) (p : Part) → p.blank ≡ false → unhashable_part test (part_of p) ≡ unhashable test (value_of p.value)
-plain_hashes test p is = ap (unhashable_part test) (part_is p) ∙ cond-false p.blank _ _ is
+pub plain_hashes : (test : TypeId → Bool) (p : Field) → p.blank ≡ false → unhashable_part test p ≡ unhashable test (p.value)
+plain_hashes test p is = cond-false p.blank _ _ is
 
-abbrev codes_of : List Part → List ℕ
-codes_of xs = parts_code (parts_of (map part_of xs))
+abbrev codes_of : List Field → List ℕ
+codes_of xs = parts_code (parts_of xs)
 
 first_code : (v : Val) (b : Bool) (rest : List Field) → parts_code (part v b (parts_of rest)) ≡ part_code (record { value = v; blank = b }) ++ parts_code (parts_of rest)
 first_code v true rest = refl
@@ -82,21 +78,21 @@ first_hashes : (test : TypeId → Bool) (v : Val) (b : Bool) (rest : List Field)
 first_hashes test v true rest = refl
 first_hashes test v false rest = refl
 
-pub next_code : (xs : List Part) (i : ℕ) (x : Part) (done more all : List ℕ) → done ++ parts_code (parts_of (map part_of (drop i xs))) ≡ all → i < length xs → x ≡ get_or xs i x → more ≡ done ++ part_code (part_of x) → more ++ parts_code (parts_of (map part_of (drop (i + 1) xs))) ≡ all
+pub next_code : (xs : List Field) (i : ℕ) (x : Field) (done more all : List ℕ) → done ++ parts_code (parts_of (drop i xs)) ≡ all → i < length xs → x ≡ get_or xs i x → more ≡ done ++ part_code x → more ++ parts_code (parts_of (drop (i + 1) xs)) ≡ all
 next_code xs i x done more all before below is pushed =
     ap (λ m. m ++ codes_of (drop (i + 1) xs)) pushed
-    ∙ append_assoc done (part_code (part_of x)) (codes_of (drop (i + 1) xs))
-    ∙ ap (λ l. done ++ l) (sym (first_code (part_of x).value (part_of x).blank (map part_of (drop (i + 1) xs))))
-    ∙ ap (λ (l : List Part). done ++ codes_of l) (sym (next_part xs i x below is))
+    ∙ append_assoc done (part_code x) (codes_of (drop (i + 1) xs))
+    ∙ ap (λ l. done ++ l) (sym (first_code x.value x.blank (drop (i + 1) xs)))
+    ∙ ap (λ (l : List Field). done ++ codes_of l) (sym (next_part xs i x below is))
     ∙ before
 
-pub all_code : (xs : List Part) (i : ℕ) (done all : List ℕ) → done ++ parts_code (parts_of (map part_of (drop i xs))) ≡ all → length xs ≤ i → done ≡ all
-all_code xs i done all before end = sym (append-nil done) ∙ ap (λ (l : List Part). done ++ codes_of l) (sym (drop_whole i xs end)) ∙ before
+pub all_code : (xs : List Field) (i : ℕ) (done all : List ℕ) → done ++ parts_code (parts_of (drop i xs)) ≡ all → length xs ≤ i → done ≡ all
+all_code xs i done all before end = sym (append-nil done) ∙ ap (λ (l : List Field). done ++ codes_of l) (sym (drop_whole i xs end)) ∙ before
 
-pub next_hashes : (test : TypeId → Bool) (xs : List Part) (i : ℕ) (x : Part) → i < length xs → x ≡ get_or xs i x → unhashable_in test (parts_of (map part_of (drop i xs))) ≡ first_fault (unhashable_part test (part_of x)) (unhashable_in test (parts_of (map part_of (drop (i + 1) xs))))
+pub next_hashes : (test : TypeId → Bool) (xs : List Field) (i : ℕ) (x : Field) → i < length xs → x ≡ get_or xs i x → unhashable_in test (parts_of (drop i xs)) ≡ first_fault (unhashable_part test x) (unhashable_in test (parts_of (drop (i + 1) xs)))
 next_hashes test xs i x below is =
-    ap (λ (l : List Part). unhashable_in test (parts_of (map part_of l))) (next_part xs i x below is)
-    ∙ first_hashes test (part_of x).value (part_of x).blank (map part_of (drop (i + 1) xs))
+    ap (λ (l : List Field). unhashable_in test (parts_of l)) (next_part xs i x below is)
+    ∙ first_hashes test x.value x.blank (drop (i + 1) xs)
 
 pub passed : (first later : Option Fault) → first ≡ None → first_fault first later ≡ later
 passed first later is = ap (λ f. first_fault f later) is

@@ -2,14 +2,13 @@
 use Rattle.std.proofs.Common.{◌≡◌, ℕ, refl, ap, sym, subst, ◌∙◌, Bool, true, false, ◌&&◌, Option, Some, None, List, [], ◌∷◌}
 use Rattle.std.specs.Prelude.{IsTrue, ◌↔◌, ◌==◌}
 use Rattle.std.specs.Cmp.Lexicographic.{pointwise}
-use Rattle.std.proofs.Math.Bool.{beq}
 use Rattle.std.proofs.Math.Dec.{eqb}
 use Rattle.std.proofs.lemmas.Bool.{false≢true, eq-eqb, eqb-true}
 use Rattle.go_base.specs.declared.ids.CellId.{CellId}
 use Rattle.go_value.specs.declared.address.Pointer.{Pointer}
 use Rattle.go_value.specs.declared.values.Value.{Value}
 use Rattle.go_value.specs.Values.{Val, value_of}
-use Rattle.go_maps.specs.Equality.{same_leaf, same_bool, same_numbers, same_cell, same_pointer}
+use Rattle.go_maps.specs.Equality.{same_leaf, same_numbers, same_cell, same_pointer}
 
 pub leaf_is : (a b : Value) (va vb : Val) (same : Bool) → value_of a ≡ va → value_of b ≡ vb → same_leaf va vb ≡ same → same ≡ same_leaf (value_of a) (value_of b)
 leaf_is a b va vb same is is' each = sym (ap (λ v. same_leaf v (value_of b)) is ∙ ap (same_leaf va) is' ∙ each)
@@ -60,12 +59,6 @@ pointer_self a b is = subst (λ c. same_pointer a c ≡ true) is (joined (same_c
 
 pub pointer_is_same : (known : Bool) (a b : Pointer) → (IsTrue known ↔ (a ≡ b)) → same_pointer a b ≡ known
 pointer_is_same known a b means = same_if known (same_pointer a b) (λ is. pointer_self a b (means.0 is)) (λ is. means.1 (pointer_same a b is))
-
-pub bool_same : (a b : Bool) → same_bool a b ≡ beq a b
-bool_same true true = refl
-bool_same true false = refl
-bool_same false true = refl
-bool_same false false = refl
 
 pub pointwise_same : (xs ys : List ℕ) → pointwise eqb xs ys ≡ same_numbers xs ys
 pointwise_same [] [] = refl

@@ -1,9 +1,9 @@
 //! Equality of values. Go specification, "Comparison operators".
 
-ghost use Rattle.std.specs.Prelude.{◌≡◌, ◌↔◌, IsTrue, Bool, ◌&&◌, is_none, map};
+ghost use Rattle.std.specs.Prelude.{◌≡◌, ◌↔◌, IsTrue, Bool, ◌&&◌, is_none};
 ghost use Rattle.std.specs.Ordering.{int_eq};
 ghost use Rattle.go_type.specs.Comparable.{Comparable};
-ghost use Rattle.go_value.specs.Values.{value_of, dynamic_of, part_of, parts_of, function_of, dynamic};
+ghost use Rattle.go_value.specs.Values.{value_of, parts_of, function_of, dynamic};
 ghost use Rattle.go_maps.specs.Equality.{Compares, ComparesParts, ComparesPart, same_leaf, same_numbers, same_map};
 ghost use Rattle.go_maps.specs.Equality.{same_chan, is_nil_function, shown_by};
 
@@ -60,22 +60,21 @@ fn same(types: &Types, a: &Value, b: &Value) -> Result<bool, ValueError>
 
 #[cycle(same)]
 fn same_dynamic(types: &Types, a: &Dynamic, b: &Dynamic) -> Result<bool, ValueError>
-    ensures { Compares types.now (dynamic (dynamic_of a.now).of (dynamic_of a.now).value)
-        (dynamic (dynamic_of b.now).of (dynamic_of b.now).value) result }
+    ensures { Compares types.now (dynamic a.now.of a.now.value) (dynamic b.now.of b.now.value) result }
 {
-    if a.of.number != b.of.number {
+    if a.of().number != b.of().number {
         return Ok(false);
     }
-    if !is_comparable(types, a.of) {
-        return Err(ValueError::Fault(Fault::Uncomparable(a.of)));
+    if !is_comparable(types, a.of()) {
+        return Err(ValueError::Fault(Fault::Uncomparable(a.of())));
     }
-    same(types, &a.value, &b.value)
+    same(types, a.value(), b.value())
 }
 
 /// The later parts count where the earlier ones are equal.
 #[cycle(same)]
 fn same_parts(types: &Types, a: &[Part], b: &[Part]) -> Result<bool, ValueError>
-    ensures { ComparesParts types.now (parts_of (map part_of a.now)) (parts_of (map part_of b.now)) result }
+    ensures { ComparesParts types.now (parts_of a.now) (parts_of b.now) result }
 {
     let mut others = b;
     for left in a {
@@ -93,7 +92,7 @@ fn same_parts(types: &Types, a: &[Part], b: &[Part]) -> Result<bool, ValueError>
 /// Fields named `_` are left out.
 #[cycle(same)]
 fn same_part(types: &Types, a: &Part, b: &Part) -> Result<bool, ValueError>
-    ensures { ComparesPart types.now (part_of a.now) (part_of b.now) result }
+    ensures { ComparesPart types.now a.now b.now result }
 {
     if a.blank || b.blank {
         return Ok(a.blank && b.blank);

@@ -1,8 +1,8 @@
 //! Keys of maps, as bytes. Two keys of one type have the same bytes where they are equal.
 
-ghost use Rattle.std.specs.Prelude.{◌≡◌, ◌++◌, ◌∷◌, [], Bool, IfOk, map, length};
+ghost use Rattle.std.specs.Prelude.{◌≡◌, ◌++◌, ◌∷◌, [], Bool, IfOk, length};
 ghost use Rattle.go_base.specs.declared.ids.TypeId.{TypeId};
-ghost use Rattle.go_value.specs.Values.{value_of, dynamic_of, part_of, parts_of, dynamic, chan_number, number as number_value};
+ghost use Rattle.go_value.specs.Values.{value_of, parts_of, dynamic, chan_number, number as number_value};
 ghost use Rattle.go_maps.specs.Keys.{code, parts_code, number_code, steps_code, pointer_code, Hashes, HashesIn, HashesPart, part_code};
 
 use crate::equality::is_comparable;
@@ -46,15 +46,15 @@ fn push_dynamic(
     held: &Dynamic,
     bytes: &mut Vec<u8>,
 ) -> Result<(), ValueError>
-    ensures code { IfOk result (λ _. bytes.new.items ≡ bytes.old.items ++ code (dynamic (dynamic_of held.now).of (dynamic_of held.now).value)) }
-    ensures fault { Hashes types.now (dynamic (dynamic_of held.now).of (dynamic_of held.now).value) result }
+    ensures code { IfOk result (λ _. bytes.new.items ≡ bytes.old.items ++ code (dynamic held.now.of held.now.value)) }
+    ensures fault { Hashes types.now (dynamic held.now.of held.now.value) result }
 {
-    if !is_comparable(types, held.of) {
-        return Err(ValueError::Fault(Fault::Unhashable(held.of)));
+    if !is_comparable(types, held.of()) {
+        return Err(ValueError::Fault(Fault::Unhashable(held.of())));
     }
     push_byte(bytes, 1)?;
-    push_number(bytes, held.of.number)?;
-    push_key(alloc, types, &held.value, bytes)
+    push_number(bytes, held.of().number)?;
+    push_key(alloc, types, held.value(), bytes)
 }
 
 #[cycle(key)]
@@ -64,8 +64,8 @@ fn push_parts(
     parts: &[Part],
     bytes: &mut Vec<u8>,
 ) -> Result<(), ValueError>
-    ensures code { IfOk result (λ _. bytes.new.items ≡ bytes.old.items ++ parts_code (parts_of (map part_of parts.now))) }
-    ensures fault { HashesIn types.now (parts_of (map part_of parts.now)) result }
+    ensures code { IfOk result (λ _. bytes.new.items ≡ bytes.old.items ++ parts_code (parts_of parts.now)) }
+    ensures fault { HashesIn types.now (parts_of parts.now) result }
 {
     for part in parts {
         push_part(alloc, types, part, bytes)?;
@@ -81,8 +81,8 @@ fn push_part(
     part: &Part,
     bytes: &mut Vec<u8>,
 ) -> Result<(), ValueError>
-    ensures code { IfOk result (λ _. bytes.new.items ≡ bytes.old.items ++ part_code (part_of part.now)) }
-    ensures fault { HashesPart types.now (part_of part.now) result }
+    ensures code { IfOk result (λ _. bytes.new.items ≡ bytes.old.items ++ part_code part.now) }
+    ensures fault { HashesPart types.now part.now result }
 {
     if part.blank {
         return Ok(());
@@ -90,7 +90,6 @@ fn push_part(
     push_key(alloc, types, &part.value, bytes)
 }
 
-#[tactic(auto, using(crate::proofs::CodesOf::leaf_codes))]
 fn push_leaf(alloc: Global, key: &Value, bytes: &mut Vec<u8>) -> Result<(), NoMemory>
     ensures { IfOk result (λ _. bytes.new.items ≡ bytes.old.items ++ code (value_of key.now)) }
 {

@@ -19,7 +19,6 @@ pub(crate) enum Look {
     Other(Bytes),
 }
 
-#[tactic(auto, using(crate::proofs::CodesOf::int_key))]
 pub(crate) fn look_of(alloc: Global, types: &Types, key: &Value) -> Result<Look, ValueError>
     ensures code { IfOk result (λ look. looked_up look ≡ key_code (value_of key.now)) }
     ensures fault { Hashes types.now (value_of key.now) result }

@@ -1,44 +1,17 @@
-use Rattle.std.proofs.Common.{◌≡◌, ◌∙◌, ◌++◌, ◌+◌, ap, sym, subst, IfOk, Err, List, map, drop}
-use Rattle.std.specs.Global.{Vec}
-use Rattle.std.proofs.lemmas.Result.{IfOk-weaker, err_from_is_err_and}
-use Rattle.go_value.specs.declared.values.Dynamic.{Dynamic}
+use Rattle.std.proofs.Common.{arith, ◌*◌, ◌≡◌, ◌∙◌, ◌+◌, ap, sym, subst, Err, List, drop}
+use Rattle.std.proofs.lemmas.Result.{err_from_is_err_and}
+use Rattle.go_value.specs.declared.values.Dynamic.TheDeep.{deep-Value}
+use Rattle.go_value.specs.declared.values.Value.TheVariants as values
 use Rattle.go_value.specs.declared.values.Part.{Part}
+use Rattle.go_value.specs.Counts.{count}
+use Rattle.go_value.specs.Falls.{heaviest, values_fall}
 use Rattle.go_value.specs.Values as vals
-use Rattle.go_value.specs.Values.{value_of, dynamic_of, part_of, parts_of}
-use Rattle.go_value.proofs.Variants.{interface_is, parts_is}
-use Rattle.go_maps.specs.Keys.{code, Hashes, TellsFault, unhashable_part, unhashable_in}
-use Rattle.go_maps.proofs.Hashed.{leaf_hashes, dynamic_code, unhashable_type, within_hashes, blank_code, plain_code, blank_hashes, plain_hashes, next_code, all_code, next_hashes, passed, failed}
+use Rattle.go_value.specs.Values.{Typed, value_of, parts_of}
+use Rattle.go_maps.specs.Keys.{Hashes, TellsFault, unhashable_part, unhashable_in}
+use Rattle.go_maps.proofs.Hashed.{leaf_hashes, next_code, all_code, next_hashes, passed, failed}
 use Rattle.go_maps.proofs.KindsOf.{interface_of, compound_of}
 use Rattle.go_maps.proofs.Sames.{drop_whole}
 use Rattle.go_maps.proofs.keys.+key.Goals as goal
-
-pub push_key-returns-in-Interface-clause-code : goal.push_key-returns-in-Interface-clause-code
-push_key-returns-in-Interface-clause-code t c =
-    let x = c.deref.result.now in
-    let is : value_of c.args.key.now ≡ vals.dynamic (dynamic_of x).of (dynamic_of x).value =
-    ap value_of c.in-Interface.is ∙ interface_is c.in-Interface.dynamic ∙ ap (λ (d : Dynamic). vals.dynamic (dynamic_of d).of (dynamic_of d).value) (sym c.deref.ensures) in
-    subst (λ v. IfOk c.push_dynamic.result (λ _. c.push_dynamic.new.bytes.items ≡ c.args.bytes.now.items ++ code v)) (sym is) c.push_dynamic.ensures.code
-
-pub push_key-returns-in-Interface-clause-fault : goal.push_key-returns-in-Interface-clause-fault
-push_key-returns-in-Interface-clause-fault t c =
-    let x = c.deref.result.now in
-    let is : value_of c.args.key.now ≡ vals.dynamic (dynamic_of x).of (dynamic_of x).value =
-    ap value_of c.in-Interface.is ∙ interface_is c.in-Interface.dynamic ∙ ap (λ (d : Dynamic). vals.dynamic (dynamic_of d).of (dynamic_of d).value) (sym c.deref.ensures) in
-    subst (λ v. Hashes c.args.types.now v c.push_dynamic.result) (sym is) c.push_dynamic.ensures.fault
-
-pub push_key-returns-in-Parts-clause-code : goal.push_key-returns-in-Parts-clause-code
-push_key-returns-in-Parts-clause-code t c =
-    let xs = c.as_slice.result.now in
-    let is : value_of c.args.key.now ≡ vals.parts (parts_of (map part_of xs)) =
-    ap value_of c.in-Parts.is ∙ parts_is c.in-Parts.parts ∙ ap (λ (ps : List Part). vals.parts (parts_of (map part_of ps))) (sym (c.as_slice.ensures.value ∙ ap (λ (v : Vec Part). v.items) c.deref-in-Parts.ensures)) in
-    subst (λ v. IfOk c.push_parts.result (λ _. c.push_parts.new.bytes.items ≡ c.args.bytes.now.items ++ code v)) (sym is) c.push_parts.ensures.code
-
-pub push_key-returns-in-Parts-clause-fault : goal.push_key-returns-in-Parts-clause-fault
-push_key-returns-in-Parts-clause-fault t c =
-    let xs = c.as_slice.result.now in
-    let is : value_of c.args.key.now ≡ vals.parts (parts_of (map part_of xs)) =
-    ap value_of c.in-Parts.is ∙ parts_is c.in-Parts.parts ∙ ap (λ (ps : List Part). vals.parts (parts_of (map part_of ps))) (sym (c.as_slice.ensures.value ∙ ap (λ (v : Vec Part). v.items) c.deref-in-Parts.ensures)) in
-    subst (λ v. Hashes c.args.types.now v c.push_parts.result) (sym is) c.push_parts.ensures.fault
 
 pub push_key-returns-in_ok-push_leaf-in_default : goal.push_key-returns-in_ok-push_leaf-in_default
 push_key-returns-in_ok-push_leaf-in_default t c =
@@ -49,34 +22,6 @@ push_key-returns-in_ok-push_leaf-in_default t c =
           (λ k. let it = interface_of key k in c.in_default.not-Interface it.0 it.1)
           (λ k. let it = compound_of key k in c.in_default.not-Parts it.0 it.1);
     }
-
-pub push_dynamic-returns-then-not-is_comparable-clause-fault : goal.push_dynamic-returns-then-not-is_comparable-clause-fault
-push_dynamic-returns-then-not-is_comparable-clause-fault t c =
-    λ test tells. unhashable_type c.args.types.now test c.args.held.now c.is_comparable.result tells c.is_comparable.ensures c.if-not-is_comparable.true
-
-pub push_dynamic-returns-clause-code : goal.push_dynamic-returns-clause-code
-push_dynamic-returns-clause-code t c =
-    IfOk-weaker c.push_key.result _ _
-    (λ _ h. dynamic_code c.args.held.now c.args.bytes.now.items c.push_byte.new.bytes.items c.push_number.new.bytes.items c.push_key.new.bytes.items c.in_ok-push_byte.ensures c.in_ok-push_number.ensures h)
-    c.push_key.ensures.code
-
-pub push_dynamic-returns-clause-fault : goal.push_dynamic-returns-clause-fault
-push_dynamic-returns-clause-fault t c =
-    λ test tells. subst (TellsFault c.push_key.result) (sym (within_hashes c.args.types.now test c.args.held.now c.is_comparable.result tells c.is_comparable.ensures c.if-not-is_comparable.false)) (c.push_key.ensures.fault test tells)
-
-pub push_part-returns-then-part-clause-code : goal.push_part-returns-then-part-clause-code
-push_part-returns-then-part-clause-code t c = blank_code c.args.part.now c.args.bytes.now.items c.if-part.true
-
-pub push_part-returns-then-part-clause-fault : goal.push_part-returns-then-part-clause-fault
-push_part-returns-then-part-clause-fault t c = λ test tells. blank_hashes test c.args.part.now c.if-part.true
-
-pub push_part-returns-clause-code : goal.push_part-returns-clause-code
-push_part-returns-clause-code t c =
-    IfOk-weaker c.push_key.result _ _ (λ _ h. h ∙ ap (λ l. c.args.bytes.now.items ++ l) (sym (plain_code c.args.part.now c.if-part.false))) c.push_key.ensures.code
-
-pub push_part-returns-clause-fault : goal.push_part-returns-clause-fault
-push_part-returns-clause-fault t c =
-    λ test tells. subst (TellsFault c.push_key.result) (sym (plain_hashes test c.args.part.now c.if-part.false)) (c.push_key.ensures.fault test tells)
 
 pub push_parts-loop-part-preserved : goal.push_parts-loop-part-preserved
 push_parts-loop-part-preserved t c =
@@ -94,8 +39,8 @@ push_parts-returns-in_err-push_part-clause-fault t c =
     let i = c.loop-part.part-index in
     let x = c.part-item.result in
     let e = c.in_err-push_part.field-0.0 in
-    let first = unhashable_part test (part_of x) in
-    let later = unhashable_in test (parts_of (map part_of (drop (i + 1) xs))) in
+    let first = unhashable_part test x in
+    let later = unhashable_in test (parts_of (drop (i + 1) xs)) in
     let all = c.loop-part.invariant.1 test tells ∙ next_hashes test xs i x c.loop-part-test.true c.part-item.is in
     let told : TellsFault {A = Unit {0}} (Err e) first = c.in_err-push_part.ensures.fault test tells in
     let p = err_from_is_err_and c.from_residual.result c.from_residual.ensures.1 in
@@ -105,5 +50,20 @@ pub push_parts-returns : goal.push_parts-returns
 push_parts-returns t c =
     record {
       code = all_code c.args.parts.now c.loop-part.part-index c.loop-part.bytes.items _ c.loop-part.invariant.0 c.loop-part-test.false;
-      fault = λ test tells. c.loop-part.invariant.1 test tells ∙ ap (λ (l : List Part). unhashable_in test (parts_of (map part_of l))) (drop_whole c.loop-part.part-index c.args.parts.now c.loop-part-test.false);
+      fault = λ test tells. c.loop-part.invariant.1 test tells ∙ ap (λ (l : List Part). unhashable_in test (parts_of l)) (drop_whole c.loop-part.part-index c.args.parts.now c.loop-part-test.false);
     }
+
+pub push_dynamic-push_key-requires : goal.push_dynamic-push_key-requires
+push_dynamic-push_key-requires t c =
+    let size : 2 * (3 * (count c.args.held.now.value + 1) + 0) + 0 ≡ t = c.decreases in
+    (omega (arith, size, values_fall c.value.result.now, ap count c.value.ensures), tt)
+
+pub push_key-push_parts-requires : goal.push_key-push_parts-requires
+push_key-push_parts-requires t c =
+    let deep : 2 * (3 * deep-Value (values.Parts c.in-Parts.parts) + 2) + 0 ≡ t = ap (λ v. 2 * (3 * deep-Value v + 2) + 0) (sym c.in-Parts.is) ∙ c.decreases in
+    let same = c.as_slice.ensures.value ∙ ap (λ v. v.items) c.deref-in-Parts.ensures in
+    (rw same (omega (arith, deep, heaviest c.in-Parts.parts.value.items)), tt)
+
+pub push_key-returns-in-Interface-clause-fault : goal.push_key-returns-in-Interface-clause-fault
+push_key-returns-in-Interface-clause-fault t c =
+    subst (λ v. Hashes c.args.types.now v c.push_dynamic.result) (sym (ap value_of c.in-Interface.is ∙ ap (λ (d : Typed). vals.dynamic d.of d.value) (sym c.deref.ensures))) c.push_dynamic.ensures.fault

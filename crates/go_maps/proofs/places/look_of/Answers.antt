@@ -1,6 +1,5 @@
 use Rattle.std.proofs.Common.{ap, ◌∙◌}
 use Rattle.go_value.specs.Values.{value_of}
-use Rattle.go_value.proofs.Variants.{int_is}
 use Rattle.go_maps.specs.Keys.{unhashable, of_bytes}
 use Rattle.go_maps.proofs.KindsOf.{number_of}
 use Rattle.go_maps.proofs.LookedUp.{other_key}
@@ -8,7 +7,7 @@ use Rattle.go_maps.proofs.places.look_of.Goals as goal
 
 pub returns-in-Int-clause-fault : goal.returns-in-Int-clause-fault
 returns-in-Int-clause-fault c =
-    λ test tells. ap (λ v. unhashable test (value_of v)) c.in-Int.is ∙ ap (unhashable test) (int_is c.in-Int.number)
+    λ test tells. ap (λ v. unhashable test (value_of v)) c.in-Int.is
 
 pub returns-in_ok-key_bytes-in_default : goal.returns-in_ok-key_bytes-in_default
 returns-in_ok-key_bytes-in_default c =
