@@ -1,5 +1,5 @@
 -- What append makes of slices and stores.
-use Rattle.std.proofs.Common.{◌≡◌, ap, ◌∙◌, [], ◌∷◌, ℕ, zero, suc, ◌+◌, ◌*◌, ◌<◌, ◌≤◌, cond, leb, div-le_self, ◌||◌, ◌==◌, ◌/◌, max, Some, None, false, arith}
+use Rattle.std.proofs.Common.{◌≡◌, ap, ◌∙◌, [], ℕ, zero, suc, ◌+◌, ◌<◌, ◌≤◌, cond, leb, div-le_self, ◌||◌, ◌==◌, max, Some, None, false, arith}
 use Rattle.std.proofs.Math.Dec.{eqb-suc-zero}
 use Rattle.std.proofs.lemmas.Bool.{lt-leb}
 use Rattle.go_value.specs.declared.address.SliceValue.{SliceValue}

@@ -1,5 +1,5 @@
 -- What a cell holds, by its variant.
-use Rattle.std.proofs.Common.{◌≡◌, ◌+◌, ap, sym, refl, ◌∙◌, map, List, [], ◌∷◌, ◌++◌, ℕ, ℤ, pos, Bool, false}
+use Rattle.std.proofs.Common.{◌≡◌, ap, sym, refl, ◌∙◌, map, List, [], ◌∷◌, ℕ, pos, Bool}
 use Rattle.go_store.specs.declared.cells.Cell.{Cell}
 use Rattle.go_store.specs.declared.leaves.Leaf.{Leaf}
 use Rattle.go_store.specs.declared.cells.Place.{Place}
@@ -8,12 +8,7 @@ use Rattle.go_store.specs.declared.cells.Cell.TheOpen as layers
 use Rattle.go_store.specs.declared.cells.Cell.TheOpen.{Cell-F}
 use Rattle.go_store.specs.declared.cells.Cell.TheViews.{roll-Cell}
 use Rattle.go_store.specs.declared.cells.Cell.TheFolds.{fold-roll-Cell, fold-roll-Place, map-Cell}
-use Rattle.go_value.specs.declared.values.Part.{Part}
-use Rattle.go_value.specs.declared.values.Value.{Value}
-use Rattle.go_value.specs.declared.values.Value.TheVariants as values
-use Rattle.go_value.proofs.KindOf.{not_parts}
-use Rattle.go_value.proofs.Variants.{part_is, int_is, parts_is}
-use Rattle.go_value.specs.Values.{Val, Field, parts, parts_of, value_of, part_of}
+use Rattle.go_value.specs.Values.{Val, Field, parts, parts_of, value_of}
 use Rattle.go_store.specs.Cells.{held, place_of, cell_layer, place_layer, packed, packed_bytes, plain_number}
 
 abbrev seen : Cell-F Cell Place → Val
@@ -56,18 +51,13 @@ bytes_parts bytes = ap (λ (fields : List Field). parts (parts_of fields)) (plai
 abbrev field : Val → Bool → Field
 field it blank = record { value = it; blank = blank }
 
-pub place_of_part : (it : Part) (cell : Cell) → held cell ≡ value_of it.value → place_of (record { cell = cell; blank = it.blank }) ≡ part_of it
-place_of_part it cell same = place_is (record { cell = cell; blank = it.blank }) ∙ ap (λ v. field v it.blank) same ∙ sym (part_is it)
+pub place_of_part : (it : Field) (cell : Cell) → held cell ≡ it.value → place_of (record { cell = cell; blank = it.blank }) ≡ it
+place_of_part it cell same = place_is (record { cell = cell; blank = it.blank }) ∙ ap (λ v. field v it.blank) same
 
-pub part_of_place : (it : Place) (value : Value) → value_of value ≡ held it.cell → part_of (record { value = value; blank = it.blank }) ≡ place_of it
-part_of_place it value same = part_is (record { value = value; blank = it.blank }) ∙ ap (λ v. field v it.blank) same ∙ sym (place_is it)
+pub part_of_place : (it : Place) (value : Val) → value ≡ held it.cell → field value it.blank ≡ place_of it
+part_of_place it value same = ap (λ v. field v it.blank) same ∙ sym (place_is it)
 
 pub place_again : (it : Place) (cell : Cell) → held cell ≡ held it.cell → place_of (record { cell = cell; blank = it.blank }) ≡ place_of it
 place_again it cell same = place_is (record { cell = cell; blank = it.blank }) ∙ ap (λ v. field v it.blank) same ∙ sym (place_is it)
 
-pub part_of_number : (n : ℤ) → part_of (record { value = values.Int n; blank = false }) ≡ plain_number n
-part_of_number n = part_is (record { value = values.Int n; blank = false }) ∙ ap (λ v. field v false) (int_is n)
-
 pub ruleset of_forms = (one_is, ints_are, bytes_are, many_are)
-
-pub ruleset of_cells = (one_is, parts_is, not_parts)

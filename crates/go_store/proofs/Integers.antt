@@ -1,11 +1,9 @@
 -- Parts that are integers.
-use Rattle.std.proofs.Common.{◌≡◌, ◌<◌, List, length, get_or, false, is_none, subst, sym, ap, ◌∙◌, Option, Some, None, ℕ, ℤ, pos}
+use Rattle.std.proofs.Common.{◌≡◌, ◌<◌, List, length, get_or, false, is_none, subst, ap, ◌∙◌, Option, Some, None, ℕ, ℤ, pos}
 use Rattle.std.proofs.lemmas.List.{get_or_default}
 use Rattle.go_value.specs.Kinds.{integer}
 use Rattle.go_value.specs.Values as vals
-use Rattle.go_value.specs.Values.{Val, Field, value_of, part_of}
-use Rattle.go_value.specs.declared.values.Part.{Part}
-use Rattle.go_value.proofs.Variants.{part_is}
+use Rattle.go_value.specs.Values.{Val, Field}
 use Rattle.go_store.specs.Cells.{IsPlain, plain_number}
 
 pub integer_from : (it : Val) (n : ℤ) → Some n ≡ integer it → it ≡ vals.number n
@@ -26,22 +24,21 @@ integer_from (vals.parts a) n h = cc
 integer_from (vals.text_range a b) n h = cc
 integer_from (vals.map_range a b) n h = cc
 
-pub plain_from : (it : Part) (o : Option ℤ) → it.blank ≡ false → o ≡ integer (value_of it.value) → is_none o ≡ false → IsPlain (part_of it)
+plain_by : (it : Field) (n : ℤ) → it.blank ≡ false → Some n ≡ integer it.value → it ≡ plain_number n
+plain_by it n blank is =
+    ap (λ v. record { value = v; blank = it.blank }) (integer_from it.value n is)
+    ∙ ap (λ b. record { value = vals.number n; blank = b }) blank
+
+pub plain_from : (it : Field) (o : Option ℤ) → it.blank ≡ false → o ≡ integer it.value → is_none o ≡ false → IsPlain it
 plain_from it None blank is some = cc
-plain_from it (Some n) blank is some =
-    let e = integer_from (value_of it.value) n is in
-    (n, part_is it ∙ ap (λ v. record { value = v; blank = it.blank }) e ∙ ap (λ b. record { value = vals.number n; blank = b }) blank)
+plain_from it (Some n) blank is some = (n, plain_by it n blank is)
 
 -- the integer of a plain part
-pub plain_integer : (it : Part) (n : ℤ) → part_of it ≡ plain_number n → integer (value_of it.value) ≡ Some n
-plain_integer it n h = ap (λ (f : Field). integer f.value) (sym (part_is it) ∙ h)
+pub plain_integer : (it : Field) (n : ℤ) → it ≡ plain_number n → integer it.value ≡ Some n
+plain_integer it n h = ap (λ (f : Field). integer f.value) h
 
-pub plain_at : (parts : List Part) (i : ℕ) (d e it : Part) → i < length parts → it ≡ get_or parts i d → IsPlain (part_of it) → IsPlain (part_of (get_or parts i e))
-plain_at parts i d e it below is h = subst (λ x. IsPlain (part_of x)) (is ∙ get_or_default parts i d e below) h
+pub plain_at : (parts : List Field) (i : ℕ) (d e it : Field) → i < length parts → it ≡ get_or parts i d → IsPlain it → IsPlain (get_or parts i e)
+plain_at parts i d e it below is h = subst IsPlain (is ∙ get_or_default parts i d e below) h
 
-pub plain_byte_from : (it : Part) (n : ℤ) (b : ℕ) → it.blank ≡ false → Some n ≡ integer (value_of it.value) → n ≡ pos b → part_of it ≡ plain_number (pos b)
-plain_byte_from it n b blank is same =
-    part_is it
-    ∙ ap (λ v. record { value = v; blank = it.blank }) (integer_from (value_of it.value) n is)
-    ∙ ap (λ b. record { value = vals.number n; blank = b }) blank
-    ∙ ap plain_number same
+pub plain_byte_from : (it : Field) (n : ℤ) (b : ℕ) → it.blank ≡ false → Some n ≡ integer it.value → n ≡ pos b → it ≡ plain_number (pos b)
+plain_byte_from it n b blank is same = plain_by it n blank is ∙ ap plain_number same

@@ -5,9 +5,8 @@ use Rattle.std.proofs.lemmas.Bool.{le-leb}
 use Rattle.std.proofs.lemmas.List.{map-append, length-map, drop-map, take_all}
 use Rattle.std.specs.List.{take-map}
 use borrow.Rule.Slice.PartMut.{put_mid}
-use Rattle.go_value.specs.Values as vals
 use Rattle.go_value.specs.Values.{Val, Field, parts, part, parts_of, number}
-use Rattle.go_store.specs.Arrays.{elements, overwritten, run_of, run_among, values_in, with_elements, with_run}
+use Rattle.go_store.specs.Arrays.{overwritten, run_of, run_among, values_in, with_elements, with_run}
 use Rattle.go_store.specs.Cells.{held, held_in, packed, packed_bytes, spread, place_of, plain_number}
 use Rattle.go_store.specs.declared.cells.Place.{Place}
 use Rattle.go_store.specs.declared.cells.Cell.{Cell}
@@ -16,10 +15,6 @@ use Rattle.go_store.proofs.Held.{place_is, ints_are, bytes_are, bytes_parts, man
 use Rattle.go_store.proofs.Lengthened.{extended_fields, plain}
 
 -- ---- what is read
-
-values_fields : (fields : List Field) → values_in (parts_of fields) ≡ map (λ f. f.value) fields
-values_fields [] = refl
-values_fields (f ∷ fields) = ap (λ vs. f.value ∷ vs) (values_fields fields)
 
 values_numbers : (ints : List ℤ) → values_in (parts_of (map plain_number ints)) ≡ map number ints
 values_numbers [] = refl

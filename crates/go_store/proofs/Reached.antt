@@ -1,5 +1,5 @@
 -- What is read and written at parts of cells.
-use Rattle.std.proofs.Common.{◌≡◌, ◌≢◌, ap, sym, subst, refl, IsSome, ◌∙◌, map, List, [], ◌∷◌, Option, Some, None, ℕ, zero, suc, ℤ, pos, ◌<◌, ◌≤◌, ◌==◌, length, get_or, Bor, Result, Ok, Err, OnOk, OnErr, slice_get, slice_set, Bool, false, true}
+use Rattle.std.proofs.Common.{◌≡◌, ap, sym, subst, refl, IsSome, ◌∙◌, map, List, [], ◌∷◌, Option, Some, None, ℕ, zero, suc, ℤ, pos, ◌<◌, ◌≤◌, ◌==◌, length, get_or, Bor, Result, Ok, Err, OnOk, OnErr, slice_get, slice_set, Bool, false, true}
 use Rattle.std.specs.Global.{Vec}
 use Rattle.std.specs.Option.{option_map, option_and_then, option_copied}
 use Rattle.std.specs.Slice.{IsItemAt}
@@ -16,11 +16,6 @@ use Rattle.go_store.specs.declared.cells.Cell.{Cell}
 use Rattle.go_store.specs.declared.leaves.Leaf.{Leaf}
 use Rattle.go_store.specs.declared.cells.Place.{Place}
 use Rattle.go_store.specs.declared.cells.Cell.TheVariants as cells
-use Rattle.go_store.specs.declared.cells.Cell.TheOpen as layers
-use Rattle.go_store.specs.declared.cells.Cell.TheViews.{roll-Cell}
-use Rattle.go_value.proofs.KindOf.{not_int}
-use Rattle.go_value.proofs.Variants.{int_is}
-use Rattle.go_value.specs.declared.values.Value.TheVariants as values
 use Rattle.go_store.proofs.Integers.{integer_from}
 use Rattle.go_store.proofs.Held.{one_is, ints_are, bytes_are, many_are, place_is}
 
@@ -54,9 +49,6 @@ value_in_places places k =
 and_then_map : {A B C : Type 0} (f : B → Option C) (g : A → B) (o : Option A) → option_and_then f (option_map g o) ≡ option_and_then (λ x. f (g x)) o
 and_then_map f g None = refl
 and_then_map f g (Some x) = refl
-
-pub read_whole : (it : Val) → read_at it [] ≡ Some it
-read_whole it = refl
 
 pub read_many : (places : Vec Place) (step : ℕ) (rest : List ℕ) → read_at (held (cells.Many places)) (step ∷ rest) ≡ option_and_then (λ (p : Place). read_at (held p.cell) rest) (slice_get places.items step)
 read_many places step rest =
@@ -99,9 +91,6 @@ changed_fields change [] k f h = cc
 changed_fields change (g ∷ fields) zero f h = let same : g ≡ f = cc in ap (λ (x : Field). part (change x.value) x.blank (parts_of fields)) same
 changed_fields change (g ∷ fields) (suc k) f h = ap (part g.value g.blank) (changed_fields change fields k f h)
 
-abbrev pub changed_place : (Val → Val) → List ℕ → Place → Cell → Type 0
-changed_place change rest p cell = held cell ≡ updated change (held p.cell) rest
-
 place_changed : (change : Val → Val) (rest : List ℕ) (p : Place) (cell : Cell) → held cell ≡ updated change (held p.cell) rest → place_of (record { cell = cell; blank = p.blank }) ≡ record { value = updated change (place_of p).value rest; blank = (place_of p).blank }
 place_changed change rest p cell h =
     place_is (record { cell = cell; blank = p.blank })
@@ -123,10 +112,6 @@ plain_at [] k f h = cc
 plain_at (n ∷ ints) zero f h = (n, cc)
 plain_at (n ∷ ints) (suc k) f h = plain_at ints k f h
 
--- an integer has no parts
-pub int_integer : (it : ℤ) → integer (value_of (values.Int it)) ≡ Some it
-int_integer it = ap integer (int_is it)
-
 pub whole_integer : (leaf : Leaf) → integer (held (cells.One leaf)) ≡ integer (value_of leaf.value)
 whole_integer leaf = ap integer (one_is leaf)
 
@@ -139,16 +124,7 @@ bytes_no_integer bytes = ap integer (bytes_are bytes)
 pub many_no_integer : (places : Vec Place) → integer (held (cells.Many places)) ≡ None
 many_no_integer places = ap integer (many_are places)
 
-pub ruleset of_integers = (int_integer, not_int, whole_integer, ints_no_integer, bytes_no_integer, many_no_integer)
-
-pub one_rolled : (leaf : Leaf) → held (roll-Cell (layers.Cell-F.One leaf)) ≡ value_of leaf.value
-one_rolled leaf = ap held (cells.rolls-One leaf) ∙ one_is leaf
-
-pub ints_rolled : (ints : Vec ℤ) → held (roll-Cell (layers.Cell-F.Ints ints)) ≡ packed ints.items
-ints_rolled ints = ap held (cells.rolls-Ints ints) ∙ ints_are ints
-
-pub many_rolled : (places : Vec Place) → held (roll-Cell (layers.Cell-F.Many places)) ≡ parts (parts_of (map place_of places.items))
-many_rolled places = ap held (cells.rolls-Many places) ∙ many_are places
+pub ruleset of_integers = (whole_integer, ints_no_integer, bytes_no_integer, many_no_integer)
 
 -- ---- items of lists
 

@@ -1,9 +1,8 @@
 -- Texts and the integers that they are made of.
-use Rattle.std.proofs.Common.{◌≡◌, ◌<◌, ◌≤◌, ◌+◌, ℕ, zero, suc, ℤ, pos, ap, sym, refl, subst, ◌∙◌, inl, inr, map, List, [], ◌∷◌, ◌++◌, drop, take, get_or, length, Option, Some, None, IsSome, ◌-◌, false, unwrap_or, Result, OnOk, OnErr, arith, append_assoc, length-drop}
+use Rattle.std.proofs.Common.{◌≡◌, ◌<◌, ◌≤◌, ◌+◌, ℕ, zero, suc, ℤ, pos, ap, sym, refl, subst, ◌∙◌, inl, inr, map, List, [], ◌∷◌, ◌++◌, drop, length, Option, Some, None, IsSome, ◌-◌, false, unwrap_or, Result, OnOk, OnErr, arith, append_assoc, length-drop}
 use Rattle.std.specs.List.{flat_map}
 use Rattle.std.proofs.lemmas.Bool.{false≢true}
-use Rattle.std.proofs.lemmas.List.{append-nil, length-map, map-append, take_more, drop_all, drop-drop}
-use Rattle.std.proofs.lemmas.List.Concat.{flat_map-append}
+use Rattle.std.proofs.lemmas.List.{append-nil, length-map, drop_all, drop-drop}
 use Rattle.bstr.specs.Utf8.{decoded, Decoded}
 use Rattle.bstr.proofs.lemmas.EncodeLemmas.{decoded-encode}
 use Rattle.bstr.proofs.lemmas.PieceLemmas.{piece-bounds}
@@ -63,18 +62,6 @@ makes_bytes old new bytes result given ok err =
       ok = on_ok result ok (λ same. same ∙ ap (made old) (packed_is (map pos bytes)));
       err = err;
     }
-
--- ---- one more
-
-pub next_bytes : (f : Val → List ℕ) (ints : List ℤ) (k : ℕ) (it d : ℤ) (old new : List ℕ) → old ≡ flat_map f (map number (take k ints)) → new ≡ old ++ f (number it) → k < length ints → it ≡ get_or ints k d → new ≡ flat_map f (map number (take (k + 1) ints))
-next_bytes f ints k it d old new before step below is =
-    let front = map number (take k ints) in
-    step ∙ ap (λ o. o ++ f (number it)) before
-    ∙ ap (λ x. flat_map f front ++ f (number x)) is
-    ∙ ap (λ x. flat_map f front ++ x) (sym (append-nil (f (number (get_or ints k d)))))
-    ∙ sym (flat_map-append f front (number (get_or ints k d) ∷ []))
-    ∙ ap (flat_map f) (sym (map-append number (take k ints) (get_or ints k d ∷ [])))
-    ∙ ap (λ xs. flat_map f (map number xs)) (sym (take_more ints k d below))
 
 pub of_slice : (f : Val → List ℕ) (result : Result (List ℕ) ValueError) (o : Option (List Val)) (ints : List ℤ) (bytes : List ℕ) → o ≡ Some (map number ints) → bytes ≡ flat_map f (map number ints) → Gives (λ text. text) result (within_limit bytes) → Gives (λ text. text) result (within_limit (flat_map f (unwrap_or o [])))
 of_slice f result o ints bytes there spelled given =

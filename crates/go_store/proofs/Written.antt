@@ -8,7 +8,6 @@ use denote.Builtin.{i128, u8}
 use denote.Struct.Field.{row_field, i128-field, u8-field}
 use denote.Struct.Laws.{i128-laws, i128-copy, u8-laws, u8-copy}
 use denote.Struct.Owning as owning
-use denote.Struct.Declared as declared
 use denote.Param.Laws.{row_loose, of_field}
 use denote.Param.Shared.{copy_shared}
 use denote.Enum.Enum.{payload, tag, layout}
@@ -26,14 +25,11 @@ use Rattle.std.proofs.alloc.Global.TheLaws as alloc_laws
 use Rattle.go_store.specs.contracts.cells.Cell as contract
 use Rattle.go_store.specs.contracts.cells.Cell.TheKnot as knot
 use Rattle.go_store.specs.contracts.cells.Place as place_contract
-use Rattle.go_store.specs.contracts.leaves.Leaf as leaf_contract
-use Rattle.go_store.proofs.leaves.Leaf.TheLaws as leaf_laws
 use Rattle.go_store.proofs.cells.Cell.TheLaws as cell_laws
 use Rattle.go_store.proofs.cells.Cell.TheLaws.TheKnot as knot_laws
 use Rattle.go_store.specs.declared.cells.Cell.{Cell}
 use Rattle.go_store.specs.declared.cells.Place.{Place}
 use Rattle.go_store.specs.declared.cells.Cell.TheVariants as cells
-use Rattle.go_store.specs.declared.cells.Cell.TheOpen as layers
 use Rattle.go_store.specs.declared.cells.Cell.TheOpen.{Cell-F}
 use Rattle.go_store.specs.declared.cells.Cell.TheBlock.{split-Cell, the_family}
 

@@ -1,6 +1,6 @@
 -- Arrays, and runs of their elements. Go specification, "Array types" and "Slice types".
 use Rattle.std.specs.Prelude.{ℕ, zero, suc, ◌+◌, List, [], ◌∷◌, Option, Some, None, nat_le, length, take, drop}
-use Rattle.std.specs.Prelude.{replicate, false, if◌then◌else◌}
+use Rattle.std.specs.Prelude.{false, if◌then◌else◌}
 use Rattle.go_value.specs.Values.{Val, Parts, none, part, parts}
 
 abbrev pub values_in : Parts → List Val

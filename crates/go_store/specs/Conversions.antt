@@ -1,6 +1,6 @@
 -- Conversions between texts and slices of integers. Go specification, "Conversions to and from a string type".
-use Rattle.std.specs.Prelude.{ℕ, ◌<◌, ◌≡◌, List, [], ◌∷◌, ℤ, pos, map, drop, flat_map, length, nat_lt, unsigned_abs}
-use Rattle.std.specs.Prelude.{Option, Some, None, unwrap_or, Result, Ok, Err, OnOk, OnErr, if◌then◌else◌}
+use Rattle.std.specs.Prelude.{ℕ, ◌<◌, ◌≡◌, List, [], ◌∷◌, ℤ, pos, map, drop, length, nat_lt, unsigned_abs}
+use Rattle.std.specs.Prelude.{unwrap_or, Result, Ok, Err, OnOk, OnErr, if◌then◌else◌}
 use Rattle.go_value.specs.Gives.{Gives}
 use Rattle.go_value.specs.Runes as runes
 use Rattle.go_value.specs.Runes.{IsFirstRune}

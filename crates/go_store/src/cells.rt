@@ -1,9 +1,8 @@
 //! Cells: what a store writes in place.
 
 ghost use Rattle.std.specs.Prelude.{◌≡◌, IfOk, IfSome, ◌<◌, ℕ, pos, length, slice_index_or, IsTrue, map};
-ghost use Rattle.go_value.specs.Values.{value_of, part_of, parts_of};
+ghost use Rattle.go_value.specs.Values.{value_of, parts_of, Field};
 ghost use Rattle.go_value.specs.Values as vals;
-ghost use Rattle.go_value.specs.declared.values.Part.{Part as PartType};
 ghost use Rattle.go_store.specs.Cells.{held, packed, packed_bytes, place_of, plain_number, IsPlain};
 
 use crate::leaves::{Leaf, integer};
@@ -34,7 +33,7 @@ pub(crate) struct Place {
 }
 
 /// A cell that holds a value.
-#[tactic(auto, using(crate::proofs::Held::of_cells))]
+#[tactic(auto, using(crate::proofs::Held::one_is))]
 pub(crate) fn cell_of(alloc: Global, value: Value) -> Result<Cell, NoMemory>
     ensures { IfOk result (λ cell. held cell ≡ value_of value) }
 {
@@ -46,7 +45,7 @@ pub(crate) fn cell_of(alloc: Global, value: Value) -> Result<Cell, NoMemory>
 
 /// A cell that holds a copy of a value.
 #[cycle(unpack)]
-#[tactic(auto, using(crate::proofs::Held::of_cells))]
+#[tactic(auto, using(crate::proofs::Held::one_is))]
 pub(crate) fn cell_of_copy(alloc: Global, value: &Value) -> Result<Cell, NoMemory>
     ensures { IfOk result (λ cell. held cell ≡ value_of value.now) }
 {
@@ -61,7 +60,7 @@ pub(crate) fn cell_of_copy(alloc: Global, value: &Value) -> Result<Cell, NoMemor
 #[cycle(unpack)]
 #[tactic(auto, using(crate::proofs::Held::many_are))]
 fn cell_of_parts(alloc: Global, parts: &[Part]) -> Result<Cell, NoMemory>
-    ensures { IfOk result (λ cell. held cell ≡ vals.parts (parts_of (map part_of parts.now))) }
+    ensures { IfOk result (λ cell. held cell ≡ vals.parts (parts_of parts.now)) }
 {
     if let Some(packed) = packed_cell(alloc, parts)? {
         return Ok(packed);
@@ -80,7 +79,7 @@ fn cell_of_parts(alloc: Global, parts: &[Part]) -> Result<Cell, NoMemory>
 /// The cell of parts that are integers, and none a field named `_`. None where they are not.
 #[tactic(auto, using(crate::proofs::Held::bytes_are))]
 fn packed_cell(alloc: Global, parts: &[Part]) -> Result<Option<Cell>, NoMemory>
-    ensures { IfOk result (λ found. IfSome found (λ cell. held cell ≡ vals.parts (parts_of (map part_of parts.now)))) }
+    ensures { IfOk result (λ found. IfSome found (λ cell. held cell ≡ vals.parts (parts_of parts.now))) }
 {
     if parts.len() >= LEAST_BYTES {
         if let Some(bytes) = bytes_of_parts(alloc, parts)? {
@@ -95,7 +94,7 @@ fn packed_cell(alloc: Global, parts: &[Part]) -> Result<Option<Cell>, NoMemory>
 
 /// Whether parts are integers, and none is a field named `_`.
 fn are_ints(parts: &[Part]) -> bool
-    ensures { IsTrue result → (k : ℕ) (d : PartType) → k < length parts.now → IsPlain (part_of (slice_index_or parts.now k d)) }
+    ensures { IsTrue result → (k : ℕ) (d : Field) → k < length parts.now → IsPlain (slice_index_or parts.now k d) }
 {
     for part in parts {
         if part.blank || integer(&part.value).is_none() {
@@ -107,8 +106,8 @@ fn are_ints(parts: &[Part]) -> bool
 
 #[tactic(auto, using(crate::proofs::Held::ints_are))]
 fn cell_of_ints(alloc: Global, parts: &[Part]) -> Result<Cell, NoMemory>
-    requires { (k : ℕ) (d : PartType) → k < length parts.now → IsPlain (part_of (slice_index_or parts.now k d)) }
-    ensures { IfOk result (λ cell. held cell ≡ vals.parts (parts_of (map part_of parts.now))) }
+    requires { (k : ℕ) (d : Field) → k < length parts.now → IsPlain (slice_index_or parts.now k d) }
+    ensures { IfOk result (λ cell. held cell ≡ vals.parts (parts_of parts.now)) }
 {
     let mut ints = Vec::with_capacity(alloc, parts.len())?;
     for part in parts {
@@ -122,7 +121,7 @@ fn cell_of_ints(alloc: Global, parts: &[Part]) -> Result<Cell, NoMemory>
 
 /// The integer below 256 that a part is. None where it is none, or a field named `_`.
 fn byte_of_part(part: &Part) -> Option<u8>
-    ensures { IfSome result (λ byte. part_of part.now ≡ plain_number (pos byte)) }
+    ensures { IfSome result (λ byte. part.now ≡ plain_number (pos byte)) }
 {
     if part.blank {
         return None;
@@ -136,7 +135,7 @@ fn byte_of_part(part: &Part) -> Option<u8>
 
 /// The integers below 256 that parts are. None where one is none, or a field named `_`.
 fn bytes_of_parts(alloc: Global, parts: &[Part]) -> Result<Option<Vec<u8>>, NoMemory>
-    ensures { IfOk result (λ found. IfSome found (λ bytes. packed_bytes bytes.items ≡ vals.parts (parts_of (map part_of parts.now)))) }
+    ensures { IfOk result (λ found. IfSome found (λ bytes. packed_bytes bytes.items ≡ vals.parts (parts_of parts.now))) }
 {
     let mut bytes = Vec::with_capacity(alloc, parts.len())?;
     for part in parts {

@@ -27,7 +27,6 @@ impl Leaf {
 }
 
 /// The integer that a value is. None where it is none.
-#[tactic(auto, using(crate::proofs::Reached::of_integers))]
 pub(crate) fn integer(value: &Value) -> Option<i128>
     ensures { result ≡ integer (value_of value.now) }
 {

@@ -162,7 +162,7 @@ pub(crate) fn write_int(
     }
 }
 
-#[tactic(auto, using(crate::proofs::Held::one_is, go_value::proofs::Variants::int_is))]
+#[tactic(auto, using(crate::proofs::Held::one_is))]
 fn become_int(cell: &mut Cell, number: i128)
     ensures { held cell.new ≡ vals.number number }
 {

@@ -1,7 +1,6 @@
 use Rattle.std.proofs.Common.{◌≡◌, map, take}
 use Rattle.go_store.specs.Cells.{plain_number}
-use Rattle.go_value.specs.Values.{part_of}
 use Rattle.go_store.proofs.cells.cell_of_ints.Given as goal
 
 abbrev pub invariant-loop-part : goal.invariant-loop-part
-invariant-loop-part l = map plain_number l.ints.items ≡ map part_of (take l.part-index l.parts)
+invariant-loop-part l = map plain_number l.ints.items ≡ take l.part-index l.parts

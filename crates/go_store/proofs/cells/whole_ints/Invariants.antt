@@ -1,7 +1,6 @@
 use Rattle.std.proofs.Common.{◌≡◌, map, take}
 use Rattle.go_store.specs.Cells.{plain_number}
-use Rattle.go_value.specs.Values.{part_of}
 use Rattle.go_store.proofs.cells.whole_ints.Given as goal
 
 abbrev pub invariant-loop-number : goal.invariant-loop-number
-invariant-loop-number l = map part_of l.parts.items ≡ map plain_number (take l.number-index l.ints)
+invariant-loop-number l = l.parts.items ≡ map plain_number (take l.number-index l.ints)

@@ -1,4 +1,4 @@
-use Rattle.std.proofs.Common.{rules, ◌≡◌, ◌∷◌, ◌∙◌, ap, sym, subst, refl, cond, Some, None, IfSome, IfOk, Option, List, ℕ, ℤ, arith}
+use Rattle.std.proofs.Common.{◌≡◌, ◌∙◌, ap, sym, subst, Some, IfSome}
 use Rattle.std.proofs.Common.{slice_get}
 use Rattle.go_store.specs.Cells.{held}
 use Rattle.go_store.proofs.Reached.{got, read_into}

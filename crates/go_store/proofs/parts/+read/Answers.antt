@@ -1,4 +1,4 @@
-use Rattle.std.proofs.Common.{rules, ◌≡◌, ◌∷◌, ◌∙◌, ap, sym, subst, refl, cond, Some, None, IfSome, IfOk, Option, List, ℕ, ℤ, arith}
+use Rattle.std.proofs.Common.{◌≡◌, ◌∷◌, ◌∙◌, ap, sym, subst, Some, IfOk, List, ℕ, ℤ}
 use Rattle.std.proofs.Common.{slice_get}
 use Rattle.go_value.specs.Values.{value_of}
 use Rattle.go_store.specs.Cells.{packed, packed_bytes, read_at}

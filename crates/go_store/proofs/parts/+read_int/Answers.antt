@@ -1,6 +1,5 @@
-use Rattle.std.proofs.Common.{rules, ◌≡◌, ◌∷◌, ◌∙◌, ap, sym, subst, refl, cond, Some, None, IfSome, IfOk, Option, List, ℕ, ℤ, arith}
+use Rattle.std.proofs.Common.{◌∷◌, ◌∙◌, ap, sym}
 use Rattle.std.proofs.Common.{slice_get}
-use Rattle.std.proofs.lemmas.Option.{slice_get_past}
 use Rattle.go_store.specs.Cells.{integer_in, packed, packed_bytes, read_at}
 use Rattle.go_store.proofs.Reached.{got, past_get, read_into, read_past, read_ints, read_bytes, read_leaf}
 use Rattle.go_store.proofs.parts.+read_int.Goals as goal

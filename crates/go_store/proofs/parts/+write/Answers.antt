@@ -1,12 +1,6 @@
-use Rattle.std.proofs.Common.{rules, ◌≡◌, ◌∷◌, ◌∙◌, ap, sym, subst, refl, cond, Some, None, IsSome, IfSome, IfOk, OnOk, OnErr, Result, Ok, Err, Option, List, ℕ, ℤ, arith, slice_get, slice_set}
+use Rattle.std.proofs.Common.{◌∙◌, ap, sym, subst, IsSome, OnOk, slice_get, slice_set}
 use Rattle.std.specs.Global.{Vec}
-use Rattle.std.specs.Int.{w128}
-use Rattle.std.proofs.lemmas.Int.{to_z-of_z}
-use Rattle.std.proofs.lemmas.Int.{ints}
-use Rattle.std.proofs.Common.{to_z, of_z}
-use Rattle.go_value.specs.Values as vals
-use Rattle.go_value.specs.Values.{Val}
-use Rattle.go_store.specs.Cells.{held, updated, written_at, packed, read_at}
+use Rattle.go_store.specs.Cells.{held}
 use Rattle.go_store.specs.declared.cells.Place.{Place}
 use Rattle.go_store.proofs.Reached.{got, on_ok, on_err, place_written, place_same, read_into}
 use Rattle.go_store.proofs.Written.{put_many_is}

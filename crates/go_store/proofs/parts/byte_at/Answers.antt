@@ -1,4 +1,4 @@
-use Rattle.std.proofs.Common.{rules, ◌≡◌, ◌∷◌, [], ◌++◌, ◌∙◌, ap, sym, subst, refl, Some, None, IsSome, IfSome, IfOk, OnOk, OnErr, Option, List, ℕ, ℤ, pos, ◌+◌, ◌≤◌, arith, map, take, drop, unwrap_or, length}
+use Rattle.std.proofs.Common.{◌≡◌, ◌∙◌, pos, arith, map}
 use Rattle.std.specs.Int.{w128}
 use Rattle.std.proofs.lemmas.Int.{ints, to_z-of_z}
 use Rattle.std.proofs.Common.{to_z, of_z}

@@ -1,4 +1,4 @@
-use Rattle.std.proofs.Common.{rules, ◌≡◌, ◌∷◌, ◌∙◌, ap, sym, subst, refl, cond, Some, None, IfSome, IfOk, Option, List, ℕ, ℤ, arith}
+use Rattle.std.proofs.Common.{◌∙◌}
 use Rattle.go_store.proofs.Reached.{number_here, no_number_deeper, empty_list, copied_is}
 use Rattle.go_store.proofs.parts.number_at.Goals as goal
 

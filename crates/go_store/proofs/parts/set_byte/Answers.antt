@@ -1,4 +1,3 @@
-use Rattle.std.proofs.Common.{rules, ◌≡◌, ◌∷◌, [], ◌++◌, ◌∙◌, ap, sym, subst, refl, Some, None, IsSome, IfSome, IfOk, OnOk, OnErr, Option, List, ℕ, ℤ, pos, ◌+◌, ◌≤◌, arith, map, take, drop, unwrap_or, length}
 use Rattle.go_store.proofs.Reached.{byte_set, byte_there, empty_list}
 use Rattle.go_store.proofs.parts.set_byte.Goals as goal
 

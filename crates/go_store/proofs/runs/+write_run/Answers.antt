@@ -1,7 +1,5 @@
-use Rattle.std.proofs.Common.{rules, ◌≡◌, ◌∷◌, [], ◌++◌, ◌∙◌, ap, sym, subst, refl, cond, Some, None, IsSome, IfSome, IfOk, OnOk, OnErr, Result, Ok, Err, Option, List, ℕ, ℤ, ◌+◌, ◌-◌, ◌≤◌, arith, slice_get, slice_set, map, take, drop, replicate, unwrap_or, length}
+use Rattle.std.proofs.Common.{◌∙◌, ap, sym, slice_get, slice_set}
 use Rattle.std.specs.Global.{Vec}
-use Rattle.std.specs.Int.{w128}
-use Rattle.std.proofs.lemmas.Int.{to_z-of_z}
 use Rattle.go_store.specs.Arrays.{with_run}
 use Rattle.go_store.specs.Cells.{held}
 use Rattle.go_store.specs.declared.cells.Place.{Place}

@@ -1,7 +1,5 @@
-use Rattle.std.proofs.Common.{rules, ◌≡◌, ◌∷◌, [], ◌++◌, ◌∙◌, ap, sym, subst, refl, Some, None, IsSome, IfSome, IfOk, OnOk, OnErr, Option, List, ℕ, ℤ, pos, ◌+◌, ◌≤◌, arith, map, take, drop, replicate, unwrap_or, length}
-use Rattle.std.specs.Int.{w128}
+use Rattle.std.proofs.Common.{◌≡◌, ◌∙◌, ap, pos, ◌+◌, arith, replicate, length}
 use Rattle.std.proofs.lemmas.Int.{ints, to_z-of_z}
-use Rattle.std.proofs.Common.{to_z, of_z}
 use Rattle.go_value.specs.Values as vals
 use Rattle.go_store.specs.Arrays.{with_elements}
 use Rattle.go_store.specs.Cells.{packed_bytes}

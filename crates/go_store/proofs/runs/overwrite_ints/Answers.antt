@@ -1,9 +1,8 @@
-use Rattle.std.proofs.Common.{rules, ◌≡◌, ◌∷◌, [], ◌++◌, ◌∙◌, ap, sym, subst, refl, cond, Some, None, IsSome, IfSome, IfOk, OnOk, OnErr, Result, Ok, Err, Option, List, ℕ, ℤ, ◌+◌, ◌-◌, ◌≤◌, arith, slice_get, slice_set, map, take, drop, replicate, unwrap_or, length}
+use Rattle.std.proofs.Common.{◌∙◌, ap, sym, ℤ}
 use Rattle.std.specs.Global.{Vec}
 use Rattle.std.proofs.lemmas.List.{with_items_is}
 use Rattle.go_store.specs.Arrays.{with_run}
 use Rattle.go_store.specs.Cells.{held, packed}
-use Rattle.go_store.specs.declared.cells.Place.{Place}
 use Rattle.go_store.proofs.Held.{ints_are}
 use Rattle.go_store.proofs.Overwritten.{numbers_over, on_ok_with}
 use Rattle.go_store.proofs.runs.overwrite_ints.Goals as goal

@@ -1,4 +1,4 @@
-use Rattle.std.proofs.Common.{◌≡◌, map, take, replicate}
+use Rattle.std.proofs.Common.{◌≡◌, map, take}
 use Rattle.go_value.specs.Values.{value_of}
 use Rattle.go_store.specs.Arrays.{with_elements}
 use Rattle.go_store.specs.Cells.{held}

@@ -1,4 +1,4 @@
-use Rattle.std.proofs.Common.{rules, ◌≡◌, ◌∷◌, [], ◌++◌, ◌∙◌, ap, sym, subst, refl, Some, None, IsSome, IfSome, IfOk, OnOk, OnErr, Option, List, ℕ, ℤ, pos, ◌+◌, ◌≤◌, arith, map, take, drop, unwrap_or, length}
+use Rattle.std.proofs.Common.{◌∷◌, [], ◌++◌, ◌∙◌, ap, sym, ℕ, pos}
 use Rattle.std.specs.Global.{Vec}
 use Rattle.go_value.specs.Values as vals
 use Rattle.go_store.specs.Arrays.{with_elements}

@@ -1,14 +1,10 @@
-use Rattle.std.proofs.Common.{rules, ◌≡◌, ◌∷◌, [], ◌++◌, ◌∙◌, ap, sym, subst, refl, cond, Some, None, IsSome, IfSome, IfOk, OnOk, OnErr, Result, Ok, Err, Option, List, ℕ, ℤ, ◌+◌, ◌-◌, ◌≤◌, arith, slice_get, slice_set, map, take, drop, replicate, unwrap_or, length}
+use Rattle.std.proofs.Common.{[], ◌∙◌, ap, sym, ℕ, ℤ, unwrap_or}
 use Rattle.std.specs.Global.{Vec}
-use Rattle.std.proofs.lemmas.List.{with_items_is}
-use Rattle.go_store.specs.Arrays.{with_run, with_elements, run_of}
-use Rattle.go_value.specs.Values as vals
-use Rattle.go_value.specs.Values.{Val}
-use Rattle.go_store.specs.Cells.{held, held_in, packed, packed_bytes, spread}
+use Rattle.go_store.specs.Arrays.{with_elements, run_of}
+use Rattle.go_store.specs.Cells.{held, packed, packed_bytes, spread}
 use Rattle.go_store.specs.declared.cells.Place.{Place}
 use Rattle.go_store.proofs.Held.{ints_are, bytes_are, many_are}
-use Rattle.go_store.proofs.Overwritten.{on_ok_with, ints_run, places_run}
-use Rattle.go_store.proofs.Reached.{on_ok, on_err}
+use Rattle.go_store.proofs.Reached.{on_ok}
 use Rattle.go_store.proofs.Written.{put_many_is, put_ints_is, put_bytes_is}
 use Rattle.go_store.proofs.runs.push_onto.Goals as goal
 

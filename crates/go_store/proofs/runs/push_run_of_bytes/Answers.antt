@@ -1,7 +1,7 @@
-use Rattle.std.proofs.Common.{rules, ◌≡◌, ◌∷◌, [], ◌++◌, ◌∙◌, ap, sym, subst, refl, Some, None, IsSome, IfSome, IfOk, OnOk, OnErr, Option, List, ℕ, ℤ, pos, ◌+◌, ◌≤◌, arith, map, take, drop, unwrap_or, length}
+use Rattle.std.proofs.Common.{[], ◌∙◌, ap, sym, subst, refl, IsSome, Option, List, pos, map, unwrap_or}
 use Rattle.go_value.specs.Values.{Val}
-use Rattle.go_store.specs.Arrays.{run_of, with_elements}
-use Rattle.go_store.specs.Cells.{held, packed, packed_bytes}
+use Rattle.go_store.specs.Arrays.{with_elements}
+use Rattle.go_store.specs.Cells.{packed, packed_bytes}
 use Rattle.std.proofs.lemmas.List.{map-append}
 use Rattle.go_store.proofs.Overwritten.{bytes_run, ints_run, numbers_pushed, on_ok_with}
 use Rattle.go_store.proofs.Reached.{on_ok}

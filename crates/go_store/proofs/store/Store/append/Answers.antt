@@ -1,5 +1,4 @@
-use Rattle.std.proofs.Common.{◌≡◌, ◌<◌, ◌≤◌, ◌+◌, ◌^◌, ℕ, arith, length}
-use Rattle.go_store.specs.Slices.{most_elements}
+use Rattle.std.proofs.Common.{◌<◌, ◌≤◌, ◌+◌, arith, length}
 use Rattle.go_store.proofs.Appended.{grow_fault, most_is_less, far}
 use Rattle.go_store.proofs.store.Store.append.Goals as goal
 

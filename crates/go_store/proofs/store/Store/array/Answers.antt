@@ -1,12 +1,6 @@
-use Rattle.std.proofs.Common.{rules, ◌≡◌, ◌∷◌, [], ◌++◌, ◌∙◌, ap, sym, subst, refl, cond, Some, None, IsSome, IfSome, IfOk, OnOk, OnErr, Result, Ok, Err, Option, List, ℕ, ℤ, ◌+◌, ◌-◌, ◌≤◌, arith, slice_get, slice_set, map, take, drop, replicate, unwrap_or, length}
-use Rattle.std.specs.Global.{Vec}
-use Rattle.std.specs.Int.{w128}
-use Rattle.std.proofs.lemmas.Int.{to_z-of_z}
-use Rattle.std.proofs.lemmas.List.{take_at}
-use Rattle.go_store.specs.Stores.{stored, part_in}
-use Rattle.go_store.specs.Cells.{held, read_at}
+use Rattle.std.proofs.Common.{◌∙◌, ap, sym, slice_get}
 use Rattle.go_store.proofs.Reached.{got}
-use Rattle.go_store.proofs.Changed.{part_at, loaded_from}
+use Rattle.go_store.proofs.Changed.{loaded_from}
 use Rattle.go_store.proofs.store.Store.array.Goals as goal
 
 pub returns-clause-array : goal.returns-clause-array

@@ -1,9 +1,7 @@
-use Rattle.std.proofs.Common.{rules, ◌≡◌, ◌∷◌, [], ◌++◌, ◌∙◌, ap, sym, subst, refl, cond, Some, None, IsSome, IfSome, IfOk, OnOk, OnErr, Result, Ok, Err, Option, List, ℕ, ℤ, ◌+◌, ◌-◌, ◌≤◌, arith, slice_get, slice_set, map, take, drop, replicate, unwrap_or, length, append_assoc}
-use Rattle.std.specs.Global.{Vec}
-use Rattle.go_value.specs.Values.{Val, value_of}
+use Rattle.std.proofs.Common.{[], ◌++◌, ◌∙◌, ap, sym, map, replicate, unwrap_or, append_assoc}
+use Rattle.go_value.specs.Values.{value_of}
 use Rattle.go_value.specs.Zeros.{zeroed}
 use Rattle.go_store.specs.Arrays.{array_of, with_elements}
-use Rattle.go_store.specs.Cells.{held}
 use Rattle.go_store.specs.Slices.{elements_of}
 use Rattle.go_store.specs.Stores.{stored}
 use Rattle.go_store.proofs.Lengthened.{more}

@@ -1,7 +1,4 @@
-use Rattle.std.proofs.Common.{rules, ◌≡◌, ◌∷◌, ◌∙◌, ap, sym, subst, refl, cond, Some, None, IsSome, IfSome, IfOk, OnOk, OnErr, Result, Ok, Err, Option, List, ℕ, ℤ, arith, slice_get, slice_set}
-use Rattle.std.specs.Global.{Vec}
-use Rattle.std.specs.Int.{w128}
-use Rattle.std.proofs.lemmas.Int.{to_z-of_z}
+use Rattle.std.proofs.Common.{ap, sym, subst, IsSome, OnOk, List}
 use Rattle.go_value.specs.Values.{Val}
 use Rattle.go_store.specs.Cells.{held, written_at}
 use Rattle.go_store.specs.Stores.{stored}

@@ -1,6 +1,4 @@
-use Rattle.std.proofs.Common.{rules, ◌≡◌, ◌∷◌, [], ◌++◌, ◌∙◌, ap, sym, subst, refl, cond, Some, None, IsSome, IfSome, IfOk, OnOk, OnErr, Result, Ok, Err, Option, List, ℕ, ℤ, ◌+◌, ◌-◌, ◌≤◌, arith, slice_get, slice_set, map, take, drop, replicate, unwrap_or, length, append_assoc}
-use Rattle.std.specs.Global.{Vec}
-use Rattle.go_store.specs.Arrays.{with_run}
+use Rattle.std.proofs.Common.{◌∙◌, sym}
 use Rattle.go_store.specs.Cells.{held}
 use Rattle.go_store.specs.Stores.{stored}
 use Rattle.go_store.proofs.Reached.{on_ok}
