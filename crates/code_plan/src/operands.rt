@@ -231,7 +231,6 @@ impl Place<'_> {
         }
     }
 
-    #[tactic(auto, using(go_value::proofs::Variants::closure_is))]
     fn made_function(&self, function: FuncId) -> Result<Arg, NoMemory>
         ensures { let s = site_of self.now in IfOk result (λ it. IsArg s (operand_of.Function function) it) }
     {
@@ -241,7 +240,6 @@ impl Place<'_> {
         Ok(Arg::Held(self.boxed(value)?))
     }
 
-    #[tactic(auto, using(go_value::proofs::Variants::pointer_is))]
     fn variable(&self, variable: VarId) -> Result<Arg, NoMemory>
         ensures { let s = site_of self.now in IfOk result (λ it. IsArg s (operand_of.Variable variable) it) }
     {
@@ -257,7 +255,6 @@ impl Place<'_> {
         Ok(Arg::Held(self.boxed(self.constant_value(value, of)?)?))
     }
 
-    #[tactic(auto, using(go_value::proofs::Variants::int_is, go_value::proofs::Variants::truth_is))]
     fn constant_value(&self, value: &ConstValue, of: TypeId) -> Result<Value, NoMemory>
         ensures { let s = site_of self.now in IfOk result (λ it. ir.constant_value s.code value.now of ≡ Some (value_of it)) }
     {

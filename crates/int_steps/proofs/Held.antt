@@ -10,20 +10,16 @@ use mathlib.Core.Logic.{inl, inr}
 use Rattle.go_base.specs.declared.ids.CellId.{CellId}
 use Rattle.go_store.specs.Cells.{integer_in}
 use Rattle.go_store.specs.Stores.{Stored, loaded, put_in}
-use Rattle.go_value.proofs.Variants.{Layer, seen, seen_out}
 use Rattle.go_value.specs.Gives.{FaultsIff}
-use Rattle.go_value.specs.Values.{Field, Typed, Val, dynamic_layer, function_layer, function_of, number, part_layer}
-use Rattle.go_value.specs.Values.{pointer, range_of, value_layer, value_of}
+use Rattle.go_value.specs.Values.{Val, function_of, number}
+use Rattle.go_value.specs.Values.{pointer, range_of, value_of}
 use Rattle.go_value.specs.declared.address.Pointer.{Pointer}
 use Rattle.go_value.specs.declared.faults.Fault.{Fault}
 use Rattle.go_value.specs.declared.faults.Fault.TheVariants as fault
 use Rattle.go_value.specs.declared.faults.ValueError.{ValueError}
 use Rattle.go_value.specs.declared.faults.ValueError.TheVariants as errors
 use Rattle.go_value.specs.declared.values.FuncValue.{FuncValue}
-use Rattle.go_value.specs.declared.values.FuncValue.TheFolds.{fold_out-FuncValue}
-use Rattle.go_value.specs.declared.values.FuncValue.TheOpen as layers
-use Rattle.go_value.specs.declared.values.FuncValue.TheOpen.{FuncValue-F}
-use Rattle.go_value.specs.declared.values.FuncValue.TheViews.{out-Value, roll-Value, roll-out-Value}
+use Rattle.go_value.specs.declared.values.FuncValue.TheVariants as functions
 use Rattle.go_value.specs.declared.values.RangeState.{RangeState}
 use Rattle.go_value.specs.declared.values.RangeState.TheVariants as states
 use Rattle.go_value.specs.declared.values.Value.{Value}
@@ -41,40 +37,29 @@ use Rattle.ssa_mean.specs.Places.{assigned}
 
 -- ---- what is no pointer
 
-of_function_layer : (it : FuncValue-F Val Val Typed Field) → as_pointer (function_layer it) ≡ None
-of_function_layer (layers.FuncValue-F.Nil) = refl
-of_function_layer (layers.FuncValue-F.Closure function captured) = refl
-of_function_layer (layers.FuncValue-F.Bound target receiver) = refl
-of_function_layer (layers.FuncValue-F.Expression receiver name package_number) = refl
-
 of_function : (it : FuncValue) → as_pointer (function_of it) ≡ None
-unfolding function_of
-of_function it =
-    ap as_pointer (fold_out-FuncValue Val Val Typed Field function_layer value_layer dynamic_layer part_layer it)
-    ∙ of_function_layer _
+of_function functions.Nil = refl
+of_function (functions.Closure function captured) = refl
+of_function (functions.Bound target receiver) = refl
+of_function (functions.Expression receiver name package_number) = refl
 
 of_range : (it : RangeState) → as_pointer (range_of it) ≡ None
 of_range (states.Text bytes next) = refl
 of_range (states.Map of left) = refl
 
-not_pointer_by : (layer : Layer) (it : Value) → out-Value it ≡ layer → ((a : Pointer) → it ≡ values.Pointer a → ⊥)
-    → as_pointer (seen layer) ≡ None
-not_pointer_by (layers.Value-F.Truth a) it eq other = refl
-not_pointer_by (layers.Value-F.Int a) it eq other = refl
-not_pointer_by (layers.Value-F.Text a) it eq other = refl
-not_pointer_by (layers.Value-F.Pointer a) it eq other =
-    absurd (other a (sym (roll-out-Value it) ∙ ap roll-Value eq ∙ values.rolls-Pointer a))
-not_pointer_by (layers.Value-F.Slice a) it eq other = refl
-not_pointer_by (layers.Value-F.Map a) it eq other = refl
-not_pointer_by (layers.Value-F.Chan a) it eq other = refl
-not_pointer_by (layers.Value-F.Func a) it eq other = of_function a.value
-not_pointer_by (layers.Value-F.NilInterface) it eq other = refl
-not_pointer_by (layers.Value-F.Interface a) it eq other = refl
-not_pointer_by (layers.Value-F.Parts a) it eq other = refl
-not_pointer_by (layers.Value-F.Iter a) it eq other = of_range a.value
-
 pub not_pointer : (it : Value) → ((a : Pointer) → it ≡ values.Pointer a → ⊥) → as_pointer (value_of it) ≡ None
-not_pointer it other = ap as_pointer (seen_out it) ∙ not_pointer_by (out-Value it) it refl other
+not_pointer (values.Truth a) other = refl
+not_pointer (values.Int a) other = refl
+not_pointer (values.Text a) other = refl
+not_pointer (values.Pointer a) other = absurd (other a refl)
+not_pointer (values.Slice a) other = refl
+not_pointer (values.Map a) other = refl
+not_pointer (values.Chan a) other = refl
+not_pointer (values.Func a) other = of_function a.value
+not_pointer values.NilInterface other = refl
+not_pointer (values.Interface a) other = refl
+not_pointer (values.Parts a) other = refl
+not_pointer (values.Iter a) other = of_range a.value
 
 -- ---- slots past all numbers
 

@@ -9,7 +9,6 @@ use Rattle.go_sched.specs.Goroutines.{state_of}
 use Rattle.go_store.specs.Stores.{Stored, stored}
 use Rattle.go_value.specs.Values as vals
 use Rattle.go_value.specs.Values.{Val, value_of}
-use Rattle.go_value.proofs.Variants.{int_is}
 use Rattle.go_value.specs.declared.values.Value.{Value}
 use Rattle.go_value.specs.declared.values.Value.TheVariants as values
 use Rattle.interp_builtins.specs.Done.{Finishes, IsDone, IsDoneIn}
@@ -221,4 +220,4 @@ for_form w it known outcome old new is done =
 pub int_given : (store : Stored) (z it : ℤ) → z ≡ it
     → ◌≡◌ {A = Comes Done} (to (gives store (vals.number it)))
     (to (record { value = Some (value_of (values.Int z)); store = store; written = [] }))
-int_given store z it is = ap (λ it. to (gives store it)) (sym (int_is z ∙ ap vals.number is))
+int_given store z it is = ap (λ it. to (gives store it)) (sym (ap vals.number is))

@@ -7,8 +7,7 @@ use Rattle.code_plan.specs.declared.steps.Arg.{Arg}
 use Rattle.code_plan.specs.declared.steps.PlannedCase.{PlannedCase}
 use Rattle.code_plan.specs.declared.steps.PlannedCase.TheVariants as case
 use Rattle.std.proofs.Common.{IfOk, Result, Ok, Err, is_some, option_map, subst, ℤ}
-use Rattle.go_value.proofs.Variants.{int_is, part_is, truth_is}
-use Rattle.go_value.specs.Values.{Val, Field, Parts, none, number, part, part_of, parts, parts_of, truth, value_of}
+use Rattle.go_value.specs.Values.{Val, Field, Parts, none, number, part, parts, parts_of, truth, value_of}
 use Rattle.go_value.specs.declared.values.Part.{Part}
 use Rattle.go_value.specs.declared.values.Value.{Value}
 use Rattle.go_value.specs.declared.values.Value.TheVariants as values
@@ -80,32 +79,30 @@ if_ok P Q (Err e) h f = h
 pub at_ok : {A E : Type 0} (P : A → Type 0) (r : Result A E) (it : A) → IfOk r P → r ≡ Ok it → P it
 at_ok {A} {E} P r it h is = subst (λ (r : Result A E). IfOk r P) is h
 
-two_first : (one two : List Part) (first second : Part) (z : ℤ) (ok : Bool) (rest : Parts) → two ≡ one ++ second ∷ []
-    → one ≡ [] ++ first ∷ [] → first ≡ record { value = values.Int z; blank = false }
-    → second ≡ record { value = values.Truth ok; blank = false }
-    → behind (map part_of two) rest ≡ part (number z) false (part (truth ok) false rest)
+two_first : (one two : List Field) (first second : Field) (z : ℤ) (ok : Bool) (rest : Parts) → two ≡ one ++ second ∷ []
+    → one ≡ [] ++ first ∷ [] → first ≡ record { value = number z; blank = false }
+    → second ≡ record { value = truth ok; blank = false }
+    → behind two rest ≡ part (number z) false (part (truth ok) false rest)
 two_first one two first second z ok rest more some is other =
-    ap (λ them. behind (map part_of them) rest) (more ∙ ap (λ them. them ++ second ∷ []) some)
-    ∙ ap (λ (it : Field). part it.value it.blank (part (part_of second).value (part_of second).blank rest))
-    (ap part_of is ∙ part_is (record { value = values.Int z; blank = false })
-    ∙ ap (λ it. record { value = it; blank = false }) (int_is z))
+    ap (λ them. behind them rest) (more ∙ ap (λ them. them ++ second ∷ []) some)
+    ∙ ap (λ (it : Field). part it.value it.blank (part second.value second.blank rest))
+    is
     ∙ ap (λ (it : Field). part (number z) false (part it.value it.blank rest))
-    (ap part_of other ∙ part_is (record { value = values.Truth ok; blank = false })
-    ∙ ap (λ it. record { value = it; blank = false }) (truth_is ok))
+    other
 
 pub tuple_is : {E : Type 0} (result : Result Value E) (cases : List PlannedCase) (chosen : Option ℕ)
     (value : Option Value)
-    (final made one two : List Part) (first second : Part) (z : ℤ) (ok : Bool)
-    → IfOk result (λ it. value_of it ≡ parts (parts_of (map part_of final)))
-    → parts_of (map part_of final) ≡ behind (map part_of two) (received_parts 0 chosen
+    (final made one two : List Field) (first second : Field) (z : ℤ) (ok : Bool)
+    → IfOk result (λ it. value_of it ≡ parts (parts_of final))
+    → parts_of final ≡ behind two (received_parts 0 chosen
     (option_map value_of value) cases)
     → two ≡ one ++ second ∷ [] → one ≡ made ++ first ∷ [] → made ≡ []
-    → first ≡ record { value = values.Int z; blank = false }
-    → second ≡ record { value = values.Truth ok; blank = false } → z ≡ case_number chosen → ok ≡ is_some value
+    → first ≡ record { value = number z; blank = false }
+    → second ≡ record { value = truth ok; blank = false } → z ≡ case_number chosen → ok ≡ is_some value
     → IfOk result (λ it. value_of it ≡ selected cases chosen (option_map value_of value))
 tuple_is result cases chosen value final made one two first second z ok holds all more some empty is other same there =
     let rest = received_parts 0 chosen (option_map value_of value) cases in
-    if_ok (λ it. value_of it ≡ parts (parts_of (map part_of final)))
+    if_ok (λ it. value_of it ≡ parts (parts_of final))
     (λ it. value_of it ≡ selected cases chosen (option_map value_of value)) result holds
     (λ it holds. holds ∙ ap parts (all
     ∙ two_first one two first second z ok rest more (some ∙ ap (λ them. them ++ first ∷ []) empty) is other

@@ -6,7 +6,6 @@ use Rattle.std.specs.Prelude.{if◌then◌else◌}
 use Rattle.std.proofs.lemmas.List.{map-append, reverse-append}
 use Rattle.std.proofs.Common.{Option, None}
 use Rattle.std.specs.Option.{option_map_or}
-use Rattle.go_value.proofs.Variants.{nil_interface_is}
 use Rattle.go_value.specs.Values.{nil_interface, value_of}
 use Rattle.go_value.specs.declared.values.Value.{Value}
 use Rattle.go_value.specs.declared.values.Value.TheVariants as values
@@ -180,4 +179,3 @@ recovers_not old slot may =
     let (top, both) = some_top (λ (top : Frame). may_recover (frame_of top)) old.current.top false may in
     ap (recovers_in m slot) (frames_are old.current top both.0)
     ∙ ap (λ (b : Bool). acts_in b m slot (frame_of top) (below_of old.current)) both.1
-    ∙ ap (λ it. goes (with_result slot (Some it) m)) (sym nil_interface_is)

@@ -24,7 +24,6 @@ use Rattle.go_value.specs.declared.address.Pointer.{Pointer}
 use Rattle.go_value.specs.declared.address.SliceValue.{SliceValue}
 use Rattle.go_value.specs.declared.faults.Fault.{Fault}
 use Rattle.go_value.specs.Values.{value_of}
-use Rattle.go_value.proofs.Variants.{int_is}
 use Rattle.go_value.specs.declared.values.Value.{Value}
 use Rattle.go_value.specs.declared.values.Value.TheVariants as values
 use Rattle.go_store.specs.Conversions.{numbers_of}
@@ -280,7 +279,7 @@ pub int_done : (z : ℤ) (n : ℕ) (one two : Stored) → z ≡ pos n → two �
     → ◌≡◌ {A = Comes Done} (to (record { value = Some (vals.number (pos n)); store = one; written = [] }))
     (to (record { value = Some (value_of (values.Int z)); store = two; written = [] }))
 int_done z n one two is same =
-    ap (λ it. to (record { value = Some it; store = one; written = [] })) (sym (int_is z ∙ ap vals.number is))
+    ap (λ it. to (record { value = Some it; store = one; written = [] })) (sym (ap vals.number is))
     ∙ ap (λ (store : Stored). to (record { value = Some (value_of (values.Int z)); store = store; written = [] }))
     (sym same)
 
@@ -298,7 +297,7 @@ pub byte_more : (items after : List Value) (bytes : List ℕ) (i : ℕ) (z : ℤ
 byte_more items after bytes i z before within is pushed =
     ap (map value_of) pushed ∙ map-append value_of items (values.Int z ∷ [])
     ∙ ap (λ front. front ++ value_of (values.Int z) ∷ []) before
-    ∙ ap (λ it. map vals.number (numbers_of (take i bytes)) ++ it ∷ []) (int_is z ∙ ap vals.number is)
+    ∙ ap (λ it. map vals.number (numbers_of (take i bytes)) ++ it ∷ []) (ap vals.number is)
     ∙ sym (ap (λ n. map vals.number (numbers_of (take n bytes))) (add-one i)
     ∙ ap (λ them. map vals.number (numbers_of them)) (take_one bytes i (get_or bytes i 0) (byte_at bytes i within))
     ∙ ap (map vals.number) (map-append pos (take i bytes) (get_or bytes i 0 ∷ []))

@@ -183,7 +183,6 @@ fn close(machine: &mut Machine<'_>) -> Turn
 }
 
 /// The one channel that is on its way.
-#[tactic(auto, using(go_value::proofs::Variants::chan_is))]
 fn only_chan(machine: &Machine<'_>) -> Option<Option<ChanId>>
     ensures { IfSome result (λ it. map value_of machine.now.waiting.items ≡ vals.chan_number it ∷ []) }
 {
@@ -337,7 +336,6 @@ fn two(values: &[Value]) -> Option<(&Value, &Value)>
 }
 
 /// The one map that is on its way.
-#[tactic(auto, using(go_value::proofs::Variants::map_is))]
 fn only_map(machine: &Machine<'_>) -> Option<Option<MapId>>
     ensures { IfSome result (λ it. map value_of machine.now.waiting.items ≡ vals.map_number it ∷ []) }
 {
@@ -438,7 +436,6 @@ fn is_better(value: &Value, best: &Value, greatest: bool) -> Result<bool, NoMemo
     }
 }
 
-#[tactic(auto, using(go_value::proofs::Variants::int_is, go_value::proofs::Variants::text_is))]
 fn is_less(a: &Value, b: &Value) -> Result<bool, NoMemory>
     ensures { IfOk result (λ it. it ≡ calls.is_less (value_of a.now) (value_of b.now)) }
 {

@@ -9,7 +9,7 @@ ghost use Rattle.go_sched.specs.Channels as chans;
 ghost use Rattle.go_sched.specs.Goroutines.{state_of};
 ghost use Rattle.go_sched.specs.Operations.{how_of, receives, selects, woken_of};
 ghost use Rattle.go_value.specs.Values as vals;
-ghost use Rattle.go_value.specs.Values.{part_of, parts_of, value_of};
+ghost use Rattle.go_value.specs.Values.{parts_of, value_of};
 ghost use Rattle.go_value.specs.declared.values.Value.{Value};
 ghost use Rattle.interp_builtins.specs.Operations.{Completes, chooses, given_of, gone_at, gone_with, receives_as};
 ghost use Rattle.interp_builtins.specs.Received.{behind};
@@ -330,7 +330,7 @@ fn push_received(
     chosen: Option<u32>,
     value: Option<Value>,
 ) -> Result<(), NoMemory>
-    ensures { OnOk result (parts_of (map part_of parts.new.items) ≡ behind (map part_of parts.old.items) (received_parts 0 chosen (option_map value_of value) cases.now)) }
+    ensures { OnOk result (parts_of parts.new.items ≡ behind parts.old.items (received_parts 0 chosen (option_map value_of value) cases.now)) }
 {
     let mut value = value;
     for (index, case) in cases.iter().enumerate() {
@@ -347,7 +347,7 @@ fn push_case(
     chosen: bool,
     value: &mut Option<Value>,
 ) -> Result<(), NoMemory>
-    ensures { (index : ℕ) (picked : Option ℕ) (rest : List PlannedCase) → chosen ≡ operations.is_chosen index picked → OnOk result (behind (map part_of parts.new.items) (received_parts (suc index) picked (option_map value_of value.new) rest) ≡ behind (map part_of parts.old.items) (received_parts index picked (option_map value_of value.old) (case.now ∷ rest))) }
+    ensures { (index : ℕ) (picked : Option ℕ) (rest : List PlannedCase) → chosen ≡ operations.is_chosen index picked → OnOk result (behind parts.new.items (received_parts (suc index) picked (option_map value_of value.new) rest) ≡ behind parts.old.items (received_parts index picked (option_map value_of value.old) (case.now ∷ rest))) }
 {
     match case {
         PlannedCase::Receive { zero, .. } => {

@@ -25,7 +25,6 @@ use interp_state::{Met, lost};
 use std::alloc::Global;
 
 /// A slice, which is a value, with items behind its elements.
-#[tactic(auto, using(go_value::proofs::Variants::slice_is))]
 pub(crate) fn append_values(
     alloc: Global,
     store: &mut Store,
@@ -42,7 +41,6 @@ pub(crate) fn append_values(
 }
 
 /// A slice with the elements of another, or with the bytes of a text, behind its own.
-#[tactic(auto, using(go_value::proofs::Variants::slice_is, go_value::proofs::Variants::text_is))]
 pub(crate) fn append_more(
     alloc: Global,
     store: &mut Store,
@@ -62,7 +60,6 @@ pub(crate) fn append_more(
 }
 
 /// The first elements of a slice become those of another, or the bytes of a text.
-#[tactic(auto, using(go_value::proofs::Variants::slice_is, go_value::proofs::Variants::text_is))]
 pub(crate) fn copy_values(
     alloc: Global,
     store: &mut Store,
@@ -79,7 +76,6 @@ pub(crate) fn copy_values(
 }
 
 /// Each element of a slice becomes the zero value.
-#[tactic(auto, using(go_value::proofs::Variants::slice_is))]
 pub(crate) fn clear_value(
     alloc: Global,
     store: &mut Store,
@@ -95,7 +91,6 @@ pub(crate) fn clear_value(
 }
 
 /// The entry of a key of a map goes.
-#[tactic(auto, using(go_value::proofs::Variants::map_is))]
 pub(crate) fn delete_in(
     types: &Types,
     store: &mut Store,

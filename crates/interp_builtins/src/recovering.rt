@@ -77,7 +77,6 @@ fn first_below(frames: &[Frame<'_>]) -> Option<usize>
 }
 
 /// What a frame panics with. It returns then.
-#[tactic(auto, using(go_value::proofs::Variants::nil_interface_is))]
 fn recover_in(frame: &mut Frame<'_>) -> Value
     ensures value { value_of result ≡ recovered_value (frame_of frame.old).state }
     ensures frame { frame_of frame.new ≡ record (frame_of frame.old) { state = recovered_state (frame_of frame.old).state } }

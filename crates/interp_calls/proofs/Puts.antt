@@ -8,8 +8,7 @@ use Rattle.code_plan.specs.declared.steps.Arg.{Arg}
 use Rattle.go_base.specs.declared.ending.Ending.TheVariants as ending
 use Rattle.go_base.specs.declared.memory.NoMemory.{NoMemory}
 use Rattle.go_store.specs.Arrays.{array_of, elements}
-use Rattle.go_value.proofs.Variants.{int_is, part_is}
-use Rattle.go_value.specs.Values.{Val, Field, number, part_of, parts, parts_of, pointer, value_of, part}
+use Rattle.go_value.specs.Values.{Val, Field, number, parts, parts_of, pointer, value_of, part}
 use Rattle.go_value.specs.declared.address.Pointer.{Pointer}
 use Rattle.go_value.specs.declared.values.Part.{Part}
 use Rattle.go_value.specs.declared.values.Value.{Value}
@@ -96,18 +95,16 @@ look_more m (first ∷ args) arg its it all one =
         absurd cc
 
 -- one operand more is a part
-pub part_more : (m : Machine) (args more : List Arg) (arg : Arg) (value : Value) (one : Part) (before after : List Part)
+pub part_more : (m : Machine) (args more : List Arg) (arg : Arg) (value : Value) (one : Field) (before after : List Field)
     (its : List Val) → more ≡ args ++ arg ∷ [] → looked m arg ≡ Some (value_of value)
-    → one ≡ record { value = value; blank = false } → after ≡ before ++ one ∷ []
-    → look_at_all (machine_of m) args ≡ Some its → map part_of before ≡ map plain its
-    → (its : List Val) × ((look_at_all (machine_of m) more ≡ Some its) × (map part_of after ≡ map plain its))
+    → one ≡ record { value = value_of value; blank = false } → after ≡ before ++ one ∷ []
+    → look_at_all (machine_of m) args ≡ Some its → before ≡ map plain its
+    → (its : List Val) × ((look_at_all (machine_of m) more ≡ Some its) × (after ≡ map plain its))
 part_more m args more arg value one before after its longer read is pushed so_far are = (
   its ++ value_of value ∷ [],
   (
     ap (look_at_all (machine_of m)) longer ∙ look_more (machine_of m) args arg its (value_of value) so_far read,
-    ap (map part_of) pushed ∙ map-append part_of before (one ∷ []) ∙ ap (λ front. front ++ part_of one ∷ []) are
-        ∙ ap (λ (last : Field). map plain its ++ last ∷ [])
-        (ap part_of is ∙ part_is (record { value = value; blank = false }))
+    pushed ∙ ap (λ front. front ++ one ∷ []) are ∙ ap (λ (last : Field). map plain its ++ last ∷ []) is
         ∙ sym (map-append plain its (value_of value ∷ [])),
   ),
 )
@@ -117,9 +114,9 @@ parts_are [] = refl
 parts_are (it ∷ its) = ap (part it false) (parts_are its)
 
 -- the parts that were read are a tuple
-pub tuple_made : (made : Result Value NoMemory) (m : Machine) (args some : List Arg) (items : List Part)
-    (its : List Val) → some ≡ args → look_at_all (machine_of m) some ≡ Some its → map part_of items ≡ map plain its
-    → IfOk made (λ value. value_of value ≡ parts (parts_of (map part_of items)))
+pub tuple_made : (made : Result Value NoMemory) (m : Machine) (args some : List Arg) (items : List Field)
+    (its : List Val) → some ≡ args → look_at_all (machine_of m) some ≡ Some its → items ≡ map plain its
+    → IfOk made (λ value. value_of value ≡ parts (parts_of items))
     → IfOk made (λ it. (its : List Val) × ((look_at_all (machine_of m) args ≡ Some its) × (value_of it ≡ array_of its)))
 tuple_made (Ok value) m args some items its whole read are is = (
   its,
@@ -189,7 +186,7 @@ first_is (x ∷ xs) status is =
     let same : Some (values.Int status) ≡ Some x = is in
     let one : values.Int status ≡ x = cc in (
       map value_of xs,
-      ap (λ it. value_of it ∷ map value_of xs) (sym one) ∙ ap (λ it. it ∷ map value_of xs) (int_is status),
+      ap (λ it. value_of it ∷ map value_of xs) (sym one),
     )
 
 pub exits_with : (result : Turn) (old new : Machine) (first : Value) (status : ℤ) (code : ℕ)

@@ -5,7 +5,6 @@ use Rattle.std.specs.declared.rc.Rc.{Rc}
 use Rattle.code_plan.specs.declared.steps.Arg.{Arg}
 use Rattle.code_plan.specs.declared.steps.Callee.{Callee}
 use Rattle.code_plan.specs.declared.steps.MethodName.{MethodName}
-use Rattle.go_value.proofs.Variants.{dynamic_is, func_is, interface_is, nil_interface_is}
 use Rattle.go_value.specs.Values.{Val, Typed, dynamic, function_of, value_of}
 use Rattle.go_value.specs.declared.faults.Fault.TheVariants as fault
 use Rattle.go_value.specs.declared.values.Dynamic.{Dynamic}
@@ -25,30 +24,26 @@ use Rattle.ssa_mean.specs.Comes.{Comes, to, faults, of_option, then_to, where_so
 
 -- ---- methods
 
--- what an interface holds
-holds_typed : (it : Rc Dynamic Global) → value_of (values.Interface it) ≡ dynamic it.value.of (value_of it.value.value)
-holds_typed it = interface_is it ∙ ap (λ (t : Typed). dynamic t.of t.value) (dynamic_is it.value)
-
 pub method_is : (w : World) (chain : ℕ) (method : MethodName) (arguments : List Val) (there : Option Val) (it : Value)
-    (held : Rc Dynamic Global) (one two : Dynamic) (n : ℕ) (copy : Value) → there ≡ Some (value_of it)
+    (held : Rc Typed Global) (one two : Typed) (n : ℕ) (copy : Value) → there ≡ Some (value_of it)
     → it ≡ values.Interface held → one ≡ held.value → two ≡ held.value
-    → method_at w (record { receiver = one.of; method = method }) ≡ Some n → value_of copy ≡ value_of two.value
+    → method_at w (record { receiver = one.of; method = method }) ≡ Some n → value_of copy ≡ two.value
     → where_some (invoked w chain method arguments) there
     ≡ to (later (of_function n []) chain (value_of copy ∷ arguments))
 method_is w chain method arguments there it held one two n copy is interface same same' found copied =
-    let holds : value_of held.value.value ≡ value_of copy =
-    sym (copied ∙ ap (λ (d : Dynamic). value_of d.value) same') in
+    let holds : held.value.value ≡ value_of copy =
+    sym (copied ∙ ap (λ (d : Typed). d.value) same') in
     let found' : method_at w (record { receiver = held.value.of; method = method }) ≡ Some n =
-    ap (λ (d : Dynamic). method_at w (record { receiver = d.of; method = method })) (sym same) ∙ found in
+    ap (λ (d : Typed). method_at w (record { receiver = d.of; method = method })) (sym same) ∙ found in
     ap (where_some (invoked w chain method arguments)) (is
-    ∙ ap Some (ap value_of interface ∙ holds_typed held ∙ ap (dynamic held.value.of) holds))
+    ∙ ap Some (ap value_of interface ∙ ap (dynamic held.value.of) holds))
     ∙ ap (λ n. then_to (λ n. later (of_function n []) chain (value_of copy ∷ arguments)) (of_option n)) found'
 
 pub no_method : (w : World) (chain : ℕ) (method : MethodName) (arguments : List Val) (there : Option Val) (it : Value)
     → there ≡ Some (value_of it) → it ≡ values.NilInterface
     → where_some (invoked w chain method arguments) there ≡ faults fault.NilPointer
 no_method w chain method arguments there it is nil =
-    ap (where_some (invoked w chain method arguments)) (is ∙ ap Some (ap value_of nil ∙ nil_interface_is))
+    ap (where_some (invoked w chain method arguments)) (is ∙ ap Some (ap value_of nil))
 
 -- ---- function values
 
@@ -58,7 +53,7 @@ pub func_called : {E : Type 0} (r : Result (Option (ℕ × Bound)) E) (it : Valu
     → IfOk r (λ c. called_value (value_of it) ≡ Some (called_as c))
 func_called r it held inner is same =
     subst (λ v. IfOk r (λ c. called_value v ≡ Some (called_as c)))
-    (ap function_of same ∙ sym (ap value_of is ∙ func_is held))
+    (ap function_of same ∙ sym (ap value_of is))
 
 pub called_so : {E : Type 0} (r : Result (Option (ℕ × Bound)) E) (it other : Val) → it ≡ other
     → IfOk r (λ it. called_value other ≡ Some (called_as it)) → IfOk r (λ c. called_value it ≡ Some (called_as c))

@@ -183,8 +183,8 @@ fn method_of(machine: &Machine<'_>, receiver: &Arg, method: MethodName) -> Resul
 {
     match machine.look(receiver)? {
         Value::Interface(dynamic) => {
-            let function = machine.method(dynamic.of, method)?;
-            Ok((function, dynamic.value.copy(machine.alloc)?))
+            let function = machine.method(dynamic.of(), method)?;
+            Ok((function, dynamic.value().copy(machine.alloc)?))
         }
         Value::NilInterface => Err(Met::Fault(Fault::NilPointer)),
         _ => Err(Met::Memory),

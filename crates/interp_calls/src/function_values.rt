@@ -42,7 +42,7 @@ fn called_by_function(
             let bound = bound_to(machine, captured.as_slice())?;
             Ok(Some((function_number(*function)?, bound)))
         }
-        FuncValue::Bound { target, receiver } => called_bound(machine, target, receiver),
+        FuncValue::Bound { target, receiver } => called_bound(machine, target, receiver.value()),
         _ => Err(lost()),
     }
 }

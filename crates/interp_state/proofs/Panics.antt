@@ -5,8 +5,7 @@ use Rattle.std.specs.declared.rc.Rc.{Rc}
 use Rattle.code_plan.specs.declared.steps.Plan.{Plan}
 use Rattle.go_base.specs.declared.ids.TypeId.{TypeId}
 use Rattle.go_text.specs.Naming.{Naming}
-use Rattle.go_value.proofs.Variants.{interface_is, dynamic_is, nil_interface_is}
-use Rattle.go_value.specs.Values.{Val, Typed, dynamic, dynamic_of, text, value_of}
+use Rattle.go_value.specs.Values.{Val, Typed, dynamic, text, value_of}
 use Rattle.go_value.specs.declared.faults.Fault.{Fault}
 use Rattle.go_value.specs.declared.faults.Fault.TheVariants as fault
 use Rattle.go_value.specs.declared.values.Dynamic.{Dynamic}
@@ -24,7 +23,6 @@ use Rattle.interp_state.specs.declared.machine.Turn.TheVariants as turn
 use Rattle.plan_mean.specs.State as meant
 use Rattle.plan_mean.specs.State.{World, Next, goes, with_frames}
 use Rattle.plan_mean.specs.Unwinding.{at_recovery, throws, throws_from, panicked, panics_with, shown, thrown_by}
-use Rattle.ssa_mean.proofs.Tied.{panics_alike}
 use Rattle.ssa_mean.specs.Faults.{naming_of, thrown_with, value_text}
 use Rattle.ssa_mean.specs.Runes.{as_characters}
 use Rattle.ssa_mean.specs.Texts.{panic_text}
@@ -58,13 +56,11 @@ threw_none result old new thrown none ends =
 -- ---- what a fault throws
 
 -- a value in an interface
-pub interface_of : (it : Rc Dynamic Global) (of : TypeId) (held : Value) (inner : Val)
-    → it.value ≡ record { of = of; value = held } → value_of held ≡ inner
+pub interface_of : (it : Rc Typed Global) (of : TypeId) (held : Value) (inner : Val)
+    → it.value ≡ record { of = of; value = value_of held } → value_of held ≡ inner
     → value_of (values.Interface it) ≡ dynamic of inner
 interface_of it of held inner is holds =
-    interface_is it ∙ ap (λ (d : Dynamic). dynamic (dynamic_of d).of (dynamic_of d).value) is
-    ∙ ap (λ (t : Typed). dynamic t.of t.value) (dynamic_is (record { of = of; value = held }))
-    ∙ ap (dynamic of) holds
+    ap (λ (d : Typed). dynamic d.of d.value) is ∙ ap (dynamic of) holds
 
 -- the string of a fault in a world
 words_in : (w : World) (m : Machine) (fault : Fault) (words : List ℕ) → IsIn w m
@@ -92,20 +88,18 @@ thrown_text w m fault words bytes it within says unknown same is =
 
 -- ---- the text of a panic
 
-line_is : (w : World) (m : Machine) (it : Value) (held : Rc Dynamic Global) (inner : Dynamic) (bytes : List ℕ) → IsIn w m
+line_is : (w : World) (m : Machine) (it : Value) (held : Rc Typed Global) (inner : Typed) (bytes : List ℕ) → IsIn w m
     → it ≡ values.Interface held → inner ≡ held.value
     → bytes ≡ panic_string (naming_of m.code.now) m.plan.now.error_string inner
     → value_text w.naming w.plan.error_string (value_of it) ≡ Some (as_characters bytes)
 line_is w m it held inner bytes within is same says =
-    let inside : value_of it ≡ dynamic inner.of (value_of inner.value) =
-    ap value_of is ∙ interface_of held inner.of inner.value (value_of inner.value) (sym same) refl in
-    let told : bytes ≡ panic_text w.naming w.plan.error_string inner.of (value_of inner.value) =
+    let inside : value_of it ≡ dynamic inner.of inner.value = ap value_of is ∙ ap (λ (d : Typed). dynamic d.of d.value) (sym same) in
+    let told : bytes ≡ panic_text w.naming w.plan.error_string inner.of inner.value =
     says ∙ ap (λ (n : Naming). panic_string n m.plan.now.error_string inner) within.naming
-    ∙ ap (λ (plan : Plan). panic_string w.naming plan.error_string inner) within.plan
-    ∙ sym (panics_alike w.naming w.plan.error_string inner) in
+    ∙ ap (λ (plan : Plan). panic_string w.naming plan.error_string inner) within.plan in
     ap (value_text w.naming w.plan.error_string) inside ∙ ap (λ bytes. Some (as_characters bytes)) (sym told)
 
-pub line_told : {E : Type 0} (given : Result (List ℕ) E) (m : Machine) (it : Value) (held : Rc Dynamic Global) (inner : Dynamic)
+pub line_told : {E : Type 0} (given : Result (List ℕ) E) (m : Machine) (it : Value) (held : Rc Typed Global) (inner : Typed)
     (bytes seen : List ℕ) → it ≡ values.Interface held → inner ≡ held.value
     → bytes ≡ panic_string (naming_of m.code.now) m.plan.now.error_string inner → seen ≡ bytes
     → IfOk given (λ line. line ≡ as_characters seen)
@@ -122,7 +116,7 @@ pub panics_nil : (result : Turn) (old new : Machine) (it : Value) → it ≡ val
 panics_nil result old new it is step =
     record {
       comes = λ w within. subst (λ (next : Next). ComesTo w result new next)
-          (sym (ap (panics_with w (machine_of old)) (ap value_of is ∙ nil_interface_is))) (step.comes w within);
+          (sym (ap (panics_with w (machine_of old)) (ap value_of is))) (step.comes w within);
     }
 
 thrown_so : (w : World) (m : meant.Machine) (it : Val) (of : TypeId) (inner : Val) → it ≡ dynamic of inner
@@ -130,13 +124,13 @@ thrown_so : (w : World) (m : meant.Machine) (it : Val) (of : TypeId) (inner : Va
 thrown_so w m it of inner is =
     ap (panics_with w m) is ∙ sym (ap (λ (it : Val). throws w (code.of_value it) m) is)
 
-pub panics_dynamic : (result : Turn) (old new : Machine) (it : Value) (held : Rc Dynamic Global)
+pub panics_dynamic : (result : Turn) (old new : Machine) (it : Value) (held : Rc Typed Global)
     → it ≡ values.Interface held → Steps result old new (λ w. throws w (code.of_value (value_of it)) (machine_of old))
     → Steps result old new (λ w. panics_with w (machine_of old) (value_of it))
 panics_dynamic result old new it held is step =
     record {
       comes = λ w within. subst (λ (next : Next). ComesTo w result new next)
-          (sym (thrown_so w (machine_of old) (value_of it) (dynamic_of held.value).of (dynamic_of held.value).value
-          (ap value_of is ∙ interface_is held)))
+          (sym (thrown_so w (machine_of old) (value_of it) held.value.of held.value.value
+          (ap value_of is)))
           (step.comes w within);
     }

@@ -202,7 +202,6 @@ impl<'a> Machine<'a> {
     }
 
     /// The integer that an operand is.
-    #[tactic(auto, using(go_value::proofs::Variants::int_is))]
     pub fn int(&self, arg: &Arg) -> Result<i128, NoMemory>
         ensures { IfOk result (λ it. looked self.now arg.now ≡ Some (vals.number it)) }
     {
@@ -213,7 +212,6 @@ impl<'a> Machine<'a> {
     }
 
     /// The truth value that an operand is.
-    #[tactic(auto, using(go_value::proofs::Variants::truth_is))]
     pub fn truth(&self, arg: &Arg) -> Result<bool, NoMemory>
         ensures { IfOk result (λ it. looked self.now arg.now ≡ Some (vals.truth it)) }
     {
@@ -224,7 +222,6 @@ impl<'a> Machine<'a> {
     }
 
     /// The address that an operand is.
-    #[tactic(auto, using(go_value::proofs::Variants::pointer_is))]
     pub fn address<'b>(&'b self, arg: &'b Arg) -> Result<&'b Address, NoMemory>
         ensures { IfOk result (λ it. looked self.now arg.now ≡ Some (vals.pointer it.now)) }
     {
@@ -235,7 +232,6 @@ impl<'a> Machine<'a> {
     }
 
     /// The text that an operand is.
-    #[tactic(auto, using(go_value::proofs::Variants::text_is))]
     pub fn text<'b>(&'b self, arg: &'b Arg) -> Result<&'b Rc<Bytes>, NoMemory>
         ensures { IfOk result (λ it. looked self.now arg.now ≡ Some (vals.text it.now.value)) }
     {
@@ -246,7 +242,6 @@ impl<'a> Machine<'a> {
     }
 
     /// The slice that an operand is.
-    #[tactic(auto, using(go_value::proofs::Variants::slice_is))]
     pub fn slice<'b>(&'b self, arg: &'b Arg) -> Result<&'b SliceValue, NoMemory>
         ensures { IfOk result (λ it. looked self.now arg.now ≡ Some (vals.slice it.now)) }
     {
@@ -273,7 +268,6 @@ impl<'a> Machine<'a> {
     }
 
     /// Gives a register a truth value.
-    #[tactic(auto, using(go_value::proofs::Variants::truth_is))]
     pub fn set_truth(&mut self, to: u32, truth: bool) -> Turn
         ensures goes { result ≡ Turn.Goes }
         ensures wrote { Wrote to (vals.truth truth) self.old self.new }
@@ -353,7 +347,6 @@ impl<'a> Machine<'a> {
     }
 
     /// The channel that an operand is.
-    #[tactic(auto, using(go_value::proofs::Variants::chan_is))]
     pub fn chan(&self, arg: &Arg) -> Result<Option<ChanId>, NoMemory>
         ensures { IfOk result (λ it. looked self.now arg.now ≡ Some (vals.chan_number it)) }
     {

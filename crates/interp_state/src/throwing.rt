@@ -44,7 +44,7 @@ impl<'a> Machine<'a> {
         match self.plan.error_string {
             Some(of) => {
                 let value = Value::text(self.alloc, text)?;
-                let dynamic = Rc::new(self.alloc, Dynamic { of, value })?;
+                let dynamic = Rc::new(self.alloc, Dynamic::new(of, value))?;
                 Ok(Thrown::Value(Value::Interface(dynamic)))
             }
             None => Ok(Thrown::Fault(self.run_time_error(text.as_slice())?)),

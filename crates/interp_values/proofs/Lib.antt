@@ -1,5 +1,4 @@
 pub mod Followed
-pub mod Interfaces
 pub mod Looked
 pub mod Made
 pub mod Operations

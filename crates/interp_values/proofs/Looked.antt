@@ -1,8 +1,7 @@
 -- What the definition of runs makes of operands that a machine has looked at.
 use Rattle.std.proofs.Common.{◌≡◌, ◌∙◌, ap, List, ℤ, Some, map, sym}
 use Rattle.code_plan.specs.declared.steps.Arg.{Arg}
-use Rattle.go_value.proofs.Variants.{parts_is}
-use Rattle.go_value.specs.Values.{Val, number, part_of, parts, parts_of, value_of}
+use Rattle.go_value.specs.Values.{Val, number, parts, parts_of, value_of}
 use Rattle.go_value.specs.declared.values.Part.{Part}
 use Rattle.go_value.specs.declared.values.Value.{Value}
 use Rattle.go_value.specs.declared.values.Value.TheVariants as values
@@ -34,9 +33,8 @@ integers_are m first second a b next one two =
     ∙ integer_is m second b (λ b. next a b) two
 
 -- an operand that is a value of parts
-pub parts_are : (m : Machine) (arg : Arg) (value : Value) (it : _) (items : List Part)
+pub parts_are : (m : Machine) (arg : Arg) (value : Value) (it : _) (items : List Field)
     → looked m arg ≡ Some (value_of value) → value ≡ values.Parts it → items ≡ it.value.items
-    → looked m arg ≡ Some (parts (parts_of (map part_of items)))
+    → looked m arg ≡ Some (parts (parts_of items))
 parts_are m arg value it items is parts_of_it same =
-    is ∙ ap (λ (value : Value). Some (value_of value)) parts_of_it ∙ ap Some (parts_is it)
-    ∙ ap (λ (items : List Part). Some (parts (parts_of (map part_of items)))) (sym same)
+    is ∙ ap (λ (value : Value). Some (value_of value)) parts_of_it ∙ ap (λ (items : List Field). Some (parts (parts_of items))) (sym same)

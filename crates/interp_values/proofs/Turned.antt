@@ -16,8 +16,7 @@ use Rattle.go_store.specs.Stores.{Stored, stored}
 use Rattle.go_value.specs.Values.{Val, number, text, pointer, slice, map_number, chan_number, nil_function, closure}
 use Rattle.go_value.specs.Values.{bound}
 use Rattle.go_value.specs.Values.{truth, expression, nil_interface, dynamic, parts, text_range, map_range, value_of}
-use Rattle.go_value.proofs.Variants.{part_is, truth_is}
-use Rattle.go_value.specs.Values.{Field, parts_of, part_of, part, none}
+use Rattle.go_value.specs.Values.{Field, parts_of, part, none}
 use Rattle.go_value.specs.declared.values.Part.{Part}
 use Rattle.go_value.specs.declared.values.Value.TheVariants as values
 use Rattle.go_value.specs.declared.values.Value.{Value}
@@ -273,22 +272,14 @@ on_ok (Err e) P Q is next = tt
 
 -- ---- values of three parts
 
-abbrev pub plain : Value → Part
-plain it = record { value = it; blank = false }
+abbrev pub plain : Value → Field
+plain it = record { value = value_of it; blank = false }
 
-pub triple_is : (there : Bool) (key it : Value) (items : List Part)
+pub triple_is : (there : Bool) (key it : Value) (items : List Field)
     → items ≡ plain (values.Truth there) ∷ plain key ∷ plain it ∷ []
-    → parts (parts_of (map part_of items)) ≡ turn_of there (value_of key) (value_of it)
+    → parts (parts_of items) ≡ turn_of there (value_of key) (value_of it)
 triple_is there key it items is =
-    ap (λ (items : List Part). parts (parts_of (map part_of items))) is
-    ∙ ap (λ (first : Field). parts (part first.value first.blank
-    (parts_of (map part_of (plain key ∷ plain it ∷ []))))) (part_is (plain (values.Truth there)))
-    ∙ ap (λ (second : Field). parts (part (value_of (values.Truth there)) false
-    (part second.value second.blank (parts_of (map part_of (plain it ∷ [])))))) (part_is (plain key))
-    ∙ ap (λ (third : Field). parts (part (value_of (values.Truth there)) false
-    (part (value_of key) false (part third.value third.blank none)))) (part_is (plain it))
-    ∙ ap (λ (first : Val). parts (part first false (part (value_of key) false (part (value_of it) false none))))
-    (truth_is there)
+    ap (λ (items : List Field). parts (parts_of items)) is
 
 pub told : {E : Type 0} (given : Result Value E) (it other : Val) → it ≡ other → IfOk given (λ made. value_of made ≡ it)
     → IfOk given (λ made. value_of made ≡ other)

@@ -37,7 +37,6 @@ use go_value::{
 use interp_state::{Machine, Met, Turn, lost};
 
 /// The map that an operand is.
-#[tactic(auto, using(go_value::proofs::Variants::map_is))]
 fn map_id(machine: &Machine<'_>, arg: &Arg) -> Result<Option<MapId>, NoMemory>
     ensures { IfOk result (λ it. looked machine.now arg.now ≡ Some (vals.map_number it)) }
 {
@@ -120,7 +119,6 @@ pub fn make_map(machine: &mut Machine<'_>, to: u32) -> Turn
     machine.give(to, made)
 }
 
-#[tactic(auto, using(go_value::proofs::Variants::map_is))]
 fn made_map(machine: &mut Machine<'_>) -> Result<Value, Met>
     ensures { IsMade result machine.old machine.new (to (new_map (machine_of machine.old))) }
 {
@@ -142,7 +140,6 @@ fn made_chan(machine: &mut Machine<'_>, leaves: u32, size: &Arg) -> Result<Value
     chan_of_size(machine, leaves, size)
 }
 
-#[tactic(auto, using(go_value::proofs::Variants::chan_is))]
 fn chan_of_size(machine: &mut Machine<'_>, leaves: u32, size: i128) -> Result<Value, Met>
     ensures { IsMadeChannel result machine.old machine.new (making.made_chan leaves (state_of machine.old.sched) size) }
 {
@@ -339,7 +336,6 @@ fn converted(machine: &mut Machine<'_>, form: ConvertForm, operand: &Arg) -> Res
     }
 }
 
-#[tactic(auto, using(go_value::proofs::Variants::int_is))]
 fn int_to_int(machine: &Machine<'_>, kind: IntKind, operand: &Arg) -> Result<Value, Met>
     ensures { IsMade result machine.now machine.now (conversion (machine_of machine.now) (form.Int kind) operand.now) }
 {
@@ -467,7 +463,6 @@ fn is_nil_interface(is_interface: bool, value: &Value) -> bool
     is_interface && is_nil(value)
 }
 
-#[tactic(auto, using(crate::proofs::Interfaces::are_nil))]
 fn is_nil(value: &Value) -> bool
     ensures { result ≡ is_nil_of true (value_of value.now) }
 {
@@ -569,10 +564,10 @@ fn as_type(
     let Some(dynamic) = interface_of(value) else {
         return Ok(None);
     };
-    if dynamic.of == wanted {
-        return Ok(Some(dynamic.value.copy(machine.alloc)?));
+    if dynamic.of() == wanted {
+        return Ok(Some(dynamic.value().copy(machine.alloc)?));
     }
-    as_interface(machine, value, dynamic.of, wanted)
+    as_interface(machine, value, dynamic.of(), wanted)
 }
 
 /// A value in an interface, with its type, as one of another type. None where that is no type of interfaces, or is not
@@ -605,9 +600,8 @@ fn is_interface(machine: &Machine<'_>, of: TypeId) -> bool
 }
 
 /// What an interface holds. None where a value is none, or nil.
-#[tactic(auto, using(crate::proofs::Interfaces::are_dynamic))]
 fn interface_of(value: &Value) -> Option<&Dynamic>
-    ensures some { IfSome result (λ it. value_of value.now ≡ vals.dynamic it.now.of (value_of it.now.value)) }
+    ensures some { IfSome result (λ it. value_of value.now ≡ vals.dynamic it.now.of it.now.value) }
     ensures none { IfNone result (dynamic_type (value_of value.now) ≡ None) }
 {
     match value {

@@ -4,7 +4,7 @@ ghost use Rattle.std.specs.Prelude.{◌≡◌, IfOk, IfSome, None, Some, map};
 ghost use Rattle.code_plan.specs.declared.steps.Step.TheVariants as act;
 ghost use Rattle.go_store.specs.Stores.{stored};
 ghost use Rattle.go_value.specs.Values as vals;
-ghost use Rattle.go_value.specs.Values.{part_of, parts_of, value_of};
+ghost use Rattle.go_value.specs.Values.{parts_of, value_of};
 ghost use Rattle.interp_state.specs.Machines.{machine_of};
 ghost use Rattle.interp_state.specs.Turns.{IsChanged, IsGiven, IsMade, Steps};
 ghost use Rattle.interp_values.specs.Given.{IsGivenAs};
@@ -203,7 +203,7 @@ fn part_value(machine: &Machine<'_>, operand: &Arg, part: u32) -> Result<Value, 
 }
 
 fn nth_part(alloc: Global, parts: &[Part], place: usize) -> Result<Value, Met>
-    ensures { IsGiven result (field_of (vals.parts (parts_of (map part_of parts.now))) place) }
+    ensures { IsGiven result (field_of (vals.parts (parts_of parts.now)) place) }
 {
     match parts.get(place) {
         Some(part) => Ok(part.value.copy(alloc)?),
@@ -238,7 +238,7 @@ fn array_value(machine: &Machine<'_>, operand: &Arg, index: &Arg) -> Result<Valu
 }
 
 fn item_at(alloc: Global, parts: &[Part], index: i128) -> Result<Value, Met>
-    ensures { IsGiven result (element_value (vals.parts (parts_of (map part_of parts.now))) index) }
+    ensures { IsGiven result (element_value (vals.parts (parts_of parts.now)) index) }
 {
     let place = check_index(index, parts.len() as u64)?;
     nth_part(alloc, parts, place as usize)

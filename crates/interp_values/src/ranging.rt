@@ -50,7 +50,6 @@ fn range_state(machine: &Machine<'_>, operand: &Arg) -> Result<Value, Met>
     }
 }
 
-#[tactic(auto, using(go_value::proofs::Variants::iter_is))]
 fn text_range(machine: &Machine<'_>, bytes: &Rc<Bytes>) -> Result<Value, Met>
     ensures { IsGiven result (to (vals.text_range bytes.now.value 0)) }
 {
@@ -61,7 +60,6 @@ fn text_range(machine: &Machine<'_>, bytes: &Rc<Bytes>) -> Result<Value, Met>
     Ok(Value::Iter(Box::new(machine.alloc, state)?))
 }
 
-#[tactic(auto, using(go_value::proofs::Variants::iter_is))]
 fn map_range(machine: &Machine<'_>, map: Option<MapId>) -> Result<Value, Met>
     ensures { IsGiven result (to (vals.map_range map (reverse (numbers_in (entries_of (stored machine.now.store) map))))) }
 {
@@ -133,7 +131,6 @@ fn no_state(machine: &Machine<'_>) -> RangeState {
 }
 
 /// Puts the state of a range into its slot.
-#[tactic(auto, using(go_value::proofs::Variants::iter_is))]
 fn put_state(machine: &mut Machine<'_>, range: u32, state: RangeState) -> Result<(), NoMemory>
     ensures { OnOk result (Wrote range (range_of state) machine.old machine.new) }
 {

@@ -1,5 +1,4 @@
--- What ties the definitions of the machine to those of values as they lie in memory, and to what the calls on stores
--- promise.
+-- What ties the definitions of the machine to what the calls on stores promise.
 use Rattle.std.specs.Prelude.{◌≡◌, ◌↔◌, ℕ, ℤ, Bool, true, false, List, flat_map, map, Option, Some, IsSome}
 use Rattle.std.specs.Prelude.{Result, Ok, Err, OnOk, pos}
 use Rattle.std.specs.Option.{option_and_then}
@@ -13,35 +12,20 @@ use Rattle.go_store.specs.Conversions.{AreRunes, MakesSlice, MakesRunes, items_o
 use Rattle.go_store.specs.MapCalls.{map_changed}
 use Rattle.go_store.specs.Slices.{Appends, elements_of}
 use Rattle.go_store.specs.Stores.{Stored}
-use Rattle.go_text.specs.Naming.{Naming}
 use Rattle.go_type.specs.Table.{Table}
 use Rattle.go_type.specs.declared.term.TypeTerm.{TypeTerm}
 use Rattle.go_value.specs.Gives.{Gives}
 use Rattle.go_value.specs.Runes.{IsFirstRune}
-use Rattle.go_value.specs.Values.{Val, slice, text, value_of}
+use Rattle.go_value.specs.Values.{Val, slice, text}
 use Rattle.go_value.specs.declared.address.SliceValue.{SliceValue}
 use Rattle.go_value.specs.declared.faults.ValueError.{ValueError}
 use Rattle.go_value.specs.declared.faults.ValueError.TheVariants as errors
-use Rattle.go_value.specs.declared.values.Dynamic.{Dynamic}
-use Rattle.go_value.specs.declared.values.Value.{Value}
 use Rattle.ssa_mean.specs.BuiltIns.{appended}
 use Rattle.ssa_mean.specs.Comes.{Comes, to, faults}
 use Rattle.ssa_mean.specs.Conversions.{Stores, kept, are_bytes, spelling, conversion}
 use Rattle.ssa_mean.specs.MapCalls.{looked_up, updated, deleted, unless_fault}
 use Rattle.ssa_mean.specs.Operands.{element_in, under_in}
 use Rattle.ssa_mean.specs.Runes.{first_rune, runes_of}
-use Rattle.ssa_mean.specs.Texts.{printed, panic_text}
-use Rattle.value_texts.specs.Texts as texts
-
--- `print` writes of a value what it writes of one in memory
-abbrev pub PrintsAlike : Type 0
-PrintsAlike = (it : Value) → printed (value_of it) ≡ texts.printed it
-
--- a panic has the text of one with the value in memory
-abbrev pub PanicsAlike : Type 0
-PanicsAlike =
-    (naming : Naming) (known : Option TypeId) (it : Dynamic) →
-    panic_text naming known it.of (value_of it.value) ≡ texts.panic_string naming known it
 
 -- what `append` makes of a store is the one store that its contract allows
 abbrev pub AppendsOne : Type 0

@@ -8,7 +8,7 @@ ghost use Rattle.ssa_mean.specs.Runs.{OneOutcome, FrontsStand, IsRunOf};
 ghost use Rattle.ssa_mean.specs.Samples.{RunsTo, range_code, append_code, select_code, invoke_code, fault_code};
 ghost use Rattle.ssa_mean.specs.Samples.{exit_code, index_text};
 ghost use Rattle.ssa_mean.specs.Slots.{SlotsTell};
-ghost use Rattle.ssa_mean.specs.Ties.{PrintsAlike, PanicsAlike, AppendsOne, FirstRuneOne, RunesOne};
+ghost use Rattle.ssa_mean.specs.Ties.{AppendsOne, FirstRuneOne, RunesOne};
 ghost use Rattle.ssa_mean.specs.Ties.{LookupsOne, UpdatesOne, DeletesOne, TextsOne, SlicesOne};
 
 /// Two runs of one code with one list of choices and one bound have one output and one ending.
@@ -46,12 +46,6 @@ pub fn lone_send_blocks()
 /// A range over a map produces each entry that is still there, by choices.
 pub fn ranges_choose()
     ensures { IsRunOf map_code (2 ∷ 0 ∷ []) 10 (codes "3\n1\n") (Exited 0) }
-{}
-
-/// What is printed of a value, and the text of a panic with it, are those of the value as it lies in memory.
-pub fn texts_are_one()
-    ensures printed { PrintsAlike }
-    ensures panics { PanicsAlike }
 {}
 
 /// What `append` makes of a store is the one store that the contract of the store allows.

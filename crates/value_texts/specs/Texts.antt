@@ -13,16 +13,14 @@ use Rattle.go_type.specs.declared.term.TypeTerm.{TypeTerm}
 use Rattle.go_type.specs.declared.term.TypeTerm.TheVariants.{Basic}
 use Rattle.go_value.specs.declared.faults.Fault.{Fault}
 use Rattle.go_value.specs.declared.faults.Fault.TheVariants as faults
-use Rattle.go_value.specs.declared.values.Dynamic.{Dynamic}
-use Rattle.go_value.specs.declared.values.Value.{Value}
-use Rattle.go_value.specs.declared.values.Value.TheVariants as values
+use Rattle.go_value.specs.Values.{Val, Typed, truth, number, text}
 
 -- what `print` writes of a boolean, an integer or a string; it takes no other values
-abbrev pub printed : Value → List ℕ
-printed (values.Truth true) = codes "true"
-printed (values.Truth false) = codes "false"
-printed (values.Int number) = signed_decimal number
-printed (values.Text bytes) = bytes.value
+abbrev pub printed : Val → List ℕ
+printed (truth true) = codes "true"
+printed (truth false) = codes "false"
+printed (number it) = signed_decimal it
+printed (text it) = it
 printed _ = []
 
 -- the dynamic type of an interface value
@@ -55,25 +53,25 @@ fault_string naming faults.PanicNil = codes "panic called with nil argument"
 fault_string naming faults.TooDeep = codes "value nested too deeply"
 
 abbrev pub in_parentheses : List ℕ → List ℕ
-in_parentheses text = 40 ∷ (text ++ 41 ∷ [])
+in_parentheses words = 40 ∷ (words ++ 41 ∷ [])
 
 -- a value of a type that is not predeclared: a boolean, an integer or a string behind its type, else the type alone
-abbrev pub shown : List ℕ → Value → List ℕ
-shown of (values.Truth it) = of ++ in_parentheses (printed (values.Truth it))
-shown of (values.Int it) = of ++ in_parentheses (printed (values.Int it))
-shown of (values.Text it) = of ++ in_parentheses (quoted_text it.value)
+abbrev pub shown : List ℕ → Val → List ℕ
+shown of (truth it) = of ++ in_parentheses (printed (truth it))
+shown of (number it) = of ++ in_parentheses (printed (number it))
+shown of (text it) = of ++ in_parentheses (quoted_text it)
 shown of _ = in_parentheses of
 
-abbrev pub shown_by : Naming → TypeId → Option TypeTerm → Value → List ℕ
-shown_by naming of (Some (Basic kind)) value = printed value
-shown_by naming of _ value = shown (type_text_of naming of) value
+abbrev pub shown_by : Naming → TypeId → Option TypeTerm → Val → List ℕ
+shown_by naming of (Some (Basic kind)) it = printed it
+shown_by naming of _ it = shown (type_text_of naming of) it
 
 abbrev pub is_that : Option TypeId → TypeId → Bool
 is_that None of = false
 is_that (Some wanted) of = same_id wanted of
 
 -- the text of a panic with a value, where `errorString` of `runtime` is known
-abbrev pub panic_string : Naming → Option TypeId → Dynamic → List ℕ
+abbrev pub panic_string : Naming → Option TypeId → Typed → List ℕ
 panic_string naming error_string value =
     if is_that error_string value.of then codes "runtime error: " ++ printed value.value
     else shown_by naming value.of (term_at naming.types value.of) value.value

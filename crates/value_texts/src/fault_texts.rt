@@ -5,6 +5,7 @@ ghost use Rattle.std.specs.Fmt.{signed_decimal};
 ghost use Rattle.go_text.specs.Naming.{Naming};
 ghost use Rattle.go_text.specs.TypeText.{type_text_of};
 ghost use Rattle.go_type.specs.Table.{term_at};
+ghost use Rattle.go_value.specs.Values.{value_of};
 ghost use Rattle.value_texts.specs.Texts.{dynamic_text, fault_string, panic_string, shown, shown_by};
 
 use crate::printing::push_printed;
@@ -179,11 +180,11 @@ fn push_panic(
 ) -> Result<(), NoMemory>
     ensures { OnOk result (text.new.items ≡ text.old.items ++ panic_string namer.now error_string value.now) }
 {
-    if error_string == Some(value.of) {
+    if error_string == Some(value.of()) {
         push_words(text, "runtime error: ")?;
-        return push_printed(text, &value.value);
+        return push_printed(text, value.value());
     }
-    push_other(text, namer, value.of, &value.value)
+    push_other(text, namer, value.of(), value.value())
 }
 
 /// A value that is no run-time error.
@@ -193,7 +194,7 @@ fn push_other(
     of: TypeId,
     value: &Value,
 ) -> Result<(), NoMemory>
-    ensures { OnOk result (text.new.items ≡ text.old.items ++ shown_by namer.now of (term_at namer.now.types of) value.now) }
+    ensures { OnOk result (text.new.items ≡ text.old.items ++ shown_by namer.now of (term_at namer.now.types of) (value_of value.now)) }
 {
     match namer.types.get(of) {
         Some(TypeTerm::Basic(_)) => push_printed(text, value),
@@ -208,7 +209,7 @@ fn push_shown(
     of: TypeId,
     value: &Value,
 ) -> Result<(), NoMemory>
-    ensures { OnOk result (text.new.items ≡ text.old.items ++ shown (type_text_of namer.now of) value.now) }
+    ensures { OnOk result (text.new.items ≡ text.old.items ++ shown (type_text_of namer.now of) (value_of value.now)) }
 {
     match value {
         Value::Truth(_) | Value::Int(_) => {

@@ -1,6 +1,7 @@
 //! What `print` writes. Go specification, "Bootstrapping".
 
 ghost use Rattle.std.specs.Prelude.{◌≡◌, ◌++◌, OnOk};
+ghost use Rattle.go_value.specs.Values.{value_of};
 ghost use Rattle.value_texts.specs.Texts.{printed};
 
 use go_base::NoMemory;
@@ -9,7 +10,7 @@ use itoa::Buffer;
 
 /// Adds what `print` writes of a boolean, an integer or a text. Of any other value it adds nothing.
 pub fn push_printed(text: &mut Vec<u8>, value: &Value) -> Result<(), NoMemory>
-    ensures { OnOk result (text.new.items ≡ text.old.items ++ printed value.now) }
+    ensures { OnOk result (text.new.items ≡ text.old.items ++ printed (value_of value.now)) }
 {
     match value {
         Value::Truth(true) => text.extend_from_slice(b"true")?,

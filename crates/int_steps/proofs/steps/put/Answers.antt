@@ -4,7 +4,6 @@ use Rattle.std.specs.Int.RustNames.{FitsSigned}
 use Rattle.std.specs.Prelude.{option_map}
 use Rattle.std.proofs.lemmas.Int.{to_z-of_z}
 use Rattle.go_store.specs.Stores.{stored}
-use Rattle.go_value.proofs.Variants.{int_is}
 use Rattle.go_value.specs.Values.{number, value_of}
 use Rattle.go_value.specs.declared.values.Value.TheVariants as values
 use Rattle.int_steps.proofs.Held.{assigned_is, put_as}
@@ -18,7 +17,7 @@ returns-in-Some-address-clause-does c =
     put_as c.put_int_at.result (int_assigned c.args.function.now s c.args.at.now c.args.value.now)
     (stored c.args.store.now) (stored c.put_int_at.new.self) c.in-Some-address.at.now c.in-Some.number
     (value_of (values.Int (to_z w128 (of_z w128 c.in-Some.number))))
-    (int_is _ ∙ ap number (to_z-of_z w128 c.in-Some.number fits))
+    (ap number (to_z-of_z w128 c.in-Some.number fits))
     (assigned_is c.args.function.now s c.args.at.now c.args.value.now c.in-Some-address.at.now c.in-Some.number
     (sym c.integer.ensures ∙ c.in-Some.is)
     (sym c.address.ensures ∙ ap (option_map (λ it. it.now)) c.in-Some-address.is))

@@ -3,7 +3,6 @@ use Rattle.std.specs.Int.{w128}
 use Rattle.std.specs.Int.RustNames.{FitsSigned}
 use Rattle.std.proofs.lemmas.Int.{to_z-of_z}
 use Rattle.go_type.specs.Kinds.{kind_of}
-use Rattle.go_value.proofs.Variants.{int_is}
 use Rattle.go_value.specs.Ints.{wrapped}
 use Rattle.go_value.specs.Values.{number}
 use Rattle.int_steps.specs.Steps.{converted}
@@ -16,5 +15,5 @@ returns-in-Some-int_kind c =
     let inner : FitsSigned w128 c.in-Some.a = search rules in
     ap (where_some (converted (kind_of c.args.types.now c.args.to))) (sym c.in-Some.ensures)
     ∙ ap (λ kind. converted kind c.in-Some.a) (sym c.in-Some-int_kind.ensures)
-    ∙ ap to (sym (int_is _ ∙ ap number (to_z-of_z w128 c.convert_int.result fits ∙ c.convert_int.ensures
+    ∙ ap to (sym (ap number (to_z-of_z w128 c.convert_int.result fits ∙ c.convert_int.ensures
     ∙ ap (wrapped c.in-Some-int_kind.kind) (to_z-of_z w128 c.in-Some.a inner))))

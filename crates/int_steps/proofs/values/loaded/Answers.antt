@@ -3,7 +3,6 @@ use Rattle.std.specs.Int.{w128}
 use Rattle.std.specs.Int.RustNames.{FitsSigned}
 use Rattle.std.proofs.lemmas.Int.{to_z-of_z}
 use Rattle.go_store.specs.Stores.{stored}
-use Rattle.go_value.proofs.Variants.{int_is}
 use Rattle.go_value.specs.Values.{number, value_of}
 use Rattle.go_value.specs.declared.faults.ValueError.{ValueError}
 use Rattle.int_steps.proofs.Held.{found_loaded, nil_loaded}
@@ -21,7 +20,7 @@ returns-in-Some c =
     found_loaded (stored c.args.store.now) c.args.at.now c.is_nil.result c.int_at.result c.is_nil.ensures
     c.if-is_nil.false c.int_at.ensures
     ∙ ap (λ found. then_to number (of_option found)) c.in-Some.is
-    ∙ ap to (sym (int_is _ ∙ ap number (to_z-of_z w128 c.in-Some.number fits)))
+    ∙ ap to (sym (ap number (to_z-of_z w128 c.in-Some.number fits)))
 
 pub returns-in-None : goal.returns-in-None
 returns-in-None c =

@@ -2,7 +2,6 @@ use Rattle.std.proofs.Common.{◌≡◌, ◌∙◌, ap, arith, of_z, pos, refl, 
 use Rattle.std.proofs.lemmas.Int.{ints, to_z-of_z}
 use Rattle.std.specs.Int.{w128}
 use Rattle.go_sched.specs.Goroutines.{meant, size_of, state_of}
-use Rattle.go_value.proofs.Variants.{chan_is, slice_is}
 use Rattle.go_value.specs.Values.{value_of}
 use Rattle.ssa_mean.specs.BuiltIns.{capacity_of}
 use Rattle.interp_builtins.proofs.Done.{counts_as}
@@ -14,7 +13,7 @@ returns-in-Slice c =
     let plain : to_z w128 (of_z w128 c.from.result) ≡ pos n =
     grind (arith, ints, to_z-of_z, c.from.ensures, c.deref.ensures) in
     counts_as (capacity_of (state_of c.args.machine.now.sched)) _ _ n _
-    (ap value_of c.in-Slice.is ∙ slice_is c.in-Slice.slice) refl plain
+    (ap value_of c.in-Slice.is) refl plain
 
 pub returns-in-Chan : goal.returns-in-Chan
 returns-in-Chan c =
@@ -22,4 +21,4 @@ returns-in-Chan c =
     let plain : to_z w128 (of_z w128 c.from-in-Chan.result) ≡ pos n =
     grind (arith, ints, to_z-of_z, c.from-in-Chan.ensures, c.cap.ensures) in
     counts_as (capacity_of (state_of c.args.machine.now.sched)) _ _ n _
-    (ap value_of c.in-Chan.is ∙ chan_is c.in-Chan.chan) refl plain
+    (ap value_of c.in-Chan.is) refl plain

@@ -5,7 +5,6 @@ use Rattle.go_sched.specs.Goroutines.{meant, queue_length, state_of}
 use Rattle.go_store.specs.Stores.{stored}
 use Rattle.go_maps.specs.Entries.{count_in}
 use Rattle.go_maps.specs.Maps.{map_in}
-use Rattle.go_value.proofs.Variants.{chan_is, map_is, slice_is, text_is}
 use Rattle.go_value.specs.Values.{value_of}
 use Rattle.ssa_mean.specs.BuiltIns.{length_of}
 use Rattle.interp_builtins.proofs.Done.{counts_as}
@@ -17,14 +16,14 @@ returns-in-Slice c =
     let plain : to_z w128 (of_z w128 c.from.result) ≡ pos n =
     grind (arith, ints, to_z-of_z, c.from.ensures, c.deref.ensures) in
     counts_as (length_of (stored c.args.machine.now.store) (state_of c.args.machine.now.sched)) _ _ n _
-    (ap value_of c.in-Slice.is ∙ slice_is c.in-Slice.slice) refl plain
+    (ap value_of c.in-Slice.is) refl plain
 
 pub returns-in-Text : goal.returns-in-Text
 returns-in-Text c =
     let n = length c.in-Text.bytes.value in
     let plain : to_z w128 c.len.result ≡ pos n = grind (arith, ints, c.len.ensures, c.deref-in-Text.ensures) in
     counts_as (length_of (stored c.args.machine.now.store) (state_of c.args.machine.now.sched)) _ _ n _
-    (ap value_of c.in-Text.is ∙ text_is c.in-Text.bytes) refl plain
+    (ap value_of c.in-Text.is) refl plain
 
 pub returns-in-Map : goal.returns-in-Map
 returns-in-Map c =
@@ -32,7 +31,7 @@ returns-in-Map c =
     let plain : to_z w128 (of_z w128 c.from-in-Map.result) ≡ pos n =
     grind (arith, ints, to_z-of_z, c.from-in-Map.ensures, c.map_len.ensures) in
     counts_as (length_of (stored c.args.machine.now.store) (state_of c.args.machine.now.sched)) _ _ n _
-    (ap value_of c.in-Map.is ∙ map_is c.in-Map.map) refl plain
+    (ap value_of c.in-Map.is) refl plain
 
 pub returns-in-Chan : goal.returns-in-Chan
 returns-in-Chan c =
@@ -40,4 +39,4 @@ returns-in-Chan c =
     let plain : to_z w128 (of_z w128 c.from-in-Chan.result) ≡ pos n =
     grind (arith, ints, to_z-of_z, c.from-in-Chan.ensures, c.len-in-Chan.ensures) in
     counts_as (length_of (stored c.args.machine.now.store) (state_of c.args.machine.now.sched)) _ _ n _
-    (ap value_of c.in-Chan.is ∙ chan_is c.in-Chan.chan) refl plain
+    (ap value_of c.in-Chan.is) refl plain

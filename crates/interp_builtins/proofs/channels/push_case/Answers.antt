@@ -1,7 +1,6 @@
 use Rattle.std.proofs.Common.{◌∙◌, ◌∷◌, ◌++◌, [], ap, false, sym, map, option_map, suc}
 use Rattle.std.proofs.lemmas.List.{map-append}
-use Rattle.go_value.proofs.Variants.{part_is}
-use Rattle.go_value.specs.Values.{Field, part_of, value_of}
+use Rattle.go_value.specs.Values.{Field, value_of}
 use Rattle.go_value.specs.declared.values.Value.{Value}
 use Rattle.ssa_mean.specs.Channels.{value_if}
 use Rattle.ssa_mean.specs.Making.{value_or}
@@ -13,13 +12,12 @@ use Rattle.interp_builtins.proofs.channels.push_case.Goals as goal
 
 pub returns-in_ok-push-in-Receive : goal.returns-in_ok-push-in-Receive
 returns-in_ok-push-in-Receive c = λ index picked rest is.
-    let fields = map part_of c.args.parts.now.items in
+    let fields = c.args.parts.now.items in
     let after = received_parts (suc index) picked (option_map value_of c.received_in.new.value) rest in
     let it = c.in_ok-received-in-Receive.received in
-    ap (λ them. behind (map part_of them) after) c.in_ok-push-in-Receive.ensures.items
-    ∙ ap (λ them. behind them after) (map-append part_of c.args.parts.now.items (c.plain.result ∷ []))
+    ap (λ them. behind them after) c.in_ok-push-in-Receive.ensures.items
     ∙ ap (λ (field : Field). behind (fields ++ field ∷ []) after)
-    (ap part_of c.plain.ensures ∙ part_is (record { value = it; blank = false }))
+    c.plain.ensures
     ∙ case_received fields c.in-Receive.channel c.in-Receive.zero rest index picked c.args.chosen
     (option_map value_of c.args.value.now) (option_map value_of c.received_in.new.value) (value_of it) is
     (c.in_ok-received-in-Receive.ensures.value

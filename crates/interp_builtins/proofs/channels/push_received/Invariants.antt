@@ -1,12 +1,12 @@
 use Rattle.std.proofs.Common.{◌≡◌, drop, map, option_map}
-use Rattle.go_value.specs.Values.{part_of, value_of}
+use Rattle.go_value.specs.Values.{value_of}
 use Rattle.plan_mean.specs.Channels.{received_parts}
 use Rattle.interp_builtins.specs.Received.{behind}
 use Rattle.interp_builtins.proofs.channels.push_received.Given as goal
 
 abbrev pub invariant-loop-index : goal.invariant-loop-index
 invariant-loop-index l =
-    behind (map part_of l.parts.items)
+    behind l.parts.items
     (received_parts l.index l.chosen (option_map value_of l.value) (drop l.index l.cases))
-    ≡ behind (map part_of l.initial.parts.items) (received_parts 0 l.chosen
+    ≡ behind l.initial.parts.items (received_parts 0 l.chosen
     (option_map value_of l.initial.value) l.cases)

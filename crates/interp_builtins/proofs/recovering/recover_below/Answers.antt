@@ -3,7 +3,6 @@ use Rattle.interp_builtins.proofs.Recovered.{acts_here, acts_on_none}
 use Rattle.interp_builtins.proofs.Woken.{found_at}
 use Rattle.interp_builtins.specs.Recovered.{AreWrappers}
 use Rattle.interp_state.specs.declared.frames.Frame.{Frame}
-use Rattle.go_value.proofs.Variants.{nil_interface_is}
 use Rattle.interp_builtins.proofs.recovering.recover_below.Goals as goal
 
 pub returns-in-Some-get_mut-clause-value : goal.returns-in-Some-get_mut-clause-value
@@ -28,8 +27,7 @@ returns-in-Some-get_mut-clause-frames c =
 
 pub returns-in-None-clause-value : goal.returns-in-None-clause-value
 returns-in-None-clause-value c =
-    nil_interface_is
-    ∙ sym (acts_on_none c.args.machine.now.current.below.items
+    sym (acts_on_none c.args.machine.now.current.below.items
     (subst (λ (them : List Frame). AreWrappers them) c.as_slice.ensures.value c.in-None.ensures.none)).1
 
 pub returns-in-None-clause-frames : goal.returns-in-None-clause-frames

@@ -1,6 +1,5 @@
 use Rattle.std.proofs.Common.{◌≡◌, ◌∙◌, ◌+◌, ◌≤◌, ◌++◌, ◌∷◌, [], ap, arith, length, sym, take}
 use Rattle.std.proofs.lemmas.List.{take_more}
-use Rattle.go_value.proofs.Variants.{pointer_is}
 use Rattle.go_value.specs.declared.address.Pointer.{Pointer}
 use Rattle.interp_calls.proofs.Puts.{put_more}
 use Rattle.interp_calls.proofs.calling.put_captured.Goals as goal
@@ -21,9 +20,7 @@ loop-address-preserved c =
           (take_more all i c.address-item.result c.loop-address-test.true
           ∙ ap (λ (at : Pointer). take i all ++ at ∷ []) (sym c.address-item.is ∙ sym c.in_ok-address.ensures))
           c.loop-address.invariant.1.0 c.loop-address.invariant.0
-          (c.set.ensures.slots
-          ∙ ap (λ it. with_slot c.loop-address.slot it (slots_of c.loop-address.machine))
-          (pointer_is c.in_ok-address.address)),
+          c.set.ensures.slots,
       (
         next,
         ap (λ (m : Machine). record m { current = record (m.current) { stack = c.set.new.self } })

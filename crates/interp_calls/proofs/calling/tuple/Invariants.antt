@@ -1,5 +1,5 @@
 use Rattle.std.proofs.Common.{◌≡◌, List, Some, map, take}
-use Rattle.go_value.specs.Values.{Val, part_of}
+use Rattle.go_value.specs.Values.{Val}
 use Rattle.interp_calls.specs.Ways.{plain}
 use Rattle.interp_state.specs.Machines.{machine_of}
 use Rattle.plan_mean.specs.Operands.{look_at_all}
@@ -9,4 +9,4 @@ abbrev pub invariant-loop-value : goal.invariant-loop-value
 invariant-loop-value l =
     (its : List Val)
     × ((look_at_all (machine_of l.machine) (take l.value-index l.values) ≡ Some its)
-    × (map part_of l.parts.items ≡ map plain its))
+    × (l.parts.items ≡ map plain its))

@@ -1,5 +1,4 @@
 use Rattle.std.proofs.Common.{◌∙◌, Some, ap, map, sym}
-use Rattle.go_value.proofs.Variants.{bound_is, closure_is, nil_function_is}
 use Rattle.go_value.specs.Values.{bound, function_of, pointer, value_of}
 use Rattle.go_value.specs.declared.values.Value.{Value}
 use Rattle.interp_calls.proofs.Readied.{called_so}
@@ -8,17 +7,10 @@ use Rattle.plan_mean.specs.Calls.{called_value}
 use Rattle.plan_mean.specs.State.{of_function}
 
 pub returns-in-Nil : goal.returns-in-Nil
-returns-in-Nil c = ap called_value (ap function_of c.in-Nil.is ∙ nil_function_is)
+returns-in-Nil c = ap called_value (ap function_of c.in-Nil.is)
 
 pub returns-in_ok-function_number-in-Closure : goal.returns-in_ok-function_number-in-Closure
 returns-in_ok-function_number-in-Closure c =
     let free = c.in_ok-bound-in-Closure.ensures ∙ ap (map pointer) c.as_slice.ensures.value in
-    ap called_value (ap function_of c.in-Closure.is ∙ closure_is c.in-Closure.function c.in-Closure.captured)
+    ap called_value (ap function_of c.in-Closure.is)
     ∙ (λ i. Some (of_function (sym c.in_ok-function_number-in-Closure.ensures i) (sym free i)))
-
-pub returns-in-Bound : goal.returns-in-Bound
-returns-in-Bound c =
-    called_so c.called_bound.result (function_of c.args.function.now)
-    (bound c.in-Bound.target (value_of c.deref.result.now))
-    (ap function_of c.in-Bound.is ∙ bound_is c.in-Bound.target c.in-Bound.receiver
-    ∙ ap (λ (it : Value). bound c.in-Bound.target (value_of it)) (sym c.deref.ensures)) c.called_bound.ensures

@@ -3,16 +3,14 @@ use Rattle.std.specs.Int.{w128}
 use Rattle.std.proofs.lemmas.Int.{to_z-of_z}
 use Rattle.go_value.specs.Values as vals
 use Rattle.go_value.specs.Values.{Val, value_of}
-use Rattle.go_value.proofs.Variants.{int_is}
-use Rattle.go_value.proofs.Written.{put_int_is}
 use Rattle.interp_state.proofs.stack.put_int.Goals as goal
 
 pub returns-in-Some-Int : goal.returns-in-Some-Int
 returns-in-Some-Int c =
     ap (λ (it : Val). Some it)
     (ap value_of (put_int_is c.in-Some-Int.field-0 c.in-Some-Int.old _ c.in-Some-Int.field-0-is)
-    ∙ int_is _ ∙ ap vals.number (to_z-of_z w128 c.args.number c.ranges.number))
+    ∙ ap vals.number (to_z-of_z w128 c.args.number c.ranges.number))
 
 pub returns-in_default : goal.returns-in_default
 returns-in_default c =
-    ap (λ (it : Val). Some it) (int_is _ ∙ ap vals.number (to_z-of_z w128 c.args.number c.ranges.number))
+    ap (λ (it : Val). Some it) (ap vals.number (to_z-of_z w128 c.args.number c.ranges.number))

@@ -3,7 +3,6 @@ use Rattle.std.specs.Int.{w128}
 use Rattle.std.specs.Int.RustNames.{FitsSigned}
 use Rattle.std.proofs.lemmas.Int.{to_z-of_z}
 use Rattle.go_store.specs.Stores.{stored}
-use Rattle.go_value.proofs.Variants.{int_is}
 use Rattle.go_value.specs.Ints.{wrapped}
 use Rattle.go_value.specs.Values.{Val, number}
 use Rattle.interp_values.proofs.Made.{integer_is}
@@ -22,6 +21,6 @@ returns c =
           ∙ ap (λ (v : Val). to (kept (stored m.store) v))
           (ap (λ n. number (wrapped c.args.kind n)) (sym (to_z-of_z w128 c.in_ok-int.field-0 fits))
           ∙ ap number (sym c.convert_int.ensures)
-          ∙ ap number (sym (to_z-of_z w128 c.convert_int.result made)) ∙ sym (int_is _)),
+          ∙ ap number (sym (to_z-of_z w128 c.convert_int.result made))),
       refl,
     )

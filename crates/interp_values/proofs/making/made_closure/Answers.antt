@@ -1,5 +1,4 @@
 use Rattle.std.proofs.Common.{◌≡◌, ap, ◌∙◌, sym}
-use Rattle.go_value.proofs.Variants.{closure_is}
 use Rattle.go_value.specs.Values.{Val, closure}
 use Rattle.interp_values.proofs.Made.{closure_made}
 use Rattle.ssa_mean.specs.Comes.{to}
@@ -10,4 +9,4 @@ returns c =
     closure_made c.args.machine.now c.args.function c.args.args.now c.in_ok-captured.captured.items
     c.in_ok-captured.ensures
     ∙ ap (λ (v : Val). to v)
-    (sym (closure_is c.args.function c.in_ok-captured.captured) ∙ sym c.in_ok-function.ensures)
+    (sym c.in_ok-function.ensures)

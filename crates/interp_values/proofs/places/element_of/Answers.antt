@@ -3,7 +3,6 @@ use Rattle.std.proofs.lemmas.Int.{to_z-of_z}
 use Rattle.std.specs.Int.{w128}
 use Rattle.std.specs.Int.RustNames.{FitsSigned}
 use Rattle.go_store.specs.Slices.{element_of}
-use Rattle.go_value.proofs.Variants.{pointer_is}
 use Rattle.interp_values.proofs.Followed.{slice_element_is}
 use Rattle.ssa_mean.specs.Comes.{to}
 use Rattle.interp_values.proofs.places.element_of.Goals as goal
@@ -16,4 +15,3 @@ returns c =
     ∙ c.in_ok-address.ensures in
     slice_element_is c.args.machine.now c.args.operand.now c.args.index.now c.in_ok-slice.field-0.now
     c.in_ok-index.index (Ok c.in_ok-address.address) c.in_ok-slice.ensures c.in_ok-index.ensures is
-    ∙ ap to (sym (pointer_is c.in_ok-address.address))

@@ -3,7 +3,7 @@ use Rattle.std.proofs.lemmas.Int.{to_z-of_z}
 use Rattle.std.specs.Int.{w128}
 use Rattle.go_value.specs.Texts.{place_at}
 use Rattle.go_value.specs.Values as vals
-use Rattle.go_value.specs.Values.{part_of, parts_of}
+use Rattle.go_value.specs.Values.{parts_of}
 use Rattle.ssa_mean.specs.Places.{element_value}
 use Rattle.interp_state.specs.Turns.{IsGiven}
 use Rattle.interp_values.proofs.Outcomes.{fault_met}
@@ -16,7 +16,7 @@ returns-in_err-place c =
     c.check_index.ensures
     ∙ ap (λ n. place_at n (length c.args.parts.now)) (to_z-of_z w128 c.args.index c.ranges.index) in
     fault_met
-    (λ outcome. IsGiven outcome (element_value (vals.parts (parts_of (map part_of c.args.parts.now))) c.args.index))
+    (λ outcome. IsGiven outcome (element_value (vals.parts (parts_of c.args.parts.now)) c.args.index))
     c.from_residual.result c.in_err-place.field-0.0 c.from_residual.ensures.1
     (no_item c.args.parts.now c.args.index c.in_err-place.field-0.0 (sym checked ∙ c.in_err-place.was))
 

@@ -1,6 +1,5 @@
 use Rattle.std.proofs.Common.{◌≡◌, ◌∙◌, ap, sym, subst, Some}
 use Rattle.go_store.specs.Stores.{stored}
-use Rattle.go_value.proofs.Variants.{text_is, map_is}
 use Rattle.go_value.specs.Values.{Val, text, map_number, value_of}
 use Rattle.go_value.specs.declared.values.Value.{Value}
 use Rattle.interp_state.specs.States.{looked}
@@ -14,8 +13,7 @@ pub returns-in-Text : goal.returns-in-Text
 returns-in-Text c =
     let m = c.args.machine.now in
     let is : looked m c.args.operand.now ≡ Some (text c.in-Text.bytes.value) =
-    c.in_ok-bytes.ensures ∙ ap (λ (it : Value). Some (value_of it)) c.in-Text.is ∙ ap (λ (it : Val). Some it)
-    (text_is c.in-Text.bytes) in
+    c.in_ok-bytes.ensures ∙ ap (λ (it : Value). Some (value_of it)) c.in-Text.is in
     subst (IsGiven c.text_range.result)
     (sym (one_is m c.args.operand.now (text c.in-Text.bytes.value) (λ it. of_option (range_of (stored m.store) it)) is))
     c.text_range.ensures
@@ -24,8 +22,7 @@ pub returns-in-Map : goal.returns-in-Map
 returns-in-Map c =
     let m = c.args.machine.now in
     let is : looked m c.args.operand.now ≡ Some (map_number c.in-Map.map) =
-    c.in_ok-bytes.ensures ∙ ap (λ (it : Value). Some (value_of it)) c.in-Map.is ∙ ap (λ (it : Val). Some it)
-    (map_is c.in-Map.map) in
+    c.in_ok-bytes.ensures ∙ ap (λ (it : Value). Some (value_of it)) c.in-Map.is in
     subst (IsGiven c.map_range.result)
     (sym (one_is m c.args.operand.now (map_number c.in-Map.map) (λ it. of_option (range_of (stored m.store) it)) is))
     c.map_range.ensures
