@@ -4,7 +4,7 @@ use Rattle.std.proofs.lemmas.List.{append-nil, take_all, take_more}
 use Rattle.std.specs.Prelude.{if◌then◌else◌}
 use Rattle.code_plan.specs.Forms.{IsStep}
 use Rattle.code_plan.specs.Plans.{Goes, here, late, made}
-use Rattle.code_plan.specs.Registers.{Marks, Pending, Site, may_give, may_write, before, behind}
+use Rattle.code_plan.specs.Registers.{Marks, Pending, Site, may_write, before, behind}
 use Rattle.code_plan.specs.Sites.{GoesOn, HasRun, HasSteps, IsLateLoad, IsMade, pending_of, site_with}
 use Rattle.code_plan.specs.declared.blocks.Body.{Body}
 use Rattle.code_plan.specs.declared.blocks.Run.{Run}

@@ -1,5 +1,5 @@
 -- Where jumps lead, one block further at a time.
-use Rattle.std.proofs.Common.{◌≡◌, ℕ, List, Some, subst, ap, sym, ◌∙◌}
+use Rattle.std.proofs.Common.{◌≡◌, ℕ, List, Some, ap, sym, ◌∙◌}
 use Rattle.std.specs.Prelude.{slice_get}
 use Rattle.code_plan.specs.Forms.{LeadsOn, here, on, next_of}
 use Rattle.code_plan.specs.Sites.{IsPassedOver}

@@ -1,5 +1,5 @@
 -- What a run begins with: the cells of the package variables, and the functions that are called.
-use Rattle.std.proofs.Common.{◌≡◌, ℕ, suc, ◌+◌, ◌<◌, ◌≤◌, Bool, true, false, List, [], ◌∷◌, ◌++◌, Option, Some, None, refl, sym, ap, ◌∙◌}
+use Rattle.std.proofs.Common.{◌≡◌, ℕ, ◌+◌, ◌<◌, ◌≤◌, Bool, true, false, List, [], ◌∷◌, ◌++◌, Option, Some, None, refl, sym, ap, ◌∙◌}
 use Rattle.std.proofs.Common.{append_assoc, add-one, drop, length, get_or, map, take}
 use Rattle.std.proofs.lemmas.List.{append-nil, at_drop_all, at_drop_more, take_all, take_more}
 use Rattle.std.specs.List.{find}

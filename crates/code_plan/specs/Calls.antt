@@ -1,5 +1,5 @@
 -- Calls, as a plan has them.
-use Rattle.std.specs.Prelude.{ℕ, min, List, Option, Some, None}
+use Rattle.std.specs.Prelude.{ℕ, min, List, Some}
 use Rattle.std.specs.Prelude.{◌≡◌}
 use Rattle.std.specs.Option.{option_map}
 use Rattle.code_plan.specs.Operands.{IsArg, AreArgs}

@@ -1,5 +1,5 @@
 -- The steps of instructions: of each the form that its types ask for.
-use Rattle.std.specs.Prelude.{ℕ, suc, Bool, true, false, List, [], ◌∷◌, Option, Some, None, is_some}
+use Rattle.std.specs.Prelude.{ℕ, Bool, true, false, List, [], ◌∷◌, Option, Some, None, is_some}
 use Rattle.std.specs.Prelude.{◌≡◌}
 use Rattle.std.specs.List.{AllZip}
 use Rattle.std.specs.Option.{option_and_then, option_map}
@@ -27,7 +27,6 @@ use Rattle.go_type.specs.declared.operators.CompareOp.{CompareOp}
 use Rattle.go_type.specs.declared.operators.CompareOp.TheVariants as comparison
 use Rattle.go_type.specs.declared.operators.UnaryOp.{UnaryOp}
 use Rattle.go_type.specs.declared.operators.UnaryOp.TheVariants as unary
-use Rattle.go_value.specs.declared.values.BoundTarget.{BoundTarget}
 use Rattle.go_value.specs.declared.values.BoundTarget.TheVariants as target
 use Rattle.ssa_ir.specs.Blocks.{instrs_at}
 use Rattle.ssa_ir.specs.declared.code.Function.{Function}

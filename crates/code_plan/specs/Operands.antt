@@ -13,7 +13,7 @@ use Rattle.go_value.specs.declared.values.Value.{Value}
 use Rattle.ssa_ir.specs.declared.operands.Operand.{Operand}
 use Rattle.ssa_ir.specs.declared.operands.Operand.TheVariants as operand
 use Rattle.ssa_mean.specs.Operands.{constant_value, variable_cell}
-use Rattle.ssa_mean.specs.Zeros.{zero_of, zero_where}
+use Rattle.ssa_mean.specs.Zeros.{zero_where}
 
 -- a parameter, a free variable or a register is its slot, but one that is loaded late is the cell it is loaded from;
 -- all others are values

@@ -4,7 +4,7 @@ use Rattle.std.specs.Prelude.{length, map}
 use Rattle.std.specs.Prelude.{◌≡◌, ◌&&◌, ◌==◌}
 use Rattle.std.specs.Prelude.{if◌then◌else◌, codes}
 use Rattle.std.specs.List.{AllZip, find}
-use Rattle.std.specs.Option.{option_map, option_map_or}
+use Rattle.std.specs.Option.{option_map}
 use Rattle.std.specs.Str.{bytes_eq}
 use Rattle.code_plan.specs.Forms.{IsStep}
 use Rattle.code_plan.specs.Operands.{IsArg, IsTo}
@@ -35,7 +35,7 @@ use Rattle.ssa_mean.specs.Calls.{is_promotion, method_of}
 use Rattle.ssa_mean.specs.Faults.{error_string}
 use Rattle.ssa_mean.specs.Runs.{first_cells, starts_of}
 use Rattle.ssa_mean.specs.Step.{front_phis}
-use Rattle.ssa_mean.specs.Unwinding.{is_phi, phis_first}
+use Rattle.ssa_mean.specs.Unwinding.{phis_first}
 
 -- ---- the steps of instructions, one after another: from loads that are pending before them to those behind them
 

@@ -1,5 +1,5 @@
 -- What the cases of a `select` give, one by one.
-use Rattle.std.proofs.Common.{◌≡◌, ◌∙◌, ◌<◌, ap, sym, refl, ℕ, suc, List, [], ◌∷◌, ◌++◌, map, Bool, true, false}
+use Rattle.std.proofs.Common.{◌≡◌, ◌∙◌, ◌<◌, ap, sym, refl, ℕ, suc, List, [], ◌∷◌, ◌++◌, Bool, true, false}
 use Rattle.std.proofs.Common.{Option, Some, None}
 use Rattle.std.proofs.Common.{arith, eqb-true, ne_eqb, ◌≢◌}
 use Rattle.std.specs.Global.{Box}
@@ -8,9 +8,7 @@ use Rattle.code_plan.specs.declared.steps.PlannedCase.{PlannedCase}
 use Rattle.code_plan.specs.declared.steps.PlannedCase.TheVariants as case
 use Rattle.std.proofs.Common.{IfOk, Result, Ok, Err, is_some, option_map, subst, ℤ}
 use Rattle.go_value.specs.Values.{Val, Field, Parts, none, number, part, parts, parts_of, truth, value_of}
-use Rattle.go_value.specs.declared.values.Part.{Part}
 use Rattle.go_value.specs.declared.values.Value.{Value}
-use Rattle.go_value.specs.declared.values.Value.TheVariants as values
 use Rattle.interp_builtins.specs.Received.{behind}
 use Rattle.plan_mean.specs.Channels.{received_parts, selected}
 use Rattle.ssa_mean.specs.Channels.{case_number, is_chosen, value_if}

@@ -1,5 +1,5 @@
 -- A frame that panics, and a run that ends by a panic.
-use Rattle.std.proofs.Common.{◌≡◌, ◌∙◌, ◌∷◌, ◌++◌, ℕ, List, Some, None, ap, sym, refl, subst, Global}
+use Rattle.std.proofs.Common.{◌≡◌, ◌∙◌, ◌∷◌, ◌++◌, ℕ, List, Some, None, ap, sym, subst, Global}
 use Rattle.std.specs.Prelude.{codes, Result, Ok, Err, IfOk}
 use Rattle.std.specs.declared.rc.Rc.{Rc}
 use Rattle.code_plan.specs.declared.steps.Plan.{Plan}
@@ -8,7 +8,6 @@ use Rattle.go_text.specs.Naming.{Naming}
 use Rattle.go_value.specs.Values.{Val, Typed, dynamic, text, value_of}
 use Rattle.go_value.specs.declared.faults.Fault.{Fault}
 use Rattle.go_value.specs.declared.faults.Fault.TheVariants as fault
-use Rattle.go_value.specs.declared.values.Dynamic.{Dynamic}
 use Rattle.go_value.specs.declared.values.Value.{Value}
 use Rattle.go_value.specs.declared.values.Value.TheVariants as values
 use Rattle.interp_state.proofs.Tops.{below_of, frames_are, no_frames, with_top_is, with_current_in}

@@ -1,9 +1,9 @@
 -- A value and whether there was one.
-use Rattle.std.proofs.Common.{◌≡◌, ◌∙◌, [], ◌∷◌, List, map, ap, Bool, false}
+use Rattle.std.proofs.Common.{◌≡◌, ◌∙◌, [], ◌∷◌, List, ap, Bool, false}
 use Rattle.std.specs.Prelude.{Result, Ok, Err, IfOk}
 use Rattle.go_value.specs.declared.values.Value.{Value}
 use Rattle.go_value.specs.declared.values.Value.TheVariants as values
-use Rattle.go_value.specs.Values.{Val, Field, parts_of, value_of, parts, truth, none, part}
+use Rattle.go_value.specs.Values.{Val, Field, parts_of, value_of, parts, truth}
 use Rattle.ssa_mean.specs.Making.{pair_of}
 
 abbrev plain : Value → Field

@@ -1,4 +1,4 @@
-use Rattle.std.proofs.Common.{◌≡◌, ◌∙◌, ap, arith, length, of_z, pos, refl, to_z}
+use Rattle.std.proofs.Common.{◌≡◌, ap, arith, length, of_z, pos, refl, to_z}
 use Rattle.std.proofs.lemmas.Int.{ints, to_z-of_z}
 use Rattle.std.specs.Int.{w128}
 use Rattle.go_sched.specs.Goroutines.{meant, queue_length, state_of}

@@ -1,5 +1,4 @@
-use Rattle.std.proofs.Common.{◌∙◌, ◌∷◌, ◌++◌, [], ap, false, sym, map, option_map, suc}
-use Rattle.std.proofs.lemmas.List.{map-append}
+use Rattle.std.proofs.Common.{◌∙◌, ◌∷◌, ◌++◌, [], ap, false, sym, option_map, suc}
 use Rattle.go_value.specs.Values.{Field, value_of}
 use Rattle.go_value.specs.declared.values.Value.{Value}
 use Rattle.ssa_mean.specs.Channels.{value_if}

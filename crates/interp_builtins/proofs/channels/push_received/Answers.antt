@@ -1,4 +1,4 @@
-use Rattle.std.proofs.Common.{◌∙◌, ap, drop_of_length-le, map, option_map, sym}
+use Rattle.std.proofs.Common.{◌∙◌, ap, drop_of_length-le, option_map, sym}
 use Rattle.go_value.specs.Values.{value_of}
 use Rattle.interp_builtins.proofs.Received.{behind_none}
 use Rattle.interp_builtins.specs.Received.{behind}

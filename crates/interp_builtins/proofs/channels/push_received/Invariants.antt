@@ -1,4 +1,4 @@
-use Rattle.std.proofs.Common.{◌≡◌, drop, map, option_map}
+use Rattle.std.proofs.Common.{◌≡◌, drop, option_map}
 use Rattle.go_value.specs.Values.{value_of}
 use Rattle.plan_mean.specs.Channels.{received_parts}
 use Rattle.interp_builtins.specs.Received.{behind}
