@@ -10,7 +10,6 @@ use Rattle.go_base.specs.declared.memory.NoMemory.{NoMemory}
 use Rattle.go_store.specs.Arrays.{array_of, elements}
 use Rattle.go_value.specs.Values.{Val, Field, number, parts, parts_of, pointer, value_of, part}
 use Rattle.go_value.specs.declared.address.Pointer.{Pointer}
-use Rattle.go_value.specs.declared.values.Part.{Part}
 use Rattle.go_value.specs.declared.values.Value.{Value}
 use Rattle.go_value.specs.declared.values.Value.TheVariants as values
 use Rattle.interp_calls.proofs.Entries.{ends_by}

@@ -7,7 +7,6 @@ use Rattle.code_plan.specs.declared.steps.Callee.{Callee}
 use Rattle.code_plan.specs.declared.steps.MethodName.{MethodName}
 use Rattle.go_value.specs.Values.{Val, Typed, dynamic, function_of, value_of}
 use Rattle.go_value.specs.declared.faults.Fault.TheVariants as fault
-use Rattle.go_value.specs.declared.values.Dynamic.{Dynamic}
 use Rattle.go_value.specs.declared.values.FuncValue.{FuncValue}
 use Rattle.go_value.specs.declared.values.Value.{Value}
 use Rattle.go_value.specs.declared.values.Value.TheVariants as values

@@ -1,8 +1,7 @@
 -- What the definition of runs makes of operands that a machine has looked at.
-use Rattle.std.proofs.Common.{◌≡◌, ◌∙◌, ap, List, ℤ, Some, map, sym}
+use Rattle.std.proofs.Common.{◌≡◌, ◌∙◌, ap, List, ℤ, Some, sym}
 use Rattle.code_plan.specs.declared.steps.Arg.{Arg}
-use Rattle.go_value.specs.Values.{Val, number, parts, parts_of, value_of}
-use Rattle.go_value.specs.declared.values.Part.{Part}
+use Rattle.go_value.specs.Values.{Field, Val, number, parts, parts_of, value_of}
 use Rattle.go_value.specs.declared.values.Value.{Value}
 use Rattle.go_value.specs.declared.values.Value.TheVariants as values
 use Rattle.interp_state.specs.Machines.{machine_of}

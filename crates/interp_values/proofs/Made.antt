@@ -1,27 +1,26 @@
 -- What the steps that make values come to, by what their parts give.
 use Rattle.std.proofs.lemmas.Bool.{false≢true}
-use Rattle.std.proofs.Common.{◌≡◌, ◌∙◌, ℕ, ℤ, pos, ◌==◌, List, [], ◌∷◌, ◌++◌, map, Bool, true, false, sym, ap, subst}
+use Rattle.std.proofs.Common.{◌≡◌, ◌∙◌, ℕ, ℤ, ◌==◌, List, [], ◌∷◌, ◌++◌, map, Bool, true, false, sym, ap, subst}
 use Rattle.std.proofs.Common.{refl}
-use Rattle.std.proofs.Common.{Option, Some, None, Result, Ok, Err, OnOk, IsSome, flat_map, option_map}
+use Rattle.std.proofs.Common.{Option, Some, None, Result, Ok, Err, IsSome, flat_map, option_map}
 use Rattle.std.specs.Result.{IsErrAnd}
-use Rattle.std.specs.Prelude.{if◌then◌else◌, unsigned_abs, unwrap_or, IfOk}
+use Rattle.std.specs.Prelude.{if◌then◌else◌, unsigned_abs, unwrap_or}
 use Rattle.code_plan.specs.declared.steps.Arg.{Arg}
 use Rattle.code_plan.specs.declared.steps.Bounds.{Bounds}
 use Rattle.code_plan.specs.declared.steps.CutForm.{CutForm}
-use Rattle.code_plan.specs.declared.steps.Step.{Step}
 use Rattle.go_base.specs.declared.ids.FuncId.{FuncId}
 use Rattle.go_base.specs.declared.ids.MapId.{MapId}
 use Rattle.go_base.specs.declared.ids.TypeId.{TypeId}
 use Rattle.go_maps.specs.Entries.{value_of_key, with_pair}
 use Rattle.go_maps.specs.Equality.{TellsComparable}
-use Rattle.go_maps.specs.Keys.{unhashable, Hashes, TellsFault}
-use Rattle.go_maps.specs.Maps.{map_in, put_fault, FaultsPut}
+use Rattle.go_maps.specs.Keys.{unhashable, TellsFault}
+use Rattle.go_maps.specs.Maps.{map_in, put_fault}
 use Rattle.go_sched.specs.Goroutines.{state_of}
 use Rattle.go_store.specs.Arrays.{array_of}
-use Rattle.go_store.specs.Conversions.{MakesSlice, MakesRunes, within_limit, numbers_of, items_of}
+use Rattle.go_store.specs.Conversions.{MakesSlice, MakesRunes, within_limit}
 use Rattle.go_store.specs.MapCalls.{map_changed}
 use Rattle.go_value.specs.Texts.{text_between}
-use Rattle.go_store.specs.Slices.{sliced, elements_of, make_fault, slice_of_new, with_zeros}
+use Rattle.go_store.specs.Slices.{sliced, make_fault, slice_of_new, with_zeros}
 use Rattle.go_store.specs.Stores.{Stored, stored, made}
 use Rattle.go_type.specs.Table.{Table}
 use Rattle.go_value.specs.Gives.{Gives, FaultIs}
@@ -32,7 +31,6 @@ use Rattle.go_value.specs.Values.{truth, expression, nil_interface, dynamic, par
 use Rattle.go_value.specs.declared.address.Pointer.{Pointer}
 use Rattle.go_value.specs.declared.address.SliceValue.{SliceValue}
 use Rattle.go_value.specs.declared.faults.Fault.{Fault}
-use Rattle.go_value.specs.declared.faults.Fault.TheVariants as fault
 use Rattle.go_value.specs.declared.faults.ValueError.{ValueError}
 use Rattle.go_value.specs.declared.faults.ValueError.TheVariants as errors
 use Rattle.go_value.specs.declared.values.Value.{Value}
@@ -40,27 +38,24 @@ use Rattle.interp_state.proofs.Turns.{goes_to, sets, wants, wrote_is, wrote_in, 
 use Rattle.interp_state.specs.Asked.{AreAsked}
 use Rattle.interp_state.specs.Errors.{met_of, met_of_fault}
 use Rattle.interp_state.specs.Machines.{machine_of}
-use Rattle.interp_state.specs.States.{looked, Wrote}
-use Rattle.interp_state.specs.Turns.{IsIn, ComesTo, Steps, IsUnseen, Meets, Gives as GivesTo, Does, IsGiven, IsMade}
+use Rattle.interp_state.specs.States.{looked}
+use Rattle.interp_state.specs.Turns.{IsIn, ComesTo, Steps, IsUnseen, Gives as GivesTo, Does, IsGiven, IsMade}
 use Rattle.interp_state.specs.Turns.{IsChanged}
 use Rattle.interp_state.specs.declared.machine.Machine.{Machine}
 use Rattle.interp_state.specs.declared.machine.Met.{Met}
 use Rattle.interp_state.specs.declared.machine.Met.TheVariants as met
 use Rattle.interp_state.specs.declared.machine.Turn.{Turn}
-use Rattle.interp_state.specs.declared.machine.Turn.TheVariants as turn
 use Rattle.interp_values.specs.Made.{IsMadeChannel, IsPlace}
 use Rattle.plan_mean.specs.Channels.{with_sched}
-use Rattle.plan_mean.specs.Operands.{look, look_at_all, with_one, with_bound, with_integer, on_integer}
+use Rattle.plan_mean.specs.Operands.{look_at_all, with_one, with_bound, with_integer, on_integer}
 use Rattle.plan_mean.specs.State.{World, Next, goes, with_value}
-use Rattle.plan_mean.specs.State as meant
-use Rattle.plan_mean.specs.Step.{gives, gives_stored, gives_channel, changes, look_up, update, held_as, held_by}
+use Rattle.plan_mean.specs.Step.{gives, gives_channel, changes, look_up, update, held_as}
 use Rattle.plan_mean.specs.Step.{make_closure}
 use Rattle.plan_mean.specs.Step.{cut_of, length_of_cut, with_integers}
 use Rattle.plan_mean.specs.Unwinding.{meets}
 use Rattle.ssa_mean.proofs.Decoded.{runes_one}
-use Rattle.ssa_mean.specs.Comes.{Comes, to, faults, nowhere, of_result, of_option, then_to, where_some}
+use Rattle.ssa_mean.specs.Comes.{Comes, to, of_result, of_option, then_to, where_some}
 use Rattle.ssa_mean.specs.Conversions.{Stores, kept, slice_of_ints, slice_of_text, text_of_items, spelling}
-use Rattle.ssa_mean.specs.Faults.{naming_of}
 use Rattle.ssa_mean.specs.Making.{Channels, value_or, pointers_of, made_where, made_slice}
 use Rattle.ssa_mean.specs.Places.{part_between}
 use Rattle.ssa_mean.specs.Operands.{with_value as with_first}

@@ -1,5 +1,5 @@
 -- What stands among parts.
-use Rattle.std.proofs.Common.{◌≡◌, ◌∙◌, ◌<◌, ap, get_or, refl, List, [], ◌∷◌, length, map, ℕ}
+use Rattle.std.proofs.Common.{◌≡◌, ◌∙◌, ◌<◌, ap, get_or, refl, List, [], ◌∷◌, length, ℕ}
 use Rattle.std.proofs.Common.{zero, suc, ℤ, Some, Ok, Err, Result}
 use Rattle.std.proofs.lemmas.Option.{slice_get_read}
 use Rattle.std.specs.Prelude.{slice_get}

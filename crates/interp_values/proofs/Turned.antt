@@ -1,11 +1,11 @@
 -- Turns of ranges, by what their parts give.
-use Rattle.std.proofs.Common.{◌≡◌, ◌∙◌, ◌<◌, ◌≤◌, ◌-◌, ◌+◌, ℕ, zero, suc, List, [], ◌∷◌, ◌++◌, map, length, reverse}
+use Rattle.std.proofs.Common.{◌≡◌, ◌∙◌, ◌<◌, ◌-◌, ℕ, zero, suc, List, [], ◌∷◌, ◌++◌, map, length, reverse}
 use Rattle.std.proofs.Common.{drop, take, Bool, true, false, sym, ap, subst}
 use Rattle.std.proofs.Common.{refl, Option, Some, None, option_map, arith}
 use Rattle.std.proofs.lemmas.List.{reverse-append, reverse-reverse}
 use Rattle.std.specs.Option.{option_and_then}
 use Rattle.std.specs.List.{filter}
-use Rattle.std.specs.Prelude.{IfOk, Result, Ok, Err, slice_index, slice_set, if◌then◌else◌}
+use Rattle.std.specs.Prelude.{IfOk, Result, Ok, Err, slice_index, slice_set}
 use Rattle.go_base.specs.declared.ids.MapId.{MapId}
 use Rattle.go_maps.specs.Entries.{entry_at, numbered, pair_made}
 use Rattle.go_maps.specs.Maps.{Map, Pair}
@@ -16,8 +16,7 @@ use Rattle.go_store.specs.Stores.{Stored, stored}
 use Rattle.go_value.specs.Values.{Val, number, text, pointer, slice, map_number, chan_number, nil_function, closure}
 use Rattle.go_value.specs.Values.{bound}
 use Rattle.go_value.specs.Values.{truth, expression, nil_interface, dynamic, parts, text_range, map_range, value_of}
-use Rattle.go_value.specs.Values.{Field, parts_of, part, none}
-use Rattle.go_value.specs.declared.values.Part.{Part}
+use Rattle.go_value.specs.Values.{Field, parts_of}
 use Rattle.go_value.specs.declared.values.Value.TheVariants as values
 use Rattle.go_value.specs.declared.values.Value.{Value}
 use Rattle.interp_state.proofs.Turns.{goes_to, wrote_is, wrote_in}
@@ -28,12 +27,12 @@ use Rattle.interp_state.specs.Turns.{IsIn, Steps}
 use Rattle.interp_state.specs.declared.machine.Machine.{Machine}
 use Rattle.interp_state.specs.declared.machine.Turn.TheVariants as turn
 use Rattle.interp_state.specs.declared.machine.Turn.{Turn}
-use Rattle.interp_values.specs.Made.{IsTurn, IsDrawn, Draws, character_turn, entry_turn}
+use Rattle.interp_values.specs.Made.{IsTurn, IsDrawn, character_turn, entry_turn}
 use Rattle.plan_mean.specs.Channels.{with_sched}
 use Rattle.plan_mean.specs.Ranges.{Drawn, drawn, first_drawn, drawn_among, is_standing, sched_after, turn_with}
 use Rattle.plan_mean.specs.Ranges.{map_turn, next_of_text}
 use Rattle.plan_mean.specs.Slots.{slot_in, with_slot}
-use Rattle.plan_mean.specs.State.{World, Next, goes, where_there, with_value, with_slots}
+use Rattle.plan_mean.specs.State.{World, goes, where_there, with_value, with_slots}
 use Rattle.plan_mean.specs.Step.{turns}
 use Rattle.ssa_mean.specs.MapCalls.{entries_of}
 use Rattle.ssa_mean.specs.Ranges.{turn_of}

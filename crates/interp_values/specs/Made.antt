@@ -1,5 +1,5 @@
 -- What operations make of a machine besides a value and the store: channels, and turns of ranges.
-use Rattle.std.specs.Prelude.{◌≡◌, ℕ, ℤ, pos, List, Bool, true, false, Option, Some, None, option_map, Result, Ok, Err}
+use Rattle.std.specs.Prelude.{◌≡◌, ℕ, ℤ, pos, List, true, false, Option, Some, None, option_map, Result, Ok, Err}
 use Rattle.code_plan.specs.declared.steps.Arg.{Arg}
 use Rattle.go_base.specs.declared.ids.MapId.{MapId}
 use Rattle.go_maps.specs.Entries.{entry_at}
@@ -12,7 +12,7 @@ use Rattle.interp_state.specs.States.{looked, slots_of}
 use Rattle.interp_state.specs.declared.machine.Machine.{Machine}
 use Rattle.interp_state.specs.declared.machine.Met.{Met}
 use Rattle.interp_state.specs.declared.machine.Met.TheVariants as met
-use Rattle.plan_mean.specs.Ranges.{Drawn, drawn, sched_after}
+use Rattle.plan_mean.specs.Ranges.{drawn, sched_after}
 use Rattle.plan_mean.specs.Slots.{with_slot}
 use Rattle.ssa_mean.specs.Comes.{Comes, to, faults}
 use Rattle.ssa_mean.specs.Making.{Channels}

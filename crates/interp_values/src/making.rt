@@ -564,10 +564,11 @@ fn as_type(
     let Some(dynamic) = interface_of(value) else {
         return Ok(None);
     };
-    if dynamic.of() == wanted {
+    let of = dynamic.of();
+    if of == wanted {
         return Ok(Some(dynamic.value().copy(machine.alloc)?));
     }
-    as_interface(machine, value, dynamic.of(), wanted)
+    as_interface(machine, value, of, wanted)
 }
 
 /// A value in an interface, with its type, as one of another type. None where that is no type of interfaces, or is not

@@ -1,12 +1,11 @@
 -- What was written before a step stands in front of what it writes, and changes nothing.
-use Rattle.std.proofs.Common.{◌≡◌, ℕ, zero, suc, ◌+◌, List, [], ◌∷◌, ◌++◌, Option, Some, None, Bool, true, false, refl, sym, ◌∙◌}
+use Rattle.std.proofs.Common.{◌≡◌, ℕ, zero, suc, ◌+◌, List, [], ◌∷◌, ◌++◌, Option, Some, None, Bool, true, false, refl, ◌∙◌}
 use Rattle.std.proofs.Common.{ap, append_assoc, zero-add}
 use Rattle.std.proofs.Math.Nat.{suc-add}
-use Rattle.std.specs.Prelude.{if◌then◌else◌, Result, Ok, Err, option_map, nat_lt, nat_le, slice_get, slice_set, not, ◌==◌, length, ℤ}
+use Rattle.std.specs.Prelude.{if◌then◌else◌, Result, Ok, Err, option_map, slice_get, slice_set, not, ◌==◌, length, ℤ}
 use Rattle.std.specs.Global.{Box}
 use Rattle.std.specs.Option.{option_and_then, option_map_or}
 use Rattle.code_plan.specs.declared.steps.Arg.{Arg}
-use Rattle.code_plan.specs.declared.steps.Arg.TheVariants as arg
 use Rattle.code_plan.specs.declared.steps.Bounds.{Bounds}
 use Rattle.code_plan.specs.declared.steps.BuiltinForm.{BuiltinForm}
 use Rattle.code_plan.specs.declared.steps.BuiltinForm.TheVariants as form
@@ -39,7 +38,7 @@ use Rattle.go_value.specs.declared.faults.Fault.TheVariants as fault
 use Rattle.go_value.specs.declared.values.Value.{Value}
 use Rattle.plan_mean.specs.BuiltIns.{built_in_call}
 use Rattle.plan_mean.specs.Calls.{Entry, enters, enters_role, enters_source, exits, pushed, entry_of, returned, readied, with_new}
-use Rattle.plan_mean.specs.Calls.{with_arguments, with_entry, new_frame, later, passed_on, passed_by_invoke, called_value, invoked}
+use Rattle.plan_mean.specs.Calls.{with_entry, new_frame, passed_by_invoke, invoked}
 use Rattle.plan_mean.specs.Channels.{woken, woken_goroutine, all_woken, completed, answered, came_to, received, selected}
 use Rattle.plan_mean.specs.Channels.{with_sched, case_of, cases_of, stays}
 use Rattle.plan_mean.specs.Operands.{look, look_at_all, with_one, with_bound}
@@ -48,16 +47,15 @@ use Rattle.plan_mean.specs.State.{World, Called, of_function, of_built_in, of_ni
 use Rattle.plan_mean.specs.State.{goes, ends, stuck, where_there, with_current, with_frames, with_value, with_result, swapped, advanced}
 use Rattle.plan_mean.specs.Step.{acts, step}
 use Rattle.plan_mean.specs.Step as steps_of
-use Rattle.plan_mean.specs.Unwinding.{panicked, throws_from, throws, meets, panics_with, with_tick, spends, goes_with, changed}
+use Rattle.plan_mean.specs.Unwinding.{throws_from, throws, meets, panics_with, with_tick, spends, goes_with, changed}
 use Rattle.plan_mean.specs.Unwinding.{runs_on, switches, unwound, text_of_thrown, at_block, may_recover, recovered, recovering}
 use Rattle.ssa_mean.specs.BuiltIns.{Done}
-use Rattle.ssa_mean.specs.Comes.{Comes, to, faults, nowhere, where_some, then_to, of_option}
+use Rattle.ssa_mean.specs.Comes.{Comes, to, faults, nowhere, where_some}
 use Rattle.ssa_mean.specs.Conversions.{Stores}
 use Rattle.ssa_mean.specs.Channels.{with_case}
 use Rattle.ssa_mean.specs.Making as making
 use Rattle.ssa_mean.specs.Operands as operands
 use Rattle.ssa_mean.specs.Places.{part_between}
-use Rattle.ssa_mean.specs.Ranges.{Turn}
 use Rattle.ssa_mean.specs.State.{FrameState, running, returning, panicking, Thrown, of_value}
 
 -- a machine with more in front goes where the machine goes, with that in front

@@ -1,6 +1,6 @@
 -- Sends, receives, selects and closes. Go specification, "Send statements", "Receive operator", "Select statements" and
 -- "Close".
-use Rattle.std.specs.Prelude.{ℕ, suc, ◌==◌, Bool, false, List, [], ◌∷◌, Option, Some, None, Result, Ok, Err}
+use Rattle.std.specs.Prelude.{ℕ, suc, Bool, false, List, [], ◌∷◌, Option, Some, None, Result, Ok, Err}
 use Rattle.std.specs.Prelude.{is_some, slice_get, slice_set, option_map}
 use Rattle.std.specs.Global.{Box}
 use Rattle.std.specs.Option.{option_and_then}

@@ -6,7 +6,6 @@ use Rattle.interp_calls.proofs.calling.put_captured.Goals as goal
 use Rattle.interp_state.specs.Frames.{frames_of}
 use Rattle.interp_state.specs.States.{slots_of}
 use Rattle.interp_state.specs.declared.machine.Machine.{Machine}
-use Rattle.plan_mean.specs.Slots.{with_slot}
 
 pub loop-address-preserved : goal.loop-address-preserved
 loop-address-preserved c =

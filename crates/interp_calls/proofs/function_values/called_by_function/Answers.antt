@@ -1,7 +1,5 @@
 use Rattle.std.proofs.Common.{◌∙◌, Some, ap, map, sym}
-use Rattle.go_value.specs.Values.{bound, function_of, pointer, value_of}
-use Rattle.go_value.specs.declared.values.Value.{Value}
-use Rattle.interp_calls.proofs.Readied.{called_so}
+use Rattle.go_value.specs.Values.{function_of, pointer}
 use Rattle.interp_calls.proofs.function_values.called_by_function.Goals as goal
 use Rattle.plan_mean.specs.Calls.{called_value}
 use Rattle.plan_mean.specs.State.{of_function}

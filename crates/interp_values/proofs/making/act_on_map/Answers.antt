@@ -2,7 +2,7 @@ use Rattle.std.proofs.Common.{subst, sym}
 use Rattle.code_plan.specs.declared.steps.Step.{Step}
 use Rattle.go_store.specs.Stores.{stored}
 use Rattle.go_value.specs.Values.{value_of}
-use Rattle.interp_state.proofs.Turns.{given_in, wants}
+use Rattle.interp_state.proofs.Turns.{given_in}
 use Rattle.interp_state.specs.Machines.{machine_of}
 use Rattle.go_value.specs.declared.values.Value.{Value}
 use Rattle.interp_state.specs.Turns.{IsIn, IsGiven, Steps}

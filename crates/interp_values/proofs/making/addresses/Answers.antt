@@ -1,4 +1,4 @@
-use Rattle.std.proofs.Common.{◌≡◌, ◌∙◌, ap, sym, ◌∷◌, ◌++◌, [], Some, List, map, take}
+use Rattle.std.proofs.Common.{◌∙◌, ap, sym, ◌∷◌, ◌++◌, [], Some, List, map, take}
 use Rattle.std.proofs.lemmas.List.{map-append, take_more}
 use Rattle.go_value.specs.Values.{Val, pointer}
 use Rattle.go_value.specs.declared.address.Pointer.{Pointer}

@@ -1,6 +1,6 @@
-use Rattle.std.proofs.Common.{◌≡◌, subst, sym, ap, ◌∙◌, Some, None, Bool, true}
+use Rattle.std.proofs.Common.{subst, sym, ap, ◌∙◌, Some, Bool}
 use Rattle.std.specs.Prelude.{if◌then◌else◌}
-use Rattle.go_value.specs.Values.{Val, pointer}
+use Rattle.go_value.specs.Values.{pointer}
 use Rattle.go_value.specs.declared.address.SliceValue.{SliceValue}
 use Rattle.go_value.specs.declared.faults.Fault.TheVariants.{NilPointer}
 use Rattle.interp_state.specs.Turns.{IsGiven}

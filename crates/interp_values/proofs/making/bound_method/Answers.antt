@@ -1,4 +1,4 @@
-use Rattle.std.proofs.Common.{◌≡◌, ap, ◌∙◌, Err, sym, subst, Bool}
+use Rattle.std.proofs.Common.{ap, ◌∙◌, Err, sym, subst, Bool}
 use Rattle.std.specs.Prelude.{if◌then◌else◌}
 use Rattle.go_value.specs.Interfaces.{bound_to}
 use Rattle.go_value.specs.Values.{value_of}

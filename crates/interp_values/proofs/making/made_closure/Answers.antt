@@ -1,5 +1,5 @@
-use Rattle.std.proofs.Common.{◌≡◌, ap, ◌∙◌, sym}
-use Rattle.go_value.specs.Values.{Val, closure}
+use Rattle.std.proofs.Common.{ap, ◌∙◌, sym}
+use Rattle.go_value.specs.Values.{Val}
 use Rattle.interp_values.proofs.Made.{closure_made}
 use Rattle.ssa_mean.specs.Comes.{to}
 use Rattle.interp_values.proofs.making.made_closure.Goals as goal

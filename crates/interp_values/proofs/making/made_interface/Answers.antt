@@ -1,4 +1,4 @@
-use Rattle.std.proofs.Common.{◌≡◌, ap, ◌∙◌, Err, sym, subst}
+use Rattle.std.proofs.Common.{ap, ◌∙◌, Err, sym, subst}
 use Rattle.go_value.specs.Interfaces.{converted}
 use Rattle.go_value.specs.Values.{value_of}
 use Rattle.interp_state.specs.Errors.{met_of}

@@ -1,13 +1,11 @@
-use Rattle.std.proofs.Common.{◌≡◌, ap, ◌∙◌, rules, subst, sym, refl, ℤ, Option, None}
+use Rattle.std.proofs.Common.{rules, refl}
 use Rattle.std.specs.Int.{w128}
 use Rattle.std.specs.Int.RustNames.{FitsSigned}
-use Rattle.std.specs.Prelude.{unsigned_abs}
 use Rattle.std.proofs.lemmas.Int.{to_z-of_z}
-use Rattle.go_store.specs.Slices.{make_fault, slice_of_new, with_zeros}
 use Rattle.go_store.specs.Stores.{stored}
 use Rattle.go_value.specs.Values.{value_of}
 use Rattle.interp_state.specs.Turns.{IsMade}
-use Rattle.interp_values.proofs.Made.{err_is, integers_are, no_slice_of, slice_made_of}
+use Rattle.interp_values.proofs.Made.{err_is, no_slice_of, slice_made_of}
 use Rattle.interp_state.specs.Machines.{machine_of}
 use Rattle.interp_state.specs.declared.machine.Machine.{Machine}
 use Rattle.plan_mean.specs.Step.{with_integers}

@@ -1,4 +1,4 @@
-use Rattle.std.proofs.Common.{subst, ◌∙◌}
+use Rattle.std.proofs.Common.{subst}
 use Rattle.go_type.specs.Table.{Table}
 use Rattle.go_value.specs.Interfaces.{converted}
 use Rattle.interp_state.proofs.Turns.{given_in}

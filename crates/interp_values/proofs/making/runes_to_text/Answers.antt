@@ -1,4 +1,4 @@
-use Rattle.std.proofs.Common.{◌≡◌, ap, ◌∙◌, Err, sym, refl, true, false, subst}
+use Rattle.std.proofs.Common.{ap, ◌∙◌, Err, sym, refl, false, subst}
 use Rattle.go_store.specs.Slices.{elements_of}
 use Rattle.go_store.specs.Stores.{stored}
 use Rattle.go_value.specs.Values.{slice}

@@ -1,5 +1,5 @@
 use Rattle.std.proofs.Common.{subst, sym, ap, ◌∙◌, None}
-use Rattle.go_value.specs.Values.{Val, slice}
+use Rattle.go_value.specs.Values.{slice}
 use Rattle.go_value.specs.declared.address.SliceValue.{SliceValue}
 use Rattle.interp_state.specs.Turns.{IsGiven}
 use Rattle.interp_values.proofs.Made.{one_is}

@@ -1,9 +1,8 @@
-use Rattle.std.proofs.Common.{◌≡◌, ◌∙◌, ap, rules, sym, ℤ, pos}
+use Rattle.std.proofs.Common.{◌∙◌, ap, rules, sym, pos}
 use Rattle.std.specs.Int.{w128}
 use Rattle.std.specs.Int.RustNames.{FitsSigned}
 use Rattle.std.specs.Prelude.{unwrap_or, Result}
 use Rattle.std.proofs.lemmas.Int.{to_z-of_z}
-use Rattle.go_store.specs.Slices.{sliced}
 use Rattle.go_value.specs.Values.{Val, slice}
 use Rattle.go_value.specs.declared.address.SliceValue.{SliceValue}
 use Rattle.go_value.specs.declared.faults.Fault.{Fault}

@@ -1,9 +1,8 @@
-use Rattle.std.proofs.Common.{◌≡◌, ◌∙◌, ap, rules, sym, subst, ℤ, ℕ, List, pos, length, Err, None}
+use Rattle.std.proofs.Common.{◌∙◌, ap, rules, sym, subst, ℕ, List, pos, length, Err, None}
 use Rattle.std.specs.Int.{w128}
 use Rattle.std.specs.Int.RustNames.{FitsSigned}
 use Rattle.std.specs.Prelude.{unwrap_or, Result}
 use Rattle.std.proofs.lemmas.Int.{to_z-of_z}
-use Rattle.go_value.specs.Texts.{text_between}
 use Rattle.go_value.specs.Values.{Val, text}
 use Rattle.go_value.specs.declared.faults.Fault.{Fault}
 use Rattle.interp_state.specs.Errors.{met_of}

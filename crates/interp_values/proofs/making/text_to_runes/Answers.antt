@@ -1,5 +1,5 @@
-use Rattle.std.proofs.Common.{◌≡◌, ap, ◌∙◌, Ok, Err, sym, refl, true, false, subst, List, ℕ}
-use Rattle.go_store.specs.Conversions.{numbers_of, MakesSlice, MakesRunes}
+use Rattle.std.proofs.Common.{◌∙◌, Ok, Err, sym, refl, false, subst}
+use Rattle.go_store.specs.Conversions.{MakesRunes}
 use Rattle.go_store.specs.Stores.{stored}
 use Rattle.go_value.specs.Values.{text}
 use Rattle.interp_state.specs.Errors.{met_of}

@@ -4,7 +4,6 @@ use Rattle.std.specs.Int.{w128}
 use Rattle.std.specs.Int.RustNames.{FitsSigned}
 use Rattle.go_store.specs.Slices.{element_of}
 use Rattle.interp_values.proofs.Followed.{slice_element_is}
-use Rattle.ssa_mean.specs.Comes.{to}
 use Rattle.interp_values.proofs.places.element_of.Goals as goal
 
 pub returns : goal.returns

@@ -1,4 +1,4 @@
-use Rattle.std.proofs.Common.{◌∙◌, ap, map, subst, sym}
+use Rattle.std.proofs.Common.{◌∙◌, ap, subst, sym}
 use Rattle.std.specs.Global.{Vec}
 use Rattle.go_value.specs.Values.{parts, parts_of, Field}
 use Rattle.interp_state.specs.Turns.{IsGiven}

@@ -1,4 +1,4 @@
-use Rattle.std.proofs.Common.{◌≡◌, ◌-◌, ◌<◌, ◌∙◌, ap, sym, refl, length, arith, ℕ}
+use Rattle.std.proofs.Common.{◌≡◌, ◌-◌, ◌<◌, ◌∙◌, ap, refl, length, arith, ℕ}
 use Rattle.std.proofs.lemmas.List.{get_or_read}
 use Rattle.interp_values.proofs.Turned.{drawn_is}
 use Rattle.go_sched.specs.Choices.{chosen, picked}

@@ -1,6 +1,4 @@
-use Rattle.std.proofs.Common.{◌≡◌, ◌∙◌, ap, sym, Bool, false, length, List, ℕ, subst}
-use Rattle.std.specs.Prelude.{if◌then◌else◌}
-use Rattle.go_sched.specs.Choices.{picked}
+use Rattle.std.proofs.Common.{◌∙◌, ap, sym}
 use Rattle.go_sched.specs.Goroutines.{state_of}
 use Rattle.go_store.specs.Stores.{stored}
 use Rattle.std.specs.List.{filter}

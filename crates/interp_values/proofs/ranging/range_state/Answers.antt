@@ -1,6 +1,6 @@
 use Rattle.std.proofs.Common.{◌≡◌, ◌∙◌, ap, sym, subst, Some}
 use Rattle.go_store.specs.Stores.{stored}
-use Rattle.go_value.specs.Values.{Val, text, map_number, value_of}
+use Rattle.go_value.specs.Values.{text, map_number, value_of}
 use Rattle.go_value.specs.declared.values.Value.{Value}
 use Rattle.interp_state.specs.States.{looked}
 use Rattle.interp_state.specs.Turns.{IsGiven}
