@@ -92,6 +92,18 @@ def packages(count, last):
     return files
 
 
+def nested(count):
+    """A value in so many interfaces, each of which holds the one before twice."""
+    step = f"for n := 0; n < {count}; n++ {{ v = pair{{v, v}} }}"
+    return f"package main\ntype pair struct{{ a, b any }}\nfunc main() {{\n\tvar v any = 1\n\t{step}\n\t_ = v\n}}\n"
+
+
+def bound(count):
+    """A method value that is bound to one, and so on."""
+    step = f"for n := 0; n < {count}; n++ {{ t = T{{t.m}} }}"
+    return f"package main\ntype T struct{{ f func() }}\nfunc (t T) m() {{}}\nfunc main() {{\n\tvar t T\n\t{step}\n}}\n"
+
+
 def many(names, of):
     return {name: of for name in names}
 
@@ -111,6 +123,11 @@ def cases():
     yield "10,000 packages in a row", packages(10_000, None), ["-run", "."], "", 0
     cycle = "p0/a.go:2:8: import cycle (M9)"
     yield "10,000 packages in a cycle", packages(10_000, 0), ["."], cycle, 1
+    too_deep = "panic: runtime error: value nested too deeply"
+    yield "interfaces 10,000 deep", {"a.go": nested(4_999)}, ["-run", "a.go"], "", 0
+    yield "and deeper", {"a.go": nested(5_000)}, ["-run", "a.go"], too_deep, 2
+    yield "method values 10,000 deep", {"a.go": bound(4_999)}, ["-run", "a.go"], "", 0
+    yield "and deeper", {"a.go": bound(5_000)}, ["-run", "a.go"], too_deep, 2
     yield "390 parentheses", {"a.go": parentheses(390)}, ["a.go"], "", 0
     yield "a file of 4 MiB", {"a.go": main, "b.go": commented(4 * MIB)}, ["."], "", 0
     yield "a byte more", {"a.go": main, "b.go": commented(4 * MIB + 1)}, ["."], "b.go:1:1: file too large (M5)", 1
