@@ -1,0 +1,5 @@
+//! Tests of goroutines, channels and choices.
+#![tactic(auto)]
+
+#[cfg(test)]
+mod tests;

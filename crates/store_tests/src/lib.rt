@@ -1,0 +1,5 @@
+//! Tests of cells, slices and arrays.
+#![tactic(auto)]
+
+#[cfg(test)]
+mod tests;
