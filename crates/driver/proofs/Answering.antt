@@ -51,7 +51,7 @@ works_right whole words files command sources outcome output asked is result = g
     go (served program typed (outside w e n)) = as_refused whole words files outcome _ _ output e works
     go (served program typed (worked w)) = elim w.ends [ done idle e n ↦ as_done whole words files outcome output e works | ran runs ending e is_run ↦ as_ended whole words files outcome ending output e works ]
 
-generated_right : (whole : Bool) (words : List (List ℕ)) (files : Option Tree) (count : ℕ) (outcome : Outcome) (output : List ℕ) → command_of words ≡ Ok (commands.Generate count) → IsGenerated count outcome output → IsRight whole words files outcome output
+generated_right : (whole : Bool) (words : List (List ℕ)) (files : Option Tree) (count : ℕ) (outcome : Outcome) (output : List ℕ) → command_of words ≡ Ok (commands.Generate count) → IsGenerated whole count outcome output → IsRight whole words files outcome output
 generated_right whole words files count outcome output asked is = as_ended whole words files outcome is.ending output is.outcome_is (on_generated count asked is)
 
 -- ---- what is right is right of a front
@@ -82,9 +82,24 @@ result_loosely whole command files outcome output (broken b n) = broken b n
 result_loosely whole command files outcome output (served program typed (outside w e n)) = served program typed (outside w e n)
 result_loosely whole command files outcome output (served program typed (worked w)) = served program typed (worked (work_loosely whole command files program outcome output w))
 
+generated_loosely : (whole : Bool) (count : ℕ) (outcome : Outcome) (output : List ℕ) → IsGenerated whole count outcome output → IsGenerated false count outcome output
+generated_loosely whole count outcome output is = record {
+  ending = is.ending;
+  outcome_is = is.outcome_is;
+  ran = record {
+    program = is.ran.program;
+    typed = is.ran.typed;
+    code = is.ran.code;
+    sound = is.ran.sound;
+    counts = is.ran.counts;
+    is_counts = is.ran.is_counts;
+    behind = record { run = is.ran.behind.run; is_run = λ h. untrue h; parts = is.ran.behind.parts };
+  };
+}
+
 works_loosely : (whole : Bool) (words : List (List ℕ)) (files : Option Tree) (outcome : Outcome) (output : List ℕ) → Works whole words files outcome output → Works false words files outcome output
 works_loosely whole words files outcome output (on_loaded command sources asked is result) = on_loaded command sources asked is (result_loosely whole command (files_of sources) outcome output result)
-works_loosely whole words files outcome output (on_generated count asked is) = on_generated count asked is
+works_loosely whole words files outcome output (on_generated count asked is) = on_generated count asked (generated_loosely whole count outcome output is)
 
 right_loosely : (whole : Bool) (words : List (List ℕ)) (files : Option Tree) (outcome : Outcome) (output : List ℕ) → IsRight whole words files outcome output → IsRight false words files outcome output
 right_loosely whole words files outcomes.Done output w = works_loosely whole words files outcomes.Done output w
@@ -126,9 +141,9 @@ pub works_answers : (words : List (List ℕ)) (files : Option Tree) (command : L
 works_answers words files command sources outcome old new asked is c =
     comes_answers words files (λ whole. IsResult whole command (files_of sources)) outcome old new (loaded command sources asked is) (λ whole outcome output result. works_right whole words files command sources outcome output asked is result) c
 
-pub generated_answers : (words : List (List ℕ)) (files : Option Tree) (count : ℕ) (outcome : Outcome) (old new : Option (List ℕ)) → command_of words ≡ Ok (commands.Generate count) → Comes (λ whole. IsGenerated count) outcome old new → Answers words files outcome old new
+pub generated_answers : (words : List (List ℕ)) (files : Option Tree) (count : ℕ) (outcome : Outcome) (old new : Option (List ℕ)) → command_of words ≡ Ok (commands.Generate count) → Comes (λ whole. IsGenerated whole count) outcome old new → Answers words files outcome old new
 generated_answers words files count outcome old new asked c =
-    comes_answers words files (λ whole. IsGenerated count) outcome old new (generated count asked) (λ whole outcome output is. generated_right whole words files count outcome output asked is) c
+    comes_answers words files (λ whole. IsGenerated whole count) outcome old new (generated count asked) (λ whole outcome output is. generated_right whole words files count outcome output asked is) c
 
 -- memory is wanted
 wants_answers : (words : List (List ℕ)) (files : Option Tree) (outcome : Outcome) (known : Option (List ℕ)) → outcome ≡ outcomes.OutOfMemory → Answers words files outcome known known

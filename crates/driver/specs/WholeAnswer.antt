@@ -29,7 +29,8 @@ pub data Works (whole : Bool) (words : List (List ℕ)) (files : Option Tree) (o
   on_loaded : (command : LoadCommand) (sources : Sources) → command_of words ≡ Ok (commands.Load command)
       → IsLoaded files command.target sources → IsResult whole command (files_of sources) outcome output
       → Works whole words files outcome output
-  on_generated : (count : ℕ) → command_of words ≡ Ok (commands.Generate count) → IsGenerated count outcome output
+  on_generated : (count : ℕ) → command_of words ≡ Ok (commands.Generate count)
+      → IsGenerated whole count outcome output
       → Works whole words files outcome output
 
 -- a loading rule is broken, and nothing is on standard output

@@ -4,6 +4,7 @@ ghost use Rattle.std.specs.Prelude.{◌≡◌, ◌≤◌, ◌++◌, IfOk, IsErrO
 ghost use Rattle.go_base.specs.Devices.{HasFaulted};
 ghost use Rattle.driver.specs.Generating.{count_line, Counts, IsGenerated, IsGeneratedRun, IsRunBehind};
 ghost use Rattle.program_work.specs.Outputs.{Comes, Does};
+ghost use Rattle.program_work.specs.Working.{IsSound};
 ghost use Rattle.program_work.specs.declared.stop.Stop.TheVariants.{WriteFault};
 ghost use Rattle.typed_trees.specs.Programs.{IsTypedProgram};
 
@@ -11,14 +12,13 @@ use command_line::Graph;
 use go_base::{Ending, NoMemory, Sink};
 use go_declared::CheckError;
 use go_gen::generated;
-use go_interp::run;
 use go_load::{LoadError, from_text};
 use go_sources::Sources;
 use go_stmt::check;
 use go_text::push_number;
 use go_tree::Program;
 use program_typing::is_program;
-use program_work::{Outcome, Stop, edges_of, sound_code};
+use program_work::{Outcome, Stop, edges_of, run_code, sound_code};
 use ssa_ir::Code;
 use std::alloc::Global;
 
@@ -26,11 +26,11 @@ use std::alloc::Global;
 const FILE: &str = "gen.go";
 
 /// How many ticks its run may take.
-const BOUND: u64 = 10_000_000;
+const TICKS: u64 = 10_000_000;
 
 /// Makes, checks, lists and runs the generated program of so many types.
 pub fn generate<O: Sink>(alloc: Global, count: u32, out: &mut O) -> Outcome
-    ensures comes { Comes (λ whole. IsGenerated count) result (O.written out.old) (O.written out.new) }
+    ensures comes { Comes (λ whole. IsGenerated whole count) result (O.written out.old) (O.written out.new) }
     ensures fault { result ≡ Outcome.WriteFault → HasFaulted (O.faults out.old) (O.faults out.new) }
     ensures later { O.faults out.old ≤ O.faults out.new }
 {
@@ -42,7 +42,7 @@ pub fn generate<O: Sink>(alloc: Global, count: u32, out: &mut O) -> Outcome
 
 // Makes the program, and then writes the numbers of edges and runs it.
 fn made_and_run<O: Sink>(alloc: Global, count: u32, out: &mut O) -> Result<Ending, Stop>
-    ensures does { Does (λ whole. IsGeneratedRun count) result (O.written out.old) (O.written out.new) }
+    ensures does { Does (λ whole. IsGeneratedRun whole count) result (O.written out.old) (O.written out.new) }
     ensures fault { IsErrOf result WriteFault → HasFaulted (O.faults out.old) (O.faults out.new) }
     ensures later { O.faults out.old ≤ O.faults out.new }
 {
@@ -61,13 +61,13 @@ fn write_and_run<O: Sink>(
     code: &Code,
     out: &mut O,
 ) -> Result<Ending, Stop>
-    ensures does { Does (λ whole. IsRunBehind text.now) result (O.written out.old) (O.written out.new) }
+    requires sound { IsSound code.now }
+    ensures does { Does (λ whole. IsRunBehind whole code.now text.now) result (O.written out.old) (O.written out.new) }
     ensures fault { IsErrOf result WriteFault → HasFaulted (O.faults out.old) (O.faults out.new) }
     ensures later { O.faults out.old ≤ O.faults out.new }
 {
     out.write(text)?;
-    let ending = run(alloc, code, &[], BOUND, out)?;
-    Ok(ending)
+    run_code(alloc, code, &[], TICKS, out)
 }
 
 // The generated program breaks no rule of loading.
@@ -110,7 +110,7 @@ fn tested(alloc: Global, program: Program) -> Result<Program, Stop>
 
 // The lines that say how many types the program has, and how many edges its graphs.
 fn counts_of(alloc: Global, count: u32, program: &Program) -> Result<Vec<u8>, NoMemory>
-    ensures { IfOk result (λ text. Counts count text.items) }
+    ensures { IfOk result (λ text. Counts program.now count text.items) }
 {
     let cha = edges_of(alloc, Graph::Cha, program)?.len();
     let rta = edges_of(alloc, Graph::Rta, program)?.len();

@@ -1,5 +1,5 @@
 pub mod Written
 mod Sorting
 mod Listings
-mod Working
+pub mod Working
 pub mod Judged

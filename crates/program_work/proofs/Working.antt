@@ -41,7 +41,7 @@ no_code of build e = subst (λ (b : Option Letters). IsCodeText of b []) (sym e)
 
 -- ---- what a run wrote
 
-untrue : {A : Type 0} → IsTrue false → A
+pub untrue : {A : Type 0} → IsTrue false → A
 untrue h = cc
 
 -- what was appended to a sink that tells what it holds is one text
@@ -53,21 +53,21 @@ is_safe : (code : Code) → IsSound code → IsSafe code
 unfolding AreSane
 is_safe code sound = record { held = sound.held; sane = sound.sane; typed = sound.typed; runnable = sound.runnable }
 
-told_run : (code : Code) (command : LoadCommand) (ending : Ending) (xs ys output : List ℕ) → IsSound code → TellsRun code command.choices command.bound ending (Some xs) (Some ys) → ys ≡ xs ++ output → IsRun code command ending output
-told_run code command ending xs ys output sound told appends answers are =
+told_run : (code : Code) (choices : List ℕ) (bound : ℕ) (ending : Ending) (xs ys output : List ℕ) → IsSound code → TellsRun code choices bound ending (Some xs) (Some ys) → ys ≡ xs ++ output → IsRun code choices bound ending output
+told_run code choices bound ending xs ys output sound told appends answers are =
     let t = told answers are in
     let same : t.0 ≡ output = one_text xs ys t.0 output t.1.1 appends in
-    let run : IsRunOf code command.choices command.bound t.0 ending = ⊎_elim (λ is. is) (λ halts. absurd (never_stuck code command.choices command.bound answers (is_safe code sound) are halts)) t.1.0 in
-    subst (λ (o : List ℕ). IsRunOf code command.choices command.bound o ending) same run
+    let run : IsRunOf code choices bound t.0 ending = ⊎_elim (λ is. is) (λ halts. absurd (never_stuck code choices bound answers (is_safe code sound) are halts)) t.1.0 in
+    subst (λ (o : List ℕ). IsRunOf code choices bound o ending) same run
 
-pub has_run : (code : Code) (command : LoadCommand) (ending : Ending) (old new : Option (List ℕ)) → IsSound code → TellsRun code command.choices command.bound ending old new → interp.HasWritten old new → HasRun code command ending old new
-has_run code command ending None new sound told w = record { output = w.output; appends = w.appends; is_run = λ h. untrue h }
-has_run code command ending (Some xs) None sound told w = absurd w.appends
-has_run code command ending (Some xs) (Some ys) sound told w =
-    record { output = w.output; appends = w.appends; is_run = λ h. told_run code command ending xs ys w.output sound told w.appends }
+pub has_run : (code : Code) (choices : List ℕ) (bound : ℕ) (ending : Ending) (old new : Option (List ℕ)) → IsSound code → TellsRun code choices bound ending old new → interp.HasWritten old new → HasRun code choices bound ending old new
+has_run code choices bound ending None new sound told w = record { output = w.output; appends = w.appends; is_run = λ h. untrue h }
+has_run code choices bound ending (Some xs) None sound told w = absurd w.appends
+has_run code choices bound ending (Some xs) (Some ys) sound told w =
+    record { output = w.output; appends = w.appends; is_run = λ h. told_run code choices bound ending xs ys w.output sound told w.appends }
 
 -- a sink that tells what it holds goes on to
-still_tells : (old new : Option (List ℕ)) (text : List ℕ) → Appends old new text → IsTrue (is_some old) → IsTrue (is_some new)
+pub still_tells : (old new : Option (List ℕ)) (text : List ℕ) → Appends old new text → IsTrue (is_some old) → IsTrue (is_some new)
 still_tells None new text a h = untrue h
 still_tells (Some xs) None text a h = absurd a
 still_tells (Some xs) (Some ys) text a h = h
@@ -119,7 +119,7 @@ pub run_stops : (command : LoadCommand) (files : List SourceFile) (program : Pro
 run_stops command files program output old mid new e runs l appends =
     stopped (IsWork false command files program) (outcomes.Ended Bound) (l.text ++ output) old new (run_work command files program l.text Bound output e runs l.is_listing) (front_behind old mid new l.text output l.appends (whole_front mid new output appends))
 
-pub run_finishes : (command : LoadCommand) (files : List SourceFile) (program : Program) (code : Code) (ending : Ending) (old mid new : Option (List ℕ)) → command.build ≡ None → IsSound code → command.run ≡ true → Lists files program command.callgraph old mid → HasRun code command ending mid new → Finishes (IsWork (is_some old) command files program) (outcomes.Ended ending) old new
+pub run_finishes : (command : LoadCommand) (files : List SourceFile) (program : Program) (code : Code) (ending : Ending) (old mid new : Option (List ℕ)) → command.build ≡ None → IsSound code → command.run ≡ true → Lists files program command.callgraph old mid → HasRun code command.choices command.bound ending mid new → Finishes (IsWork (is_some old) command files program) (outcomes.Ended ending) old new
 run_finishes command files program code ending old mid new e sound runs l r =
     finished (IsWork (is_some old) command files program) (outcomes.Ended ending) (l.text ++ r.output) old new (unprinted (is_some old) command files program (Some code) (outcomes.Ended ending) l.text r.output e sound l.is_listing (ran runs ending refl (λ h. r.is_run (still_tells old mid l.text l.appends h)))) (Appends-trans old mid new l.text r.output l.appends r.appends)
 
@@ -184,7 +184,7 @@ pub printed_run_stops : (command : LoadCommand) (files : List SourceFile) (progr
 printed_run_stops command files program letters code output old mid late new built e sound runs w l c =
     stopped (IsWork false command files program) (outcomes.Ended Bound) (w.text ++ (l.text ++ output)) old new (printed_work false command files program letters code w.text l.text (outcomes.Ended Bound) output built e sound w.is l.is_listing (ran runs Bound refl (unknown (Some code) command Bound output))) (whole_front old new (w.text ++ (l.text ++ output)) (three old mid late new w.text l.text output w.appends l.appends c))
 
-pub printed_run_finishes : (command : LoadCommand) (files : List SourceFile) (program : Program) (letters : Letters) (code : Code) (ending : Ending) (old mid late new : Option (List ℕ)) → wants_registers command ≡ false → command.build ≡ Some letters → IsSound code → command.run ≡ true → Printed code letters old mid → Lists files program command.callgraph mid late → HasRun code command ending late new → Finishes (IsWork (is_some old) command files program) (outcomes.Ended ending) old new
+pub printed_run_finishes : (command : LoadCommand) (files : List SourceFile) (program : Program) (letters : Letters) (code : Code) (ending : Ending) (old mid late new : Option (List ℕ)) → wants_registers command ≡ false → command.build ≡ Some letters → IsSound code → command.run ≡ true → Printed code letters old mid → Lists files program command.callgraph mid late → HasRun code command.choices command.bound ending late new → Finishes (IsWork (is_some old) command files program) (outcomes.Ended ending) old new
 printed_run_finishes command files program letters code ending old mid late new built e sound runs w l r =
     finished (IsWork (is_some old) command files program) (outcomes.Ended ending) (w.text ++ (l.text ++ r.output)) old new (printed_work (is_some old) command files program letters code w.text l.text (outcomes.Ended ending) r.output built e sound w.is l.is_listing (ran runs ending refl (λ h. r.is_run (still_tells mid late l.text l.appends (still_tells old mid w.text w.appends h))))) (three old mid late new w.text l.text r.output w.appends l.appends r.appends)
 

@@ -71,15 +71,15 @@ abbrev pub IsListing : List SourceFile → Program → Option Graph → List ℕ
 IsListing files program None text = text ≡ []
 IsListing files program (Some graph) text = IsGraphText files program graph text
 
--- a run of a code with the choices and the bound of a command writes this output, and ends so
-abbrev pub IsRun : Code → LoadCommand → Ending → List ℕ → Type 0
-IsRun code command ending output =
-    (answers : Answers) → AreAnswers code.types answers
-    → IsRunOf code command.choices command.bound output ending
+-- a run of a code with these choices and this bound writes this output, and ends so
+abbrev pub IsRun : Code → List ℕ → ℕ → Ending → List ℕ → Type 0
+IsRun code choices bound ending output =
+    (answers : Answers) → AreAnswers code.types answers → IsRunOf code choices bound output ending
 
+-- so does one with the choices and the bound of a command
 abbrev pub IsRunBy : Option Code → LoadCommand → Ending → List ℕ → Type 0
 IsRunBy None command ending output = ⊥
-IsRunBy (Some code) command ending output = IsRun code command ending output
+IsRunBy (Some code) command ending output = IsRun code command.choices command.bound ending output
 
 -- How the work ends. What a run writes, and which ending it has, is told where all of the output is: where the work
 -- came to its end, on a sink that tells what it holds.
@@ -121,11 +121,12 @@ pub data IsResult (whole : Bool) (command : LoadCommand) (files : List SourceFil
 
 -- ---- what the parts of the code come to
 
--- what the run of a code wrote
-pub record HasRun (code : Code) (command : LoadCommand) (ending : Ending) (old new : Option (List ℕ)) : Type 0 where
-  pub output : List ℕ
-  pub appends : Appends old new output
-  pub is_run : IsTrue (is_some old) → IsRun code command ending output
+-- what the run of a code wrote, with these choices and this bound
+pub record HasRun (code : Code) (choices : List ℕ) (bound : ℕ) (ending : Ending) (old new : Option (List ℕ)) : Type 0
+  where
+    pub output : List ℕ
+    pub appends : Appends old new output
+    pub is_run : IsTrue (is_some old) → IsRun code choices bound ending output
 
 -- the outcome where what is asked is not built, for the file at a path
 abbrev pub IsNotBuilt : List ℕ → Outcome → Type 0

@@ -13,4 +13,4 @@ pub use coding::sound_code;
 pub use graphs::edges_of;
 pub use outcome::Outcome;
 pub use stop::Stop;
-pub use work::work_on;
+pub use work::{run_code, work_on};

@@ -154,7 +154,7 @@ fn work_with_code<O: Sink>(
     if !command.run {
         return Ok(Outcome::Done);
     }
-    let ending = run_code(alloc, code, command, out)?;
+    let ending = run_as_asked(alloc, code, command, out)?;
     Ok(Outcome::Ended(ending))
 }
 
@@ -192,23 +192,40 @@ fn list_and_run<O: Sink>(
 {
     let code = sound_code(alloc, program)?;
     list_graph(alloc, command.callgraph, sources, program, out)?;
-    let ending = run_code(alloc, &code, command, out)?;
+    let ending = run_as_asked(alloc, &code, command, out)?;
     Ok(Outcome::Ended(ending))
 }
 
 // Runs a code with the choices and the bound of a command.
-fn run_code<O: Sink>(
+fn run_as_asked<O: Sink>(
     alloc: Global,
     code: &Code,
     command: &LoadCommand,
     out: &mut O,
 ) -> Result<Ending, Stop>
     requires sound { IsSound code.now }
-    ensures ran { IfOk result (λ ending. HasRun code.now command.now ending (O.written out.old) (O.written out.new)) }
+    ensures ran { IfOk result (λ ending. HasRun code.now command.now.choices command.now.bound ending (O.written out.old) (O.written out.new)) }
     ensures written { HasWritten (O.written out.old) (O.written out.new) }
     ensures fault { IsErrOf result WriteFault → HasFaulted (O.faults out.old) (O.faults out.new) }
     ensures later { O.faults out.old ≤ O.faults out.new }
 {
-    let ending = run(alloc, code, command.choices.as_slice(), command.bound, out)?;
+    run_code(alloc, code, command.choices.as_slice(), command.bound, out)
+}
+
+/// Runs a sound code with these choices and this bound.
+pub fn run_code<O: Sink>(
+    alloc: Global,
+    code: &Code,
+    choices: &[u32],
+    bound: u64,
+    out: &mut O,
+) -> Result<Ending, Stop>
+    requires sound { IsSound code.now }
+    ensures ran { IfOk result (λ ending. HasRun code.now choices.now bound ending (O.written out.old) (O.written out.new)) }
+    ensures written { HasWritten (O.written out.old) (O.written out.new) }
+    ensures fault { IsErrOf result WriteFault → HasFaulted (O.faults out.old) (O.faults out.new) }
+    ensures later { O.faults out.old ≤ O.faults out.new }
+{
+    let ending = run(alloc, code, choices, bound, out)?;
     Ok(ending)
 }

@@ -5,12 +5,4 @@ use Rattle.driver.proofs.generating.write_and_run.Goals as goal
 
 pub returns-in_err-write-clause-does : goal.returns-in_err-write-clause-does
 returns-in_err-write-clause-does g c =
-    does_stop (λ whole. IsRunBehind c.args.text.now) c.from_residual.result _ _ c.from_residual.ensures.0 (behind_stops_in c.args.text.now _ _ c.in_err-write.ensures.err)
-
-pub returns-in_err-ending-clause-does : goal.returns-in_err-ending-clause-does
-returns-in_err-ending-clause-does g c =
-    does_stop (λ whole. IsRunBehind c.args.text.now) c.from_residual-in_err-ending.result _ _ c.from_residual-in_err-ending.ensures.0 (behind_stops c.args.text.now c.in_err-ending.ensures.written.output _ _ _ c.in_ok-write.ensures.ok c.in_err-ending.ensures.written.appends)
-
-pub returns-clause-does : goal.returns-clause-does
-returns-clause-does g c =
-    behind_finishes c.args.text.now _ c.in_ok-ending.ensures.written.output _ _ _ c.in_ok-write.ensures.ok c.in_ok-ending.ensures.written.appends
+    does_stop (λ whole. IsRunBehind whole c.args.code.now c.args.text.now) c.from_residual.result _ _ c.from_residual.ensures.0 (behind_stops_in c.args.code.now c.args.text.now _ _ c.in_err-write.ensures.err)
