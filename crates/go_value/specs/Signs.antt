@@ -144,7 +144,7 @@ mutual
   ends_parts vals.none = refl
   ends_parts (vals.part it blank rest) =
       ap (read (before_part blank)) (reads_value it (signs_of_parts rest))
-        ∙ ap (λ x. read (before_part blank) (read_value it x)) (ends_parts rest)
+      ∙ ap (λ x. read (before_part blank) (read_value it x)) (ends_parts rest)
 
 pub gives_back : (it : Val) → back (signs it) ≡ it
 gives_back it = ap first (ends_value it)
@@ -154,10 +154,10 @@ value_code code = code_by (List Sign) code signs back gives_back
 
 abbrev pub typed_code : Coded TypeId → Coded (List Sign) → Coded Typed
 typed_code of code =
-  code_by (TypeId × Val) (coded× of (value_code code)) (λ t. (t.of, t.value))
+    code_by (TypeId × Val) (coded× of (value_code code)) (λ t. (t.of, t.value))
     (λ p. record { of = p.0; value = p.1 }) (λ _. refl)
 
 abbrev pub field_code : Coded (List Sign) → Coded Field
 field_code code =
-  code_by (Val × Bool) (coded× (value_code code) coded_bool) (λ f. (f.value, f.blank))
+    code_by (Val × Bool) (coded× (value_code code) coded_bool) (λ f. (f.value, f.blank))
     (λ p. record { value = p.0; blank = p.1 }) (λ _. refl)
