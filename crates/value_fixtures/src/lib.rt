@@ -2,13 +2,13 @@
 #![tactic(auto)]
 
 mod answers;
-mod shown;
-mod types;
+mod showing;
+mod table;
 mod words;
 
 pub use answers::{settled, sound};
-pub use shown::{push_shown, shown};
-pub use types::{
+pub use showing::{push_shown, shown};
+pub use table::{
     ANY, ARRAY, BAG, BLANK, CHAN, COUNT, ERROR_STRING, FUNC, HOLDER, INTS, LABEL, MAP, NAMES, PAIR,
     POINTER, types,
 };

@@ -1,7 +1,7 @@
 //! Values from words.
 
 use crate::answers::sound;
-use crate::types::{ANY, ARRAY, BAG, COUNT, ERROR_STRING, FUNC, HOLDER, INTS, LABEL, PAIR};
+use crate::table::{ANY, ARRAY, BAG, COUNT, ERROR_STRING, FUNC, HOLDER, INTS, LABEL, PAIR};
 use go_base::{Bytes, NoMemory, TypeId};
 use go_type::{Basic, Types, basic};
 use go_value::{FuncValue, Part, SliceValue, Value, to_interface};
