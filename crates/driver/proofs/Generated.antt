@@ -1,11 +1,12 @@
 -- From what the parts of the work on the generated program do to what it comes to.
-use Rattle.std.proofs.Common.{◌≡◌, ℕ, Bool, false, List, [], ◌++◌, Option, Ok, Err, Result, IsTrue, is_some, refl, sym, subst, inl, inr}
+use Rattle.std.proofs.Common.{◌≡◌, ℕ, Bool, false, List, [], ◌++◌, Option, Ok, Err, Result, IfOk, IsTrue, is_some, refl, sym, subst, inl, inr}
 use Rattle.std.proofs.lemmas.List.{append-nil}
 use Rattle.std.proofs.KnownBytes.{Appends-trans}
 use Rattle.std.specs.Io.KnownBytes.{Appends}
 use Rattle.go_base.specs.Devices.{AppendsFront}
 use Rattle.go_base.specs.declared.ending.Ending.{Ending}
 use Rattle.go_base.specs.declared.ending.Ending.TheVariants.{Bound}
+use Rattle.go_interp.specs.Output.{HasWritten}
 use Rattle.go_tree.specs.declared.program.Program.{Program}
 use Rattle.program_work.specs.Outputs.{Comes, Does, Finishes, IsUnfinished}
 use Rattle.program_work.specs.Stopping.{outcome_at}
@@ -44,6 +45,11 @@ behind_stops code text output old mid new a b =
 pub behind_finishes : (code : Code) (text : List ℕ) (ending : Ending) (old mid new : Option (List ℕ)) → Appends old mid text → HasRun code [] ticks ending mid new → Finishes (IsRunBehind (is_some old) code text) ending old new
 behind_finishes code text ending old mid new a r =
     finished (IsRunBehind (is_some old) code text) ending (text ++ r.output) old new (record { run = r.output; is_run = λ h. r.is_run (still_tells old mid text a h); parts = refl }) (Appends-trans old mid new text r.output a r.appends)
+
+-- a text was written, and then a code was run
+pub run_does : (code : Code) (text : List ℕ) (result : Result Ending Stop) (old mid new : Option (List ℕ)) → Appends old mid text → IfOk result (λ ending. HasRun code [] ticks ending mid new) → HasWritten mid new → Does (λ whole. IsRunBehind whole code text) result old new
+run_does code text (Ok ending) old mid new a r w = behind_finishes code text ending old mid new a r
+run_does code text (Err stop) old mid new a r w = behind_stops code text w.output old mid new a w.appends
 
 -- what is known of the program and of its code
 generated_run : (whole : Bool) (count : ℕ) (program : Program) (code : Code) (counts : List ℕ) (ending : Ending) (output : List ℕ) → IsTypedProgram program → IsSound code → Counts program count counts → IsRunBehind whole code counts ending output → IsGeneratedRun whole count ending output

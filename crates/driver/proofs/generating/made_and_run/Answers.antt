@@ -1,3 +1,4 @@
+use Rattle.std.specs.Prelude.{false}
 use Rattle.driver.specs.Generating.{IsGeneratedRun}
 use Rattle.driver.proofs.Generated.{counted_does}
 use Rattle.program_work.proofs.Written.{does_stop, nothing_yet}
